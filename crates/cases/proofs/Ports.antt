@@ -1,0 +1,120 @@
+-- Ports that meet or don't, and the base that RequestIO gives where one range is managed: for N1 to N4, N8 and N9. Assumes nothing.
+use mathlib.Core.Path.{_≡_, refl, sym, _∙_}
+use mathlib.Core.Logic.{_≢_, inl, inr, ⊎-elim}
+use mathlib.Core.List.{List, [], _∷_}
+use mathlib.Core.Bool.{true≢false}
+use mathlib.Core.Option.{Option, none, some, Option·none-ne-some, Option·some-injective}
+use Prim.Native.Nat.{ℕ, _+_, _-_, _*_, _^_, _≤_, _<_, min}
+use native.Mathlib.Nat.{mod-eq-of-lt}
+use native.Mathlib.Decide.{decLe}
+use native.Mathlib.Omega.{arith}
+use lib.Pow.{pow-mono}
+use Rattle.facts.specs.Table.{Facts, Range, Ports, IoGrant}
+use Rattle.facts.specs.Ports.{Meet, Has, Managed}
+use Rattle.facts.specs.Io.{Candidate, SmallestPower, RequestIo}
+use Rattle.cases.specs.Cases.{Exactly, done, ports, ready, grantingIo, halfHeld, ioPacket}
+use Rattle.facts.proofs.Unique.{request-io-unique}
+use Rattle.cases.proofs.Permitted.{exactly, as-done, _then_, _nor_, put-is, listed-alone, alone-chosen}
+
+-- ranges that lie below two to the smaller count of lines meet only in an equal port
+pub meet-equal : {a b : Ports} → a .base + a .count ≤ 2 ^ min (a .lines) (b .lines) → b .base + b .count ≤ 2 ^ min (a .lines) (b .lines)
+    → (m : Meet a b) → m .one ≡ m .other
+meet-equal l l′ m = sym (mod-eq-of-lt (omega (arith, m .one-in))) ∙ m .equal ∙ mod-eq-of-lt (omega (arith, m .other-in))
+
+-- the smallest power of two not below 5, 6, 7 or 8 is 8, and no other
+eight : (n : ℕ) → (4 < n) × (n ≤ 8) → SmallestPower n 8
+eight n sized = record { power = 3; is = refl; not-below = sized .1; smallest = λ k l. go k l (decLe 3 k) }
+  where
+    go : (k : ℕ) → n ≤ 2 ^ k → Dec (3 ≤ k) → 8 ≤ 2 ^ k
+    go k l (yes h) = pow-mono h
+    go k l (no h) = absurd (omega (arith, pow-mono {i = k} {j = 2} (omega arith)))
+
+smallest-power-unique : (n a b : ℕ) → SmallestPower n a → SmallestPower n b → a ≡ b
+smallest-power-unique n a b s t = omega (arith, s .smallest (t .power) (omega (arith, t .is)), t .smallest (s .power) (omega (arith, s .is)))
+
+-- the table of N8 and N9, with the I/O grants io and the one managed range r; and their packet
+abbrev pub ioTable : (ℕ → Option IoGrant) → Range → Facts
+ioTable io r =
+    record {
+      sockets = ready .sockets;
+      card = ready .card;
+      issued = ready .issued;
+      clients = ready .clients;
+      level = ready .level;
+      ranges = r ∷ [];
+      io = io;
+      irq = ready .irq;
+    }
+
+abbrev pub asking : ℕ → List ℕ
+asking n = ioPacket 1 0x00 0x00 n
+
+-- "meeting no live grant"
+abbrev pub MeetsNone : (ℕ → Option IoGrant) → Ports → Type 0
+MeetsNone io a = (s : ℕ) (g : IoGrant) → io s ≡ some g → Meet a (g .ports) → ⊥
+
+module _ (io : ℕ → Option IoGrant) (r : Range) (n : ℕ) (sized : (4 < n) × (n ≤ 8)) where
+  managed-in : (x : ℕ) → Managed (ioTable io r) x → Has r x
+  managed-in x m = rw (listed-alone (m .listed)) at (m .has)
+
+  -- a candidate is a multiple of 8 in the range
+  candidate-multiple : (b : ℕ) (c : Candidate (ioTable io r) (asking n) b) → b ≡ c .times * 8
+  candidate-multiple b c = rw (smallest-power-unique n 8 (c .step) (eight n sized) (c .align)) (c .multiple)
+
+  candidate-in : (b : ℕ) → Candidate (ioTable io r) (asking n) b → (r .base ≤ b) × (b + n ≤ r .base + r .count)
+  candidate-in b c =
+      let low = managed-in b (c .managed b (omega arith)) in
+      let high = managed-in (b + n - 1) (c .managed (b + n - 1) (omega arith)) in
+      omega arith
+
+  -- where 308 is the one such multiple that meets no live grant, it is given
+  pub gives-308 : io 1 ≡ none → (r .base ≤ 0x308) × (0x308 + n ≤ r .base + r .count) → MeetsNone io (ports 0x308 n 16)
+      → ((b t : ℕ) → b ≡ t * 8 → (r .base ≤ b) × (b + n ≤ r .base + r .count) → MeetsNone io (ports b n 16) → b ≡ 0x308)
+      → Exactly (RequestIo (ioTable io r) 1 (asking n)) (done 1 (ioPacket 1 0x08 0x03 n) (grantingIo 1 (ports 0x308 n 16) (ioTable io r)))
+  gives-308 free inside meets-none only =
+      let c : Candidate (ioTable io r) (asking n) 0x308 =
+      record {
+        step = 8;
+        times = 97;
+        align = eight n sized;
+        multiple = refl;
+        positive = omega arith;
+        managed = λ x w. record { range = r; listed = inl refl; has = omega arith };
+        within = omega arith;
+        meets-none = meets-none;
+      } in
+      exactly (request-io-unique (ioTable io r) 1 (asking n))
+      (inr (
+        (omega arith)
+            then (λ e. e (record { client = _; listed = inl refl; handle = refl }))
+            then (omega arith nor omega arith)
+            then true≢false
+            then (omega arith nor omega arith nor omega arith nor omega arith)
+            then ((λ e. omega arith) nor (λ e. omega arith) nor (λ e. omega arith))
+            then (λ e. e free)
+            then (λ e. e .0 refl)
+            then (λ e. e .0 refl)
+            then (λ e. e .1 0x308 c)
+            then tt,
+        (
+          refl,
+          (
+            0x308,
+            inr (refl, alone-chosen c (λ b c′. only b (c′ .times) (candidate-multiple b c′) (candidate-in b c′) (c′ .meets-none))),
+            as-done _,
+          ),
+        ),
+      ))
+
+-- N8's held half: 308 meets it not, and 300 does
+pub half-meets-none : MeetsNone (halfHeld .io) (ports 0x308 8 16)
+half-meets-none s g live m =
+    ⊎-elim
+    (λ e. let m′ = rw (← (Option·some-injective _ g (sym (e .1) ∙ live))) at m in omega (arith, meet-equal (omega arith) (omega arith) m′))
+    (λ e. Option·none-ne-some g (sym e ∙ live)) (put-is (ready .io) 0 (halfHeld .io 0) s)
+
+pub half-leaves-308 : (b t : ℕ) → b ≡ t * 8 → (0x300 ≤ b) × (b + 8 ≤ 0x310) → MeetsNone (halfHeld .io) (ports b 8 16) → b ≡ 0x308
+half-leaves-308 b t e inside meets-none = omega (arith, not-300)
+  where
+    not-300 : b ≢ 0x300
+    not-300 e = meets-none 0 _ refl (record { one = 0x300; other = 0x300; one-in = omega arith; other-in = omega arith; equal = refl })

@@ -1,0 +1,2 @@
+-- The cases by number. Assumes nothing.
+pub mod Cases

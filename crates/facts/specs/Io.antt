@@ -1,0 +1,142 @@
+-- RequestIO (5.52, the form with two-byte base ports) and ReleaseIO (5.44). Assumes nothing.
+use mathlib.Core.Path.{_≡_}
+use mathlib.Core.Logic.{_⊎_, _≢_}
+use mathlib.Core.List.{List, [], _∷_}
+use mathlib.Core.Bool.{true}
+use mathlib.Core.Option.{Option, none, some}
+use Prim.Native.Nat.{ℕ, _+_, _*_, _%_, _^_, _≤_, _<_}
+use lib.Dec.{eqb}
+use Rattle.facts.specs.declared.Code.the-variants.{BadAttribute, BadBase, BadSize, InUse}
+use Rattle.facts.specs.Table
+use Rattle.facts.specs.Table.{Facts, Ports, IoGrant}
+use Rattle.facts.specs.Sets.{put}
+use Rattle.facts.specs.Choice.{Chosen}
+use Rattle.facts.specs.Ports.{Meet, AllManaged, WhollyUnreserved}
+use Rattle.facts.specs.Packets.{byte, word, withWord, Bit}
+use Rattle.facts.specs.Sockets.{socketOf, requestChecks, releaseChecks}
+use Rattle.facts.specs.Checks.{Check, _gives_, Done, Outcome, Ruled, Rule}
+
+-- the packet (5.52): BasePort1 2 bytes at 2, NumPorts1 at 4, Attributes1 at 5, NumPorts2 at 8, IOAddrLines at 10
+abbrev pub baseAsked : List ℕ → ℕ
+baseAsked p = word p 2
+
+abbrev pub countAsked : List ℕ → ℕ
+countAsked p = byte p 4
+
+abbrev pub ioAttributes : List ℕ → ℕ
+ioAttributes p = byte p 5
+
+abbrev pub secondCount : List ℕ → ℕ
+secondCount p = byte p 8
+
+abbrev pub linesAsked : List ℕ → ℕ
+linesAsked p = byte p 10
+
+abbrev pub Shared : List ℕ → Type 0
+Shared p = Bit (ioAttributes p) 0
+
+abbrev pub FirstShared : List ℕ → Type 0
+FirstShared p = Bit (ioAttributes p) 1
+
+-- the ports asked for, at the base b
+abbrev pub portsAt : List ℕ → ℕ → Ports
+portsAt p b = record { base = b; count = countAsked p; lines = linesAsked p }
+
+-- "attribute bits outside section 5.52's list, First Shared without Shared, or lines outside 1 to 16, BAD_ATTRIBUTE"
+abbrev pub IoAttributesBad : List ℕ → Type 0
+IoAttributesBad p =
+    (16 ≤ ioAttributes p) ⊎ (FirstShared p × (Shared p → ⊥)) ⊎ (linesAsked p ≡ 0) ⊎ (Table.mostLines < linesAsked p)
+
+-- "NumPorts1 0 or over two to the lines, or NumPorts2 not 0, BAD_SIZE (BasePort2 and Attributes2 ignored)"
+abbrev pub IoSizeBad : List ℕ → Type 0
+IoSizeBad p = (countAsked p ≡ 0) ⊎ (2 ^ linesAsked p < countAsked p) ⊎ (secondCount p ≢ 0)
+
+-- "Base not 0: a port past FFFF or unmanaged, BAD_BASE."
+abbrev pub NamedBaseBad : Facts → List ℕ → Type 0
+NamedBaseBad F p =
+    (baseAsked p ≢ 0) × ((Table.allPorts < baseAsked p + countAsked p) ⊎ (AllManaged F (baseAsked p) (countAsked p) → ⊥))
+
+-- "It meets a live grant, and First Shared is set or the two don't both share: IN_USE."
+pub record InTheWay (F : Facts) (p : List ℕ) : Type 0 where
+  pub socket : ℕ
+  pub grant : IoGrant
+  pub live : F .io socket ≡ some grant
+  pub meets : Meet (portsAt p (baseAsked p)) (grant .ports)
+  pub unshared : FirstShared p ⊎ (Shared p × (grant .shared ≡ true) → ⊥)
+
+-- the smallest power of two not below n
+pub record SmallestPower (n a : ℕ) : Type 0 where
+  pub power : ℕ
+  pub is : a ≡ 2 ^ power
+  pub not-below : n ≤ a
+  pub smallest : (k : ℕ) → n ≤ 2 ^ k → a ≤ 2 ^ k
+
+-- "Base 0: candidates are the positive multiples of the smallest power of two not below the count, all ports managed, none past FFFF, meeting no
+-- live grant."
+pub record Candidate (F : Facts) (p : List ℕ) (b : ℕ) : Type 0 where
+  pub step : ℕ
+  pub times : ℕ
+  pub align : SmallestPower (countAsked p) step
+  pub multiple : b ≡ times * step
+  pub positive : 1 ≤ b
+  pub managed : AllManaged F b (countAsked p)
+  pub within : b + countAsked p ≤ Table.allPorts
+  pub meets-none : (s : ℕ) (g : IoGrant) → F .io s ≡ some g → Meet (portsAt p b) (g .ports) → ⊥
+
+-- "Candidates wholly in unreserved ranges come first, then the lowest; none: IN_USE."
+abbrev pub CandidateTaken : Facts → List ℕ → ℕ → Type 0
+CandidateTaken F p = Chosen (Candidate F p) (λ b. WhollyUnreserved F b (countAsked p) → ⊥)
+
+-- the base that is taken: the one named, or the first candidate
+abbrev pub BaseTaken : Facts → List ℕ → ℕ → Type 0
+BaseTaken F p b = ((baseAsked p ≢ 0) × (b ≡ baseAsked p)) ⊎ ((baseAsked p ≡ 0) × CandidateTaken F p b)
+
+abbrev pub withIo : Facts → ℕ → Option IoGrant → Facts
+withIo F s g =
+    record {
+      sockets = F .sockets;
+      card = F .card;
+      issued = F .issued;
+      clients = F .clients;
+      level = F .level;
+      ranges = F .ranges;
+      io = put (F .io) s g;
+      irq = F .irq;
+    }
+
+abbrev pub ioRequestChecks : Facts → ℕ → List ℕ → List Check
+ioRequestChecks F h p =
+    requestChecks 11 F h p
+    ((IoAttributesBad p gives BadAttribute)
+    ∷ (IoSizeBad p gives BadSize)
+    ∷ ((F .io (socketOf p) ≢ none) gives InUse)
+    ∷ (NamedBaseBad F p gives BadBase)
+    ∷ (((baseAsked p ≢ 0) × InTheWay F p) gives InUse)
+    ∷ (((baseAsked p ≡ 0) × ((b : ℕ) → Candidate F p b → ⊥)) gives InUse)
+    ∷ [])
+
+-- "Success writes BasePort1."
+abbrev pub RequestIo : Rule
+RequestIo F h p =
+    Ruled (ioRequestChecks F h p)
+    (λ (o : Outcome). (b : ℕ) × BaseTaken F p b
+    × Done h (withWord p 2 b)
+    (withIo F (socketOf p) (some (record { client = h; ports = portsAt p b; shared = eqb (ioAttributes p % 2) 1 }))) o) F p
+
+-- this client holds that base and count on this socket
+pub record IoHeld (F : Facts) (h s base count : ℕ) : Type 0 where
+  pub grant : IoGrant
+  pub live : F .io s ≡ some grant
+  pub client : grant .client ≡ h
+  pub base-is : grant .ports .base ≡ base
+  pub count-is : grant .ports .count ≡ count
+
+-- "Release needs no card: BAD_BASE unless this client holds that base and count on this socket. Its NumPorts2 must be 0 (BAD_SIZE before that). Its
+-- attributes, lines and BasePort2 are ignored."
+abbrev pub ioReleaseChecks : Facts → ℕ → List ℕ → List Check
+ioReleaseChecks F h p =
+    releaseChecks 11 F h p
+    (((secondCount p ≢ 0) gives BadSize) ∷ ((IoHeld F h (socketOf p) (baseAsked p) (countAsked p) → ⊥) gives BadBase) ∷ [])
+
+abbrev pub ReleaseIo : Rule
+ReleaseIo F h p = Ruled (ioReleaseChecks F h p) (Done h p (withIo F (socketOf p) none)) F p

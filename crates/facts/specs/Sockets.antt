@@ -1,0 +1,76 @@
+-- Sockets: card in, card out, RequestSocketMask (5.54), ReleaseSocketMask (5.46). Assumes nothing.
+use mathlib.Core.Path.{_≡_}
+use mathlib.Core.Logic.{_⊎_, _≢_}
+use mathlib.Core.List.{List, [], _∷_, map}
+use mathlib.Core.Bool.{Bool, cond, false}
+use mathlib.Core.Option.{Option, none, some}
+use Prim.Native.Nat.{ℕ, _≤_}
+use lib.ListN.{length}
+use lib.Dec.{eqb}
+use Rattle.facts.specs.declared.Code.the-variants.{BadAttribute, BadArgLength, BadSocket, NoCard, InUse, BadHandle}
+use Rattle.facts.specs.Table.{Facts, Client}
+use Rattle.facts.specs.Sets.{put}
+use Rattle.facts.specs.WellFormed.{Live, EventsAllowed}
+use Rattle.facts.specs.Packets.{byte, word}
+use Rattle.facts.specs.Clients.{withClients, Masks}
+use Rattle.facts.specs.Checks.{Check, _gives_, Done, Outcome, Ruled, Rule}
+
+-- the packet's socket and function: "socket not below the count, function not 0"
+abbrev pub socketOf : List ℕ → ℕ
+socketOf p = byte p 0
+
+abbrev pub BadSocketIn : Facts → List ℕ → Type 0
+BadSocketIn F p = (F .sockets ≤ socketOf p) ⊎ (byte p 1 ≢ 0)
+
+-- "Checks run in this order: length, handle, socket, card": what every service on a socket begins with; a release needs no card
+abbrev pub releaseChecks : ℕ → Facts → ℕ → List ℕ → List Check → List Check
+releaseChecks n F h p own = ((length p ≢ n) gives BadArgLength) ∷ ((Live F h → ⊥) gives BadHandle) ∷ (BadSocketIn F p gives BadSocket) ∷ own
+
+abbrev pub requestChecks : ℕ → Facts → ℕ → List ℕ → List Check → List Check
+requestChecks n F h p own = releaseChecks n F h p ((F .card (socketOf p) ≡ false gives NoCard) ∷ own)
+
+-- "Card in and out: BAD_SOCKET or done, also when nothing changes. Card out takes no grant or mask away."
+abbrev pub withCard : Facts → ℕ → Bool → Facts
+withCard F s present =
+    record {
+      sockets = F .sockets;
+      card = put (F .card) s present;
+      issued = F .issued;
+      clients = F .clients;
+      level = F .level;
+      ranges = F .ranges;
+      io = F .io;
+      irq = F .irq;
+    }
+
+abbrev pub cardChecks : Facts → ℕ → List Check
+cardChecks F s = ((F .sockets ≤ s) gives BadSocket) ∷ []
+
+abbrev pub CardTo : Bool → Facts → ℕ → Outcome → Type 0
+CardTo present F s = Ruled (cardChecks F s) (Done 0 [] (withCard F s present)) F []
+
+-- the clients, with m as the mask of the client h for the socket s
+abbrev pub withMask : ℕ → ℕ → Option ℕ → List Client → List Client
+withMask h s m cs =
+    map
+    (λ (c : Client). cond (eqb (c .handle) h)
+    (record { handle = c .handle; attributes = c .attributes; events = c .events; mask = put (c .mask) s m }) c)
+    cs
+
+-- "RequestSocketMask: bits 12 to 15 BAD_ATTRIBUTE; a second one for the same client and socket IN_USE."
+abbrev pub requestMaskChecks : Facts → ℕ → List ℕ → List Check
+requestMaskChecks F h p =
+    requestChecks 4 F h p
+    (((EventsAllowed (word p 2) → ⊥) gives BadAttribute) ∷ (((m : ℕ) × Masks F h (socketOf p) m) gives InUse) ∷ [])
+
+abbrev pub RequestSocketMask : Rule
+RequestSocketMask F h p =
+    Ruled (requestMaskChecks F h p) (Done h p (withClients F (withMask h (socketOf p) (some (word p 2)) (F .clients)))) F p
+
+-- "ReleaseSocketMask needs no card; nothing held: BAD_SOCKET."
+abbrev pub releaseMaskChecks : Facts → ℕ → List ℕ → List Check
+releaseMaskChecks F h p = releaseChecks 2 F h p ((((m : ℕ) × Masks F h (socketOf p) m → ⊥) gives BadSocket) ∷ [])
+
+abbrev pub ReleaseSocketMask : Rule
+ReleaseSocketMask F h p =
+    Ruled (releaseMaskChecks F h p) (Done h p (withClients F (withMask h (socketOf p) none (F .clients)))) F p

@@ -1,0 +1,88 @@
+-- Which sets of facts are well formed: a field for each clause of document 01's "The table". Assumes nothing.
+use mathlib.Core.Path.{_≡_}
+use mathlib.Core.Logic.{_⊎_, _≢_}
+use mathlib.Core.List.{List, [], _∷_}
+use mathlib.Core.Bool.{true}
+use mathlib.Core.Option.{some}
+use Prim.Native.Nat.{ℕ, _+_, _%_, _^_, _≤_, _<_}
+use lib.ListN.{length}
+use Rattle.facts.specs.Sets.{_∈_}
+use Rattle.facts.specs.Table
+use Rattle.facts.specs.Table.{Facts, Client, Range, IoGrant, IrqGrant}
+use Rattle.facts.specs.Ports.{Meet, AllManaged}
+use Rattle.facts.specs.Levels.{Together}
+
+-- handles in order: each over the one before it, and the first over lo
+abbrev pub Rising : ℕ → List Client → Type 0
+Rising lo [] = Unit {0}
+Rising lo (c ∷ cs) = (lo < c .handle) × Rising (c .handle) cs
+
+-- ranges in order: each has a port and starts at or past the end of the one before it, and the first at or past lo
+abbrev pub Apart : ℕ → List Range → Type 0
+Apart lo [] = Unit {0}
+Apart lo (r ∷ rs) = (lo ≤ r .base) × (1 ≤ r .count) × Apart (r .base + r .count) rs
+
+-- h is a live client's handle
+pub record Live (F : Facts) (h : ℕ) : Type 0 where
+  pub client : Client
+  pub listed : client ∈ F .clients
+  pub handle : client .handle ≡ h
+
+-- "Attribute bits or client types that 5.37 doesn't allow": one of bits 0 to 2, any of bits 3 and 4, no other
+pub record AttributesAllowed (a : ℕ) : Type 0 where
+  pub bits : a < 32
+  pub type : (a % 8 ≡ 1) ⊎ (a % 8 ≡ 2) ⊎ (a % 8 ≡ 4)
+
+-- event mask bits 12 to 15 are clear
+abbrev pub EventsAllowed : ℕ → Type 0
+EventsAllowed m = m < 4096
+
+-- "a client": its handle is issued, its attributes and masks are ones a request accepts, its masks' sockets are below the count
+pub record ClientFits (F : Facts) (c : Client) : Type 0 where
+  pub issued : c .handle ≤ F .issued
+  pub attributes : AttributesAllowed (c .attributes)
+  pub events : EventsAllowed (c .events)
+  pub mask : (s m : ℕ) → c .mask s ≡ some m → (s < F .sockets) × EventsAllowed m
+
+-- "every grant has a live client and a socket below the count; granted ports are managed; an I/O grant has base 1 or more, lines 1 to 16 and a
+-- count RequestIO allows"
+pub record IoFits (F : Facts) (s : ℕ) (g : IoGrant) : Type 0 where
+  pub client : Live F (g .client)
+  pub socket : s < F .sockets
+  pub base : 1 ≤ g .ports .base
+  pub line : 1 ≤ g .ports .lines
+  pub lines : g .ports .lines ≤ Table.mostLines
+  pub port : 1 ≤ g .ports .count
+  pub asked : g .ports .count ≤ Table.mostAsked
+  pub decoded : g .ports .count ≤ 2 ^ g .ports .lines
+  pub managed : AllManaged F (g .ports .base) (g .ports .count)
+
+pub record IrqFits (F : Facts) (s : ℕ) (g : IrqGrant) : Type 0 where
+  pub client : Live F (g .client)
+  pub socket : s < F .sockets
+  pub managed : F .level (g .level) .managed ≡ true
+
+-- "no two live grants meet on a level or a decoded port unless both asked to share in the same manner"
+abbrev pub IoCompany : IoGrant → IoGrant → Type 0
+IoCompany g g′ = Meet (g .ports) (g′ .ports) → (g .shared ≡ true) × (g′ .shared ≡ true)
+
+abbrev pub IrqCompany : IrqGrant → IrqGrant → Type 0
+IrqCompany g g′ = g .level ≡ g′ .level → Together (g .manner) (g′ .manner)
+
+pub record WellFormed (F : Facts) : Type 0 where
+  pub sockets-least : 1 ≤ F .sockets
+  pub sockets-most : F .sockets ≤ Table.mostSockets
+  pub cards : (s : ℕ) → F .card s ≡ true → s < F .sockets
+  pub issued : F .issued ≤ Table.mostIssued
+  pub clients-most : length (F .clients) ≤ Table.mostClients
+  pub handles : Rising 0 (F .clients)
+  pub clients : (c : Client) → c ∈ F .clients → ClientFits F c
+  pub levels : (l : ℕ) → F .level l .managed ≡ true → l < Table.allLevels
+  pub reserved : (l : ℕ) → F .level l .reserved ≡ true → F .level l .managed ≡ true
+  pub ranges-most : length (F .ranges) ≤ Table.mostRanges
+  pub apart : Apart 0 (F .ranges)
+  pub ranges : (r : Range) → r ∈ F .ranges → r .base + r .count ≤ Table.allPorts
+  pub ios : (s : ℕ) (g : IoGrant) → F .io s ≡ some g → IoFits F s g
+  pub irqs : (s : ℕ) (g : IrqGrant) → F .irq s ≡ some g → IrqFits F s g
+  pub io-company : (s t : ℕ) (g g′ : IoGrant) → s ≢ t → F .io s ≡ some g → F .io t ≡ some g′ → IoCompany g g′
+  pub irq-company : (s t : ℕ) (g g′ : IrqGrant) → s ≢ t → F .irq s ≡ some g → F .irq t ≡ some g′ → IrqCompany g g′

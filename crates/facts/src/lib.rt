@@ -1,0 +1,60 @@
+// The words of document 01 that code and definitions share: handles, sockets, codes and manners. What a table says, which
+// sets of facts are well formed and what each call does with them is in specs/.
+ghost use mathlib.Core.Path.{_≡_};
+ghost use Rattle.facts.specs.Codes.{numberOf};
+
+// A client's handle.
+pub struct Handle(pub u16);
+
+// A socket's number.
+pub struct Socket(pub u16);
+
+// The fifteen codes.
+pub enum Code {
+    Success,
+    BadAttribute,
+    BadBase,
+    BadIrq,
+    BadSize,
+    BadSocket,
+    NoCard,
+    UnsupportedService,
+    GeneralFailure,
+    BadArgLength,
+    BadArgs,
+    InUse,
+    NoMoreItems,
+    OutOfResource,
+    BadHandle,
+}
+
+// The four manners in which an IRQ level is held.
+pub enum Manner {
+    Exclusive,
+    TimeMultiplexed,
+    DynamicLevel,
+    DynamicPulse,
+}
+
+// A code's number.
+pub fn number(c: Code) -> u32
+    ensures { λ r. ⌜ r ≡ numberOf c ⌝ }
+{
+    match c {
+        Code::Success => 0x00,
+        Code::BadAttribute => 0x02,
+        Code::BadBase => 0x03,
+        Code::BadIrq => 0x06,
+        Code::BadSize => 0x0A,
+        Code::BadSocket => 0x0B,
+        Code::NoCard => 0x14,
+        Code::UnsupportedService => 0x15,
+        Code::GeneralFailure => 0x19,
+        Code::BadArgLength => 0x1B,
+        Code::BadArgs => 0x1C,
+        Code::InUse => 0x1E,
+        Code::NoMoreItems => 0x1F,
+        Code::OutOfResource => 0x20,
+        Code::BadHandle => 0x21,
+    }
+}

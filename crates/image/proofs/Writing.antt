@@ -1,0 +1,69 @@
+-- How writing goes on, byte by byte. Assumes nothing.
+use mathlib.Core.Path.{_≡_, refl, ap, sym, _∙_}
+use mathlib.Core.Logic.{_⊎_, inl, inr, _≢_}
+use mathlib.Core.List.{List}
+use Prim.Native.Nat.{ℕ, _+_, _≤_, _<_}
+use native.Mathlib.Decide.{decLt}
+use native.Mathlib.Omega.{arith}
+use lib.ListN.{length, set, length-set}
+use Rattle.facts.specs.Table.{fresh}
+use Rattle.facts.specs.Packets.{byte}
+use Rattle.layout.specs.Layout
+use Rattle.layout.specs.Layout.{image}
+use Rattle.layout.proofs.Shows.{shows-image}
+use Rattle.layout.proofs.Changes.{fresh-shown}
+use Rattle.layout.proofs.Written.{byte-same, byte-other}
+use Rattle.image.specs.Writing.{Moved, Cleared}
+
+-- below i + 1: below i, or i itself
+below-more : (p i : ℕ) → p < i + 1 → (p < i) ⊎ (p ≡ i)
+below-more p i l = go (decLt p i)
+  where
+    go : Dec (p < i) → (p < i) ⊎ (p ≡ i)
+    go (yes h) = inl h
+    go (no h) = inr (omega arith)
+
+outside : (p from i : ℕ) → from ≤ i → (p < from) ⊎ (i + 1 ≤ p) → ((p < from) ⊎ (i ≤ p)) × (p ≢ i)
+outside p from i l (inl h) = (inl h, λ e. omega (arith, e))
+outside p from i l (inr h) = (inr (omega arith), λ e. omega (arith, e))
+
+pub cleared-none : (b : List ℕ) (from : ℕ) → Cleared b b from from
+cleared-none b from = record { size = refl; zero = λ p l m. absurd (omega arith); other = λ p o. refl }
+
+pub cleared-more : (b b′ : List ℕ) (from i : ℕ) → from ≤ i → i < length b → Cleared b b′ from i → Cleared b (set b′ i 0) from (i + 1)
+cleared-more b b′ from i l h c =
+    record {
+      size = length-set b′ i 0 ∙ c .size;
+      zero = λ p m n. at p m (below-more p i n);
+      other = λ p o. let x = outside p from i l o in byte-other b′ i 0 p (x .1) ∙ c .other p (x .0);
+    }
+  where
+    at : (p : ℕ) → from ≤ p → (p < i) ⊎ (p ≡ i) → byte (set b′ i 0) p ≡ 0
+    at p m (inl n) = byte-other b′ i 0 p (λ e. omega (arith, e)) ∙ c .zero p m n
+    at p m (inr e) = ap (byte (set b′ i 0)) e ∙ byte-same b′ i 0 (omega (arith, c .size))
+
+pub moved-none : (b : List ℕ) (from far : ℕ) → Moved b b from from far
+moved-none b from far = record { size = refl; moved = λ p l m. absurd (omega arith); other = λ p o. refl }
+
+pub moved-more : (b b′ : List ℕ) (from i far : ℕ) → from ≤ i → i < length b → 1 ≤ far → Moved b b′ from i far
+    → Moved b (set b′ i (byte b′ (i + far))) from (i + 1) far
+moved-more b b′ from i far l h f c =
+    record {
+      size = length-set b′ i (byte b′ (i + far)) ∙ c .size;
+      moved = λ p m n. at p m (below-more p i n);
+      other = λ p o. let x = outside p from i l o in byte-other b′ i (byte b′ (i + far)) p (x .1) ∙ c .other p (x .0);
+    }
+  where
+    at : (p : ℕ) → from ≤ p → (p < i) ⊎ (p ≡ i) → byte (set b′ i (byte b′ (i + far))) p ≡ byte b (p + far)
+    at p m (inl n) = byte-other b′ i (byte b′ (i + far)) p (λ e. omega (arith, e)) ∙ c .moved p m n
+    at p m (inr e) =
+        ap (byte (set b′ i (byte b′ (i + far)))) e ∙ byte-same b′ i (byte b′ (i + far)) (omega (arith, c .size)) ∙ c .other (i + far) (inr (omega arith))
+        ∙ ap (λ (q : ℕ). byte b (q + far)) (sym e)
+
+-- a cleared table with a socket count is a fresh one
+pub fresh-image : (b b′ : List ℕ) (n : ℕ) → length b ≡ Layout.tableSize → Cleared b b′ 0 Layout.tableSize → set b′ 0 n ≡ image (fresh n)
+fresh-image b b′ n e c =
+    sym
+    (shows-image (fresh n) (set b′ 0 n)
+    (fresh-shown n (set b′ 0 n) (length-set b′ 0 n ∙ c .size ∙ e) (byte-same b′ 0 n (omega (arith, c .size)))
+    (λ p l m. byte-other b′ 0 n p (λ q. omega (arith, q)) ∙ c .zero p (omega arith) m)))

@@ -1,0 +1,15 @@
+pub mod Parts
+pub mod Image
+pub mod Lists
+pub mod RoundTrip
+pub mod Grants
+pub mod Shows
+pub mod Whole
+pub mod Formed
+pub mod Sounds
+pub mod Accepts
+pub mod Of
+pub mod Written
+pub mod Changes
+pub mod Clients
+pub mod Stays

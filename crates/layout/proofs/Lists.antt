@@ -1,0 +1,218 @@
+-- Laws of listed facts: members, places, order, and facts that stand below a bound. Assumes nothing.
+use mathlib.Core.Path.{_≡_, refl, ap, ap₂, sym, _∙_, subst, subst₂}
+use mathlib.Core.Logic.{_⊎_, inl, inr}
+use mathlib.Core.List.{List, [], _∷_, _++_}
+use mathlib.Core.Bool.{Bool, cond}
+use mathlib.Core.Option.{Option, none, some, Option·some-injective, Option·none-ne-some}
+use Prim.Native.Nat.{ℕ, zero, suc, _+_, _≤_, _<_, zero-le}
+use native.Mathlib.Nat.{not-suc-le-zero, le-of-suc-le-suc}
+use native.Mathlib.Decide.{decLt}
+use native.Mathlib.Omega.{arith}
+use lib.ListN.{length, getElem?, length-append}
+use borrow.Author.Tests.{lt-ltb, le-ltb}
+use Rattle.facts.specs.Sets.{_∈_}
+use Rattle.facts.specs.Table.{Client, Range}
+use Rattle.facts.specs.WellFormed.{Rising, Apart}
+use Rattle.layout.specs.Reading.{upTo, below}
+use Rattle.layout.proofs.Parts.{last-or-below}
+
+module _ {A : Type 0} where
+  -- a fact below the bound, and past it
+  pub below-in : (n : ℕ) (other : A) (f : ℕ → A) (i : ℕ) → i < n → below n other f i ≡ f i
+  below-in n other f i l = ap (λ (t : Bool). cond t (f i) other) (lt-ltb i n l)
+
+  pub below-past : (n : ℕ) (other : A) (f : ℕ → A) (i : ℕ) → n ≤ i → below n other f i ≡ other
+  below-past n other f i l = ap (λ (t : Bool). cond t (f i) other) (le-ltb i n l)
+
+  pub upTo-length : (n : ℕ) (f : ℕ → A) → length (upTo n f) ≡ n
+  unfolding upTo
+  upTo-length zero f = refl
+  upTo-length (suc n) f = length-append (upTo n f) (f n ∷ []) ∙ omega (arith, upTo-length n f)
+
+  -- a member of a list joined
+  pub in-left : (x : A) (s t : List A) → x ∈ s → x ∈ (s ++ t)
+  in-left x [] t m = absurd m
+  in-left x (y ∷ s) t (inl e) = inl e
+  in-left x (y ∷ s) t (inr m) = inr (in-left x s t m)
+
+  pub in-right : (x : A) (s t : List A) → x ∈ t → x ∈ (s ++ t)
+  in-right x [] t m = m
+  in-right x (y ∷ s) t m = inr (in-right x s t m)
+
+  pub in-either : (x : A) (s t : List A) → x ∈ (s ++ t) → (x ∈ s) ⊎ (x ∈ t)
+  in-either x [] t m = inr m
+  in-either x (y ∷ s) t (inl e) = inl (inl e)
+  in-either x (y ∷ s) t (inr m) = go (in-either x s t m)
+    where
+      go : (x ∈ s) ⊎ (x ∈ t) → (x ∈ (y ∷ s)) ⊎ (x ∈ t)
+      go (inl n) = inl (inr n)
+      go (inr n) = inr n
+
+  -- the members of what f gives are what it gives
+  pub upTo-in : (n : ℕ) (f : ℕ → A) (i : ℕ) → i < n → f i ∈ upTo n f
+  unfolding upTo
+  upTo-in zero f i l = absurd (not-suc-le-zero l)
+  upTo-in (suc n) f i l = go (last-or-below l) (λ (h : i < n). upTo-in n f i h)
+    where
+      go : (i < n) ⊎ (i ≡ n) → (i < n → f i ∈ upTo n f) → f i ∈ (upTo n f ++ (f n ∷ []))
+      go (inl h) ih = in-left (f i) (upTo n f) (f n ∷ []) (ih h)
+      go (inr e) ih = in-right (f i) (upTo n f) (f n ∷ []) (inl (ap f e))
+
+  pub in-upTo : (x : A) (n : ℕ) (f : ℕ → A) → x ∈ upTo n f → (i : ℕ) × (i < n) × (x ≡ f i)
+  unfolding upTo
+  in-upTo x zero f m = absurd m
+  in-upTo x (suc n) f m = go (in-either x (upTo n f) (f n ∷ []) m) (λ (h : x ∈ upTo n f). in-upTo x n f h)
+    where
+      last : x ∈ (f n ∷ []) → (i : ℕ) × (i < suc n) × (x ≡ f i)
+      last (inl e) = (n, omega arith, e)
+      last (inr m) = absurd m
+
+      go : (x ∈ upTo n f) ⊎ (x ∈ (f n ∷ [])) → (x ∈ upTo n f → (i : ℕ) × (i < n) × (x ≡ f i)) → (i : ℕ) × (i < suc n) × (x ≡ f i)
+      go (inl h) ih = let r = ih h in (r .0, omega (arith, r .1), r .2)
+      go (inr h) ih = last h
+
+  -- the ith of a list
+  pub at-in : (l : List A) (i : ℕ) {x : A} → getElem? l i ≡ some x → x ∈ l
+  at-in [] i {x} e = absurd (Option·none-ne-some x e)
+  at-in (y ∷ l) zero {x} e = inl (sym (Option·some-injective y x e))
+  at-in (y ∷ l) (suc i) e = inr (at-in l i e)
+
+  pub at-below : (l : List A) (i : ℕ) → i < length l → (x : A) × (getElem? l i ≡ some x)
+  at-below [] i h = absurd (not-suc-le-zero h)
+  at-below (y ∷ l) zero h = (y, refl)
+  at-below (y ∷ l) (suc i) h = at-below l i (le-of-suc-le-suc h)
+
+  pub at-past : (l : List A) (i : ℕ) → length l ≤ i → getElem? l i ≡ none
+  at-past [] i h = refl
+  at-past (y ∷ l) zero h = absurd (not-suc-le-zero h)
+  at-past (y ∷ l) (suc i) h = at-past l i (le-of-suc-le-suc h)
+
+  pub at-left : (s t : List A) (i : ℕ) → i < length s → getElem? (s ++ t) i ≡ getElem? s i
+  at-left [] t i h = absurd (not-suc-le-zero h)
+  at-left (y ∷ s) t zero h = refl
+  at-left (y ∷ s) t (suc i) h = at-left s t i (le-of-suc-le-suc h)
+
+  pub at-end : (s : List A) (y : A) → getElem? (s ++ (y ∷ [])) (length s) ≡ some y
+  at-end [] y = refl
+  at-end (x ∷ s) y = at-end s y
+
+  pub at-upTo : (n : ℕ) (f : ℕ → A) (i : ℕ) → i < n → getElem? (upTo n f) i ≡ some (f i)
+  unfolding upTo
+  at-upTo zero f i l = absurd (not-suc-le-zero l)
+  at-upTo (suc n) f i l = go (last-or-below l) (λ (h : i < n). at-upTo n f i h)
+    where
+      go : (i < n) ⊎ (i ≡ n) → (i < n → getElem? (upTo n f) i ≡ some (f i)) → getElem? (upTo n f ++ (f n ∷ [])) i ≡ some (f i)
+      go (inl h) ih = at-left (upTo n f) (f n ∷ []) i (subst (λ (m : ℕ). i < m) (sym (upTo-length n f)) h) ∙ ih h
+      go (inr e) ih =
+          ap (getElem? (upTo n f ++ (f n ∷ []))) (e ∙ sym (upTo-length n f)) ∙ at-end (upTo n f) (f n) ∙ ap {B = Option A} (λ (m : ℕ). some (f m)) (sym e)
+
+  -- lists that agree at each place are one
+  pub same-places : (s t : List A) → ((i : ℕ) → getElem? s i ≡ getElem? t i) → s ≡ t
+  same-places [] [] h = refl
+  same-places [] (y ∷ t) h = absurd (Option·none-ne-some y (h zero))
+  same-places (x ∷ s) [] h = absurd (Option·none-ne-some x (sym (h zero)))
+  same-places (x ∷ s) (y ∷ t) h = ap₂ (λ (a : A) (l : List A). a ∷ l) (Option·some-injective x y (h zero)) (same-places s t (λ i. h (suc i)))
+
+  -- a list is what f gives, where f gives what stands at each place
+  pub listed : (l : List A) (f : ℕ → A) → ((i : ℕ) (x : A) → getElem? l i ≡ some x → i < length l → f i ≡ x) → upTo (length l) f ≡ l
+  listed l f h = same-places (upTo (length l) f) l (λ i. go i (decLt i (length l)))
+    where
+      go : (i : ℕ) → Dec (i < length l) → getElem? (upTo (length l) f) i ≡ getElem? l i
+      go i (yes b) =
+          let x = at-below l i b in
+          at-upTo (length l) f i b ∙ ap {B = Option A} some (h i (x .0) (x .1) b) ∙ sym (x .1)
+      go i (no b) = at-past (upTo (length l) f) i (omega (arith, upTo-length (length l) f)) ∙ sym (at-past l i (omega arith))
+
+  pub in-at : (x : A) (l : List A) → x ∈ l → (i : ℕ) × (i < length l) × (getElem? l i ≡ some x)
+  in-at x [] m = absurd m
+  in-at x (y ∷ l) (inl e) = (zero, omega arith, ap {B = Option A} some (sym e))
+  in-at x (y ∷ l) (inr m) = let r = in-at x l m in (suc (r .0), omega (arith, r .1), r .2)
+
+-- in order: each handle is over the bound, each range has a port
+pub rising-over : (lo : ℕ) (cs : List Client) → Rising lo cs → (c : Client) → c ∈ cs → lo < c .handle
+rising-over lo [] r c m = absurd m
+rising-over lo (x ∷ cs) r c (inl e) = subst (λ (y : Client). lo < y .handle) (sym e) (r .0)
+rising-over lo (x ∷ cs) r c (inr m) = omega (arith, r .0, rising-over (x .handle) cs (r .1) c m)
+
+pub apart-port : (lo : ℕ) (rs : List Range) → Apart lo rs → (r : Range) → r ∈ rs → 1 ≤ r .count
+apart-port lo [] a r m = absurd m
+apart-port lo (x ∷ rs) a r (inl e) = subst (λ (y : Range). 1 ≤ y .count) (sym e) (a .1)
+apart-port lo (x ∷ rs) a r (inr m) = apart-port (x .base + x .count) rs (a .2) r m
+
+-- one more at the end of what is in order
+pub rising-more : (lo : ℕ) (cs : List Client) (c : Client) → Rising lo cs → lo < c .handle → ((x : Client) → x ∈ cs → x .handle < c .handle) → Rising lo (cs ++ (c ∷ []))
+rising-more lo [] c r l h = (l, tt)
+rising-more lo (x ∷ cs) c r l h = (r .0, rising-more (x .handle) cs c (r .1) (h x (inl refl)) (λ y m. h y (inr m)))
+
+apart-more : (lo : ℕ) (rs : List Range) (r : Range) → Apart lo rs → lo ≤ r .base → 1 ≤ r .count → ((x : Range) → x ∈ rs → x .base + x .count ≤ r .base)
+    → Apart lo (rs ++ (r ∷ []))
+apart-more lo [] r a l p h = (l, p, tt)
+apart-more lo (x ∷ rs) r a l p h = (a .0, a .1, apart-more (x .base + x .count) rs r (a .2) (h x (inl refl)) p (λ y m. h y (inr m)))
+
+-- numbers that rise from place to place
+climb : (f : ℕ → ℕ) (n i : ℕ) → ((k : ℕ) → k < n → f k < f (suc k)) → i < n → f i < f n
+climb f zero i h l = absurd (not-suc-le-zero l)
+climb f (suc n) i h l = go (last-or-below l) (λ (b : i < n). climb f n i (λ k m. h k (omega arith)) b)
+  where
+    go : (i < n) ⊎ (i ≡ n) → (i < n → f i < f n) → f i < f (suc n)
+    go (inl b) ih = omega (arith, ih b, h n (omega arith))
+    go (inr e) ih = subst (λ (k : ℕ). f k < f (suc n)) (sym e) (h n (omega arith))
+
+-- clients whose handles rise from place to place are in order; so are ranges that lie apart from place to place
+pub rising-upTo : (n : ℕ) (f : ℕ → Client) → (0 < n → 0 < f 0 .handle) → ((i : ℕ) → suc i < n → f i .handle < f (suc i) .handle) → Rising 0 (upTo n f)
+unfolding upTo
+rising-upTo zero f s h = tt
+rising-upTo (suc n) f s h =
+    rising-more 0 (upTo n f) (f n) (rising-upTo n f (λ l. s (omega arith)) (λ i l. h i (omega arith))) over (λ x m. above x (in-upTo x n f m))
+  where
+    above : (x : Client) → (i : ℕ) × (i < n) × (x ≡ f i) → x .handle < f n .handle
+    above x m = subst (λ (y : Client). y .handle < f n .handle) (sym (m .2)) (climb (λ k. f k .handle) n (m .0) (λ k l. h k (omega arith)) (m .1))
+
+    over : 0 < f n .handle
+    over = go n refl
+      where
+        go : (k : ℕ) → n ≡ k → 0 < f n .handle
+        go zero e = subst (λ (k : ℕ). 0 < f k .handle) (sym e) (s (omega arith))
+        go (suc k) e = omega (arith, climb (λ k. f k .handle) n 0 (λ k l. h k (omega arith)) (omega (arith, e)))
+
+pub apart-upTo : (n : ℕ) (f : ℕ → Range) → ((i : ℕ) → i < n → 1 ≤ f i .count)
+    → ((i : ℕ) → suc i < n → f i .base + f i .count ≤ f (suc i) .base)
+    → Apart 0 (upTo n f)
+unfolding upTo
+apart-upTo zero f p h = tt
+apart-upTo (suc n) f p h =
+    apart-more 0 (upTo n f) (f n) (apart-upTo n f (λ i l. p i (omega arith)) (λ i l. h i (omega arith))) zero-le (p n (omega arith)) (λ x m. above x (in-upTo x n f m))
+  where
+    before : (k : ℕ) → k ≤ n → (i : ℕ) → i < k → f i .base + f i .count ≤ f k .base
+    before zero l i b = absurd (not-suc-le-zero b)
+    before (suc k) l i b = go (last-or-below b) (λ (c : i < k). before k (omega arith) i c)
+      where
+        go : (i < k) ⊎ (i ≡ k) → (i < k → f i .base + f i .count ≤ f k .base) → f i .base + f i .count ≤ f (suc k) .base
+        go (inl c) ih = omega (arith, ih c, h k (omega arith))
+        go (inr e) ih = subst (λ (j : ℕ). f j .base + f j .count ≤ f (suc k) .base) (sym e) (h k (omega arith))
+
+    above : (x : Range) → (i : ℕ) × (i < n) × (x ≡ f i) → x .base + x .count ≤ f n .base
+    above x m = subst (λ (y : Range). y .base + y .count ≤ f n .base) (sym (m .2)) (before n (omega arith) (m .0) (m .1))
+
+-- neighbours in what is in order
+pub rising-next : (lo : ℕ) (cs : List Client) (i : ℕ) (x y : Client) → Rising lo cs → getElem? cs i ≡ some x → getElem? cs (suc i) ≡ some y → x .handle < y .handle
+rising-next lo [] i x y r e f = absurd (Option·none-ne-some x e)
+rising-next lo (c ∷ []) zero x y r e f = absurd (Option·none-ne-some y f)
+rising-next lo (c ∷ d ∷ cs) zero x y r e f =
+    subst₂ (λ (u v : Client). u .handle < v .handle) (Option·some-injective c x e) (Option·some-injective d y f) (r .1 .0)
+rising-next lo (c ∷ cs) (suc i) x y r e f = rising-next (c .handle) cs i x y (r .1) e f
+
+pub apart-next : (lo : ℕ) (rs : List Range) (i : ℕ) (x y : Range) → Apart lo rs → getElem? rs i ≡ some x → getElem? rs (suc i) ≡ some y → x .base + x .count ≤ y .base
+apart-next lo [] i x y a e f = absurd (Option·none-ne-some x e)
+apart-next lo (c ∷ []) zero x y a e f = absurd (Option·none-ne-some y f)
+apart-next lo (c ∷ d ∷ rs) zero x y a e f =
+    subst₂ (λ (u v : Range). u .base + u .count ≤ v .base) (Option·some-injective c x e) (Option·some-injective d y f) (a .2 .0)
+apart-next lo (c ∷ rs) (suc i) x y a e f = apart-next (c .base + c .count) rs i x y (a .2) e f
+
+-- the later of two clients listed has the greater handle
+pub rising-before : (lo : ℕ) (cs : List Client) (i j : ℕ) (x y : Client) → Rising lo cs → i < j → getElem? cs i ≡ some x → getElem? cs j ≡ some y → x .handle < y .handle
+rising-before lo [] i j x y r l e f = absurd (Option·none-ne-some x e)
+rising-before lo (c ∷ cs) i zero x y r l e f = absurd (not-suc-le-zero l)
+rising-before lo (c ∷ cs) zero (suc j) x y r l e f =
+    subst (λ (u : Client). u .handle < y .handle) (Option·some-injective c x e) (rising-over (c .handle) cs (r .1) y (at-in cs j f))
+rising-before lo (c ∷ cs) (suc i) (suc j) x y r l e f = rising-before (c .handle) cs i j x y (r .1) (le-of-suc-le-suc l) e f

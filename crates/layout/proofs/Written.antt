@@ -1,0 +1,29 @@
+-- The bytes of a table after a byte or a number of two bytes is written. Assumes nothing.
+use mathlib.Core.Path.{_≡_, _∙_}
+use mathlib.Core.Logic.{_≢_}
+use mathlib.Core.List.{List}
+use Prim.Native.Nat.{ℕ, _+_, _/_, _%_, _<_}
+use native.Mathlib.Omega.{arith}
+use lib.ListN.{length, set, length-set}
+use lib.Seq.{getD-set-same, getD-set-other}
+use Rattle.facts.specs.Packets.{byte, withWord}
+
+pub byte-same : (b : List ℕ) (at v : ℕ) → at < length b → byte (set b at v) at ≡ v
+byte-same b at v l = getD-set-same b at v 0 l
+
+pub byte-other : (b : List ℕ) (at v p : ℕ) → p ≢ at → byte (set b at v) p ≡ byte b p
+byte-other b at v p d = getD-set-other b at p v 0 d
+
+module _ (b : List ℕ) (at n : ℕ) where
+  pub word-length : length (withWord b at n) ≡ length b
+  word-length = length-set (set b at (n % 256)) (at + 1) (n / 256 % 256) ∙ length-set b at (n % 256)
+
+  pub word-low : at + 1 < length b → byte (withWord b at n) at ≡ n % 256
+  word-low l =
+      byte-other (set b at (n % 256)) (at + 1) (n / 256 % 256) at (λ e. omega (arith, e)) ∙ byte-same b at (n % 256) (omega arith)
+
+  pub word-high : at + 1 < length b → byte (withWord b at n) (at + 1) ≡ n / 256 % 256
+  word-high l = byte-same (set b at (n % 256)) (at + 1) (n / 256 % 256) (omega (arith, length-set b at (n % 256)))
+
+  pub word-other : (p : ℕ) → p ≢ at → p ≢ at + 1 → byte (withWord b at n) p ≡ byte b p
+  word-other p d e = byte-other (set b at (n % 256)) (at + 1) (n / 256 % 256) p e ∙ byte-other b at (n % 256) p d

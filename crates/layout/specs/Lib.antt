@@ -1,0 +1,5 @@
+pub mod Layout
+pub mod Reading
+pub mod Sound
+pub mod Served
+pub mod Changed

@@ -1,0 +1,111 @@
+-- The facts read off a table's bytes, whatever the bytes. Assumes nothing.
+use mathlib.Core.List.{List, [], _∷_, _++_}
+use mathlib.Core.Bool.{Bool, cond, false}
+use mathlib.Core.Option.{Option, none, some}
+use Prim.Native.Nat.{ℕ, zero, suc, _+_, _*_, _-_}
+use lib.Dec.{eqb, ltb}
+use Rattle.facts.specs.declared.Manner.{Manner}
+use Rattle.facts.specs.declared.Manner.the-variants.{Exclusive, TimeMultiplexed, DynamicLevel, DynamicPulse}
+use Rattle.facts.specs.Table
+use Rattle.facts.specs.Table.{Facts, Client, Level, Range, IoGrant, IrqGrant}
+use Rattle.facts.specs.Packets.{byte, word, long}
+use Rattle.layout.specs.Layout
+
+-- the first n of what f gives, in order
+unfoldable pub upTo {ℓ} : {A : Type ℓ} → ℕ → (ℕ → A) → List A
+upTo zero f = []
+upTo (suc n) f = upTo n f ++ (f n ∷ [])
+
+-- what f says below n, and other past it
+abbrev pub below {ℓ} : {A : Type ℓ} → ℕ → A → (ℕ → A) → ℕ → A
+below n other f i = cond (ltb i n) (f i) other
+
+-- a byte that is 1 is a mark
+abbrev pub marked : ℕ → Bool
+marked x = eqb x 1
+
+abbrev pub socketsIn : List ℕ → ℕ
+socketsIn b = byte b 0
+
+abbrev pub clientsIn : List ℕ → ℕ
+clientsIn b = byte b 1
+
+abbrev pub rangesIn : List ℕ → ℕ
+rangesIn b = byte b 2
+
+abbrev pub issuedIn : List ℕ → ℕ
+issuedIn b = word b 3
+
+-- where a record begins
+abbrev pub clientPlace : ℕ → ℕ
+clientPlace i = Layout.clientsAt + i * Layout.clientSize
+
+abbrev pub rangePlace : ℕ → ℕ
+rangePlace i = Layout.rangesAt + i * Layout.rangeSize
+
+abbrev pub levelPlace : ℕ → ℕ
+levelPlace l = Layout.levelsAt + l * Layout.levelSize
+
+abbrev pub ioPlace : ℕ → ℕ
+ioPlace s = Layout.iosAt + s * Layout.ioSize
+
+abbrev pub irqPlace : ℕ → ℕ
+irqPlace s = Layout.irqsAt + s * Layout.irqSize
+
+abbrev pub handleIn : List ℕ → ℕ → ℕ
+handleIn b i = word b (clientPlace i)
+
+abbrev pub maskPlace : ℕ → ℕ → ℕ
+maskPlace i s = clientPlace i + 6 + s * 2
+
+abbrev pub maskOf : ℕ → Option ℕ
+maskOf w = cond (eqb w 0) none (some (w - 4096))
+
+unfoldable pub clientIn : List ℕ → ℕ → Client
+clientIn b i =
+    record {
+      handle = handleIn b i;
+      attributes = word b (clientPlace i + 2);
+      events = word b (clientPlace i + 4);
+      mask = below Table.mostSockets none (λ s. maskOf (word b (maskPlace i s)));
+    }
+
+unfoldable pub rangeIn : List ℕ → ℕ → Range
+rangeIn b i = record { base = word b (rangePlace i); count = long b (rangePlace i + 2); reserved = marked (byte b (rangePlace i + 6)) }
+
+unfoldable pub levelIn : List ℕ → ℕ → Level
+levelIn b l = record { managed = marked (byte b (levelPlace l)); reserved = marked (byte b (levelPlace l + 1)) }
+
+unfoldable pub ioIn : List ℕ → ℕ → IoGrant
+ioIn b s =
+    record {
+      client = word b (ioPlace s);
+      ports = record { base = word b (ioPlace s + 2); count = byte b (ioPlace s + 4); lines = byte b (ioPlace s + 5) };
+      shared = marked (byte b (ioPlace s + 6));
+    }
+
+abbrev pub mannerOf : ℕ → Manner
+mannerOf n = cond (eqb n 0) Exclusive (cond (eqb n 1) TimeMultiplexed (cond (eqb n 2) DynamicLevel DynamicPulse))
+
+unfoldable pub irqIn : List ℕ → ℕ → IrqGrant
+irqIn b s = record { client = word b (irqPlace s); level = byte b (irqPlace s + 2); manner = mannerOf (byte b (irqPlace s + 3)) }
+
+-- a grant's record whose client is 0 is no grant
+unfoldable pub ioHere : List ℕ → ℕ → Option IoGrant
+ioHere b s = cond (eqb (word b (ioPlace s)) 0) none (some (ioIn b s))
+
+unfoldable pub irqHere : List ℕ → ℕ → Option IrqGrant
+irqHere b s = cond (eqb (word b (irqPlace s)) 0) none (some (irqIn b s))
+
+unfoldable pub factsIn : List ℕ → Facts
+factsIn b =
+    record {
+      sockets = socketsIn b;
+      card = below Table.mostSockets false (λ s. marked (byte b (Layout.cardsAt + s)));
+      issued = issuedIn b;
+      clients = upTo (clientsIn b) (clientIn b);
+      level = below Table.allLevels (record { managed = false; reserved = false }) (levelIn b);
+      ranges = upTo (rangesIn b) (rangeIn b);
+      io = below Table.mostSockets none (ioHere b);
+      irq = below Table.mostSockets none (irqHere b);
+    }

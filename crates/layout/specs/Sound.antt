@@ -1,0 +1,130 @@
+-- Which bytes are the image of a well-formed set, said of the bytes: what the code looks at. Assumes nothing.
+use mathlib.Core.Path.{_≡_}
+use mathlib.Core.Logic.{_⊎_, _≢_}
+use mathlib.Core.List.{List}
+use Prim.Native.Nat.{ℕ, zero, suc, _+_, _^_, _≤_, _<_}
+use lib.ListN.{length}
+use Rattle.facts.specs.Table
+use Rattle.facts.specs.Table.{Facts}
+use Rattle.facts.specs.Packets.{byte, word, long}
+use Rattle.facts.specs.Ports.{Within}
+use Rattle.facts.specs.WellFormed.{WellFormed, AttributesAllowed, EventsAllowed, IoCompany, IrqCompany}
+use Rattle.layout.specs.Layout
+use Rattle.layout.specs.Reading.{socketsIn, clientsIn, rangesIn, issuedIn, clientPlace, rangePlace, levelPlace, ioPlace, irqPlace, handleIn, maskPlace, ioIn, irqIn}
+
+-- the bytes are the image of some well-formed set
+pub record Accepted (b : List ℕ) : Type 0 where
+  pub facts : Facts
+  pub formed : WellFormed facts
+  pub is : Layout.image facts ≡ b
+
+-- the bytes from one place up to another are zero
+abbrev pub Zero : List ℕ → ℕ → ℕ → Type 0
+Zero b from to = (i : ℕ) → from ≤ i → i < to → byte b i ≡ 0
+
+pub record CardSound (b : List ℕ) (s : ℕ) : Type 0 where
+  pub mark : byte b (Layout.cardsAt + s) ≤ 1
+  pub socket : byte b (Layout.cardsAt + s) ≡ 1 → s < socketsIn b
+
+pub record LevelSound (b : List ℕ) (l : ℕ) : Type 0 where
+  pub managed : byte b (levelPlace l) ≤ 1
+  pub reserved : byte b (levelPlace l + 1) ≤ byte b (levelPlace l)
+
+-- the handle of the client listed before the ith, or 0
+abbrev pub handleBefore : List ℕ → ℕ → ℕ
+handleBefore b zero = 0
+handleBefore b (suc i) = handleIn b i
+
+abbrev pub MaskSound : List ℕ → ℕ → ℕ → Type 0
+MaskSound b i s = (word b (maskPlace i s) ≡ 0) ⊎ ((4096 ≤ word b (maskPlace i s)) × (word b (maskPlace i s) < 8192) × (s < socketsIn b))
+
+-- the ith client's record, whose handle is over low
+pub record ClientSound (b : List ℕ) (low i : ℕ) : Type 0 where
+  pub over : low < handleIn b i
+  pub issued : handleIn b i ≤ issuedIn b
+  pub attributes : AttributesAllowed (word b (clientPlace i + 2))
+  pub events : EventsAllowed (word b (clientPlace i + 4))
+  pub masks : (s : ℕ) → s < Table.mostSockets → MaskSound b i s
+
+abbrev pub baseIn : List ℕ → ℕ → ℕ
+baseIn b i = word b (rangePlace i)
+
+abbrev pub countIn : List ℕ → ℕ → ℕ
+countIn b i = long b (rangePlace i + 2)
+
+-- where the range listed before the ith ends, or 0
+abbrev pub endBefore : List ℕ → ℕ → ℕ
+endBefore b zero = 0
+endBefore b (suc i) = baseIn b i + countIn b i
+
+-- the ith range's record, which starts at or past low
+pub record RangeSound (b : List ℕ) (low i : ℕ) : Type 0 where
+  pub from : low ≤ baseIn b i
+  pub port : 1 ≤ countIn b i
+  pub within : baseIn b i + countIn b i ≤ Table.allPorts
+  pub mark : byte b (rangePlace i + 6) ≤ 1
+
+-- h is the handle of one of the clients listed, and p a port of one of the ranges
+abbrev pub LiveIn : List ℕ → ℕ → Type 0
+LiveIn b h = (i : ℕ) × (i < clientsIn b) × (handleIn b i ≡ h)
+
+abbrev pub ManagedIn : List ℕ → ℕ → Type 0
+ManagedIn b p = (i : ℕ) × (i < rangesIn b) × Within p (baseIn b i) (countIn b i)
+
+-- the record of the I/O grant of the socket s
+pub record IoSound (b : List ℕ) (s : ℕ) : Type 0 where
+  pub client : LiveIn b (word b (ioPlace s))
+  pub socket : s < socketsIn b
+  pub base : 1 ≤ word b (ioPlace s + 2)
+  pub port : 1 ≤ byte b (ioPlace s + 4)
+  pub line : 1 ≤ byte b (ioPlace s + 5)
+  pub lines : byte b (ioPlace s + 5) ≤ Table.mostLines
+  pub decoded : byte b (ioPlace s + 4) ≤ 2 ^ byte b (ioPlace s + 5)
+  pub managed : (p : ℕ) → Within p (word b (ioPlace s + 2)) (byte b (ioPlace s + 4)) → ManagedIn b p
+  pub mark : byte b (ioPlace s + 6) ≤ 1
+  pub spare : Zero b (ioPlace s + 7) (ioPlace s + Layout.ioSize)
+
+-- the socket s has an I/O grant
+abbrev pub IoUsed : List ℕ → ℕ → Type 0
+IoUsed b s = word b (ioPlace s) ≢ 0
+
+abbrev pub IoPlaceSound : List ℕ → ℕ → Type 0
+IoPlaceSound b s = Zero b (ioPlace s) (ioPlace s + Layout.ioSize) ⊎ (IoUsed b s × IoSound b s)
+
+-- the record of the IRQ grant of the socket s
+pub record IrqSound (b : List ℕ) (s : ℕ) : Type 0 where
+  pub client : LiveIn b (word b (irqPlace s))
+  pub socket : s < socketsIn b
+  pub level : byte b (irqPlace s + 2) < Table.allLevels
+  pub managed : byte b (levelPlace (byte b (irqPlace s + 2))) ≡ 1
+  pub manner : byte b (irqPlace s + 3) ≤ 3
+
+abbrev pub IrqUsed : List ℕ → ℕ → Type 0
+IrqUsed b s = word b (irqPlace s) ≢ 0
+
+abbrev pub IrqPlaceSound : List ℕ → ℕ → Type 0
+IrqPlaceSound b s = Zero b (irqPlace s) (irqPlace s + Layout.irqSize) ⊎ (IrqUsed b s × IrqSound b s)
+
+-- two sockets' grants keep company as demand 3 allows
+abbrev pub IoPairSound : List ℕ → ℕ → ℕ → Type 0
+IoPairSound b s t = IoUsed b s → IoUsed b t → IoCompany (ioIn b s) (ioIn b t)
+
+abbrev pub IrqPairSound : List ℕ → ℕ → ℕ → Type 0
+IrqPairSound b s t = IrqUsed b s → IrqUsed b t → IrqCompany (irqIn b s) (irqIn b t)
+
+pub record Sound (b : List ℕ) : Type 0 where
+  pub size : length b ≡ Layout.tableSize
+  pub sockets-least : 1 ≤ socketsIn b
+  pub sockets-most : socketsIn b ≤ Table.mostSockets
+  pub cards : (s : ℕ) → s < Table.mostSockets → CardSound b s
+  pub levels : (l : ℕ) → l < Table.allLevels → LevelSound b l
+  pub clients-most : clientsIn b ≤ Table.mostClients
+  pub clients : (i : ℕ) → i < clientsIn b → ClientSound b (handleBefore b i) i
+  pub clients-end : Zero b (clientPlace (clientsIn b)) Layout.rangesAt
+  pub ranges-most : rangesIn b ≤ Table.mostRanges
+  pub ranges : (i : ℕ) → i < rangesIn b → RangeSound b (endBefore b i) i
+  pub ranges-end : Zero b (rangePlace (rangesIn b)) Layout.tableSize
+  pub ios : (s : ℕ) → s < Table.mostSockets → IoPlaceSound b s
+  pub irqs : (s : ℕ) → s < Table.mostSockets → IrqPlaceSound b s
+  pub io-company : (s t : ℕ) → s < Table.mostSockets → t < s → IoPairSound b s t
+  pub irq-company : (s t : ℕ) → s < Table.mostSockets → t < s → IrqPairSound b s t

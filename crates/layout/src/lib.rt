@@ -1,0 +1,78 @@
+// The layout of the table's bytes: its limits, places and sizes by name. Definitions are in specs/, their laws in proofs/.
+
+// The limits.
+pub const MOST_SOCKETS: usize = 8;
+
+pub const MOST_CLIENTS: usize = 16;
+
+pub const MOST_ISSUED: usize = 65535;
+
+pub const ALL_LEVELS: usize = 16;
+
+pub const MOST_RANGES: usize = 32;
+
+pub const ALL_PORTS: usize = 65536;
+
+pub const MOST_LINES: usize = 16;
+
+// Where each part of the table begins, and the size of its records.
+pub const TABLE_SIZE: usize = 8192;
+
+pub const SOCKETS_IN: usize = 0;
+
+pub const CLIENTS_IN: usize = 1;
+
+pub const RANGES_IN: usize = 2;
+
+pub const ISSUED_IN: usize = 3;
+
+pub const CARDS_AT: usize = 5;
+
+pub const LEVELS_AT: usize = 13;
+
+pub const LEVEL_SIZE: usize = 2;
+
+pub const IOS_AT: usize = 45;
+
+pub const IO_SIZE: usize = 11;
+
+pub const IRQS_AT: usize = 133;
+
+pub const IRQ_SIZE: usize = 4;
+
+pub const CLIENTS_AT: usize = 165;
+
+pub const CLIENT_SIZE: usize = 22;
+
+pub const RANGES_AT: usize = 517;
+
+pub const RANGE_SIZE: usize = 7;
+
+// Where a record's fields stand in it.
+pub const LEVEL_RESERVED: usize = 1;
+
+pub const IO_BASE: usize = 2;
+
+pub const IO_COUNT: usize = 4;
+
+pub const IO_LINES: usize = 5;
+
+pub const IO_SHARED: usize = 6;
+
+pub const IO_SPARE: usize = 7;
+
+pub const IRQ_LEVEL: usize = 2;
+
+pub const IRQ_MANNER: usize = 3;
+
+pub const CLIENT_ATTRIBUTES: usize = 2;
+
+pub const CLIENT_EVENTS: usize = 4;
+
+pub const CLIENT_MASKS: usize = 6;
+
+pub const MASK_SIZE: usize = 2;
+
+pub const RANGE_COUNT: usize = 2;
+
+pub const RANGE_RESERVED: usize = 6;

@@ -1,0 +1,2 @@
+-- What the contracts of `levels` cite. Assumes nothing.
+pub mod Places

@@ -1,0 +1,3 @@
+-- When a port meets a range, and when two ranges meet: laws. Assumes nothing.
+pub mod Remainders
+pub mod Walk

@@ -1,0 +1,2 @@
+-- What the contracts of `ports` cite. Assumes nothing.
+pub mod Hits

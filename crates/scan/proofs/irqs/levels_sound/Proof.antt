@@ -1,0 +1,51 @@
+-- `scan::irqs::levels_sound` meets its contract: the levels passed are sound.
+-- Assumes nothing.
+use Prim.Native.Nat.{_-_, _≤_}
+use native.Mathlib.Omega.{arith}
+use borrow.Author.Needs.{needs}
+use Rattle.facts.specs.Table.{allLevels}
+use Rattle.layout.specs.Sound.{LevelSound}
+use Rattle.scan.proofs.All.{All, all-none, all-next, all-true, all-false}
+use Rattle.scan.proofs.irqs.levels_sound.Statement.{statement}
+use Rattle.scan.proofs.irqs.levels_sound.Tie as tie
+
+abbrev Inv-loop : tie.InvT-loop
+Inv-loop t l₀ l = (l ≤ allLevels) × All l (LevelSound t)
+
+abbrev μ-loop : tie.MeasureT-loop
+μ-loop t l₀ l = allLevels - l
+
+loop-holds : tie.Need-loop-holds Inv-loop μ-loop
+loop-holds c = (omega arith, all-none _)
+
+level-sound-requires : tie.Need-level-sound-requires Inv-loop μ-loop
+level-sound-requires c κs = search needs
+
+returns : tie.Need-returns Inv-loop μ-loop
+returns c = all-false (omega arith) (c .before .level-sound .ensures) (c .if1 .taken)
+
+add-l : tie.Need-add-l Inv-loop μ-loop
+add-l c = omega arith
+
+loop-less : tie.Need-loop-less Inv-loop μ-loop
+loop-less c = omega arith
+
+loop-again : tie.Need-loop-again Inv-loop μ-loop
+loop-again c = (omega arith, all-next (c .before .before .before .loop .inv .1) (c .before .level-sound .ensures) (c .if1 .left))
+
+returns-2 : tie.Need-returns-2 Inv-loop μ-loop
+returns-2 c = all-true (omega arith) (c .before .loop .inv .1)
+
+pub levels-sound-spec : {M : Type 1} → statement M
+levels-sound-spec =
+    tie.close
+    (tie.spec
+    Inv-loop
+    μ-loop
+    loop-holds
+    level-sound-requires
+    returns
+    add-l
+    loop-less
+    loop-again
+    returns-2)

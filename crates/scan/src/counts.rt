@@ -1,0 +1,50 @@
+// The numbers of sockets, clients and ranges, and what lies past the last client and the last range.
+use crate::byte;
+use crate::zero;
+use layout::CLIENT_SIZE;
+use layout::CLIENTS_AT;
+use layout::CLIENTS_IN;
+use layout::MOST_CLIENTS;
+use layout::MOST_RANGES;
+use layout::MOST_SOCKETS;
+use layout::RANGE_SIZE;
+use layout::RANGES_AT;
+use layout::RANGES_IN;
+use layout::SOCKETS_IN;
+use layout::TABLE_SIZE;
+ghost use mathlib.Core.Path.{_≡_};
+ghost use lib.ListN.{length};
+ghost use Rattle.facts.specs.Says.{Says};
+ghost use Rattle.layout.specs.Layout.{tableSize};
+ghost use Rattle.scan.specs.Parts.{CountsSound, EndsSound};
+
+// The numbers of sockets, clients and ranges, within their limits.
+pub fn counts_sound(t: &[u8]) -> bool
+    requires { ⌜ length (now t) ≡ tableSize ⌝ }
+    ensures { λ r. ⌜ Says r (CountsSound (now (t .entry))) ⌝ }
+{
+    let sockets = byte(t, SOCKETS_IN);
+    if sockets == 0 {
+        return false;
+    }
+    if MOST_SOCKETS < sockets {
+        return false;
+    }
+    if MOST_CLIENTS < byte(t, CLIENTS_IN) {
+        return false;
+    }
+    byte(t, RANGES_IN) <= MOST_RANGES
+}
+
+// Whether what no client and no range uses is zero.
+pub fn ends_sound(t: &[u8]) -> bool
+    requires { ⌜ (length (now t) ≡ tableSize) × CountsSound (now t) ⌝ }
+    ensures { λ r. ⌜ Says r (EndsSound (now (t .entry))) ⌝ }
+{
+    let clients_end = CLIENTS_AT + byte(t, CLIENTS_IN) * CLIENT_SIZE;
+    if !zero(t, clients_end, RANGES_AT) {
+        return false;
+    }
+    let ranges_end = RANGES_AT + byte(t, RANGES_IN) * RANGE_SIZE;
+    zero(t, ranges_end, TABLE_SIZE)
+}

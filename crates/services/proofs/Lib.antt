@@ -1,0 +1,5 @@
+pub mod Serve
+pub mod Steps
+pub mod ClientsServed
+pub mod CardsServed
+pub mod SharersServed

@@ -1,0 +1,4 @@
+pub mod Answers
+pub mod Clients
+pub mod Sockets
+pub mod Sharing

@@ -1,0 +1,55 @@
+/*
+ * check.h: the archive beside the model
+ *
+ * One table is lent at a time, between guard bytes. Each question goes to the
+ * archive and to the model; code, handle or count, every byte of table and
+ * packet and the guards are compared, and the archive's answer is handed on.
+ */
+#ifndef CHECK_H
+#define CHECK_H
+
+#include "model.h"
+
+/* No more bytes than this are lent. */
+#define MOST_LENT (65536 + CS_TABLE_SIZE)
+
+/* Lends these bytes. The model reads them; what it refuses, the archive is to
+   refuse with GENERAL_FAILURE at every question. */
+void lend_bytes(const uint8_t *bytes, size_t len);
+void lend_set(const struct model *m);
+
+/* What a report is to say of the lent table, after it was lent. */
+void describe(const char *format, ...);
+
+/* The facts that the lent table says, if the model accepts it. */
+bool lent_accepted(void);
+const struct model *lent_facts(void);
+
+uint32_t ask_fresh(uint8_t sockets);
+uint32_t ask_card_in(uint16_t socket);
+uint32_t ask_card_out(uint16_t socket);
+uint32_t ask_sharers(uint16_t level);
+
+/* A packet of NULL is passed on as NULL. */
+uint32_t ask_call(uint16_t service, uint16_t handle, const uint8_t *packet, size_t len);
+
+/* The archive's answer beside one worked out by hand from document 01. */
+void must_be(uint32_t answer, uint32_t code, uint16_t handle);
+
+/* How often the archive answered this code in the running group. */
+unsigned long answered(uint32_t code);
+
+/* Something else that has to hold. */
+void must_hold(const char *what, bool holds);
+
+/* The services that the archive has so far. */
+bool service_built(uint16_t service);
+unsigned services_built(void);
+
+/* Runs a group, which has to make at least so many checks. */
+void run_group(const char *name, void (*group)(void), unsigned long least);
+
+/* Prints the summary; the program's exit status. */
+int end_checks(void);
+
+#endif

@@ -1,0 +1,463 @@
+#include <stdio.h>
+#include <string.h>
+
+#include "check.h"
+#include "compare.h"
+#include "layout.h"
+#include "sets.h"
+
+/* ---- Short ways to ask ---- */
+
+static uint32_t register_with(uint16_t attributes, uint16_t events)
+{
+    uint8_t packet[CS_REGISTER_CLIENT_LENGTH] = {(uint8_t)attributes, (uint8_t)(attributes >> 8),
+                                                 (uint8_t)events, (uint8_t)(events >> 8)};
+    return ask_call(CS_REGISTER_CLIENT, 0, packet, sizeof packet);
+}
+
+static uint32_t register_one(void)
+{
+    return register_with(CS_IO_CLIENT, 0x080);
+}
+
+static uint32_t deregister(uint16_t handle)
+{
+    static const uint8_t empty[1];
+    return ask_call(CS_DEREGISTER_CLIENT, handle, empty, 0);
+}
+
+static void lend_fresh(uint8_t sockets)
+{
+    struct model m;
+    model_fresh(&m, sockets);
+    lend_set(&m);
+}
+
+/* ---- The table ---- */
+
+static const size_t lengths[] = {
+    0, 1, CS_TABLE_SIZE - 1, CS_TABLE_SIZE, CS_TABLE_SIZE + 1, CS_TABLE_SIZE + 65536};
+enum { LENGTHS = sizeof lengths / sizeof *lengths };
+
+static uint8_t some_bytes[MOST_LENT];
+
+static void fill(struct chance *c, unsigned how)
+{
+    for (size_t i = 0; i < sizeof some_bytes; i++)
+        some_bytes[i] = how == 0 ? 0 : how == 1 ? 0xFF : (uint8_t)pick(c, 256);
+}
+
+/* "Fresh: a count of 1 to 8 and a buffer of 8,192 bytes, else GENERAL_FAILURE
+   and no byte changed. The old bytes don't matter." */
+void fresh_tables(void)
+{
+    struct chance c = {1};
+    for (unsigned how = 0; how < 3; how++) {
+        fill(&c, how);
+        for (unsigned l = 0; l < LENGTHS; l++)
+            for (unsigned sockets = 0; sockets <= 255; sockets += sockets < 12 ? 1 : 27) {
+                bool good = lengths[l] == CS_TABLE_SIZE && sockets >= 1 && sockets <= 8;
+                lend_bytes(some_bytes, lengths[l]);
+                must_be(ask_fresh((uint8_t)sockets), good ? CS_SUCCESS : CS_GENERAL_FAILURE, 0);
+            }
+        for (unsigned sockets = 0; sockets <= 255; sockets++) {
+            lend_bytes(some_bytes, CS_TABLE_SIZE);
+            ask_fresh((uint8_t)sockets);
+        }
+    }
+}
+
+/* A table that is good but for its length; the byte beyond is 0 or not. */
+void table_lengths(void)
+{
+    static uint8_t bytes[MOST_LENT];
+    struct model m;
+    full_set(&m, CS_CLIENTS - 1);
+    for (unsigned beyond = 0; beyond < 2; beyond++) {
+        memset(bytes, (int)beyond, sizeof bytes);
+        model_image(&m, bytes);
+        for (unsigned l = 0; l < LENGTHS; l++) {
+            bool good = lengths[l] == CS_TABLE_SIZE;
+            uint32_t code = good ? CS_SUCCESS : CS_GENERAL_FAILURE;
+            lend_bytes(bytes, lengths[l]);
+            must_be(ask_sharers(15), code, 0);
+            must_be(ask_card_out(7), code, 0);
+            must_be(ask_card_in(7), code, 0);
+            must_be(register_one(), code, good ? CS_CLIENTS : 0);
+            must_be(ask_call(0x7777, 0, NULL, 0),
+                    good ? CS_UNSUPPORTED_SERVICE : CS_GENERAL_FAILURE, 0);
+        }
+    }
+}
+
+/* ---- RegisterClient ---- */
+
+/* 5.37's client types, one of them and no reserved bit, written out. */
+static bool by_hand_allowed(uint16_t attributes)
+{
+    static const uint16_t allowed[] = {0x01, 0x02, 0x04, 0x09, 0x0A, 0x0C,
+                                       0x11, 0x12, 0x14, 0x19, 0x1A, 0x1C};
+    for (size_t i = 0; i < sizeof allowed / sizeof *allowed; i++)
+        if (allowed[i] == attributes)
+            return true;
+    return false;
+}
+
+static void try_attributes(uint16_t attributes, uint16_t events, bool good)
+{
+    lend_fresh(1);
+    must_be(register_with(attributes, events), good ? CS_SUCCESS : CS_BAD_ATTRIBUTE, good ? 1 : 0);
+}
+
+void register_attributes(void)
+{
+    for (unsigned bit = 0; bit < 16; bit++) {
+        try_attributes((uint16_t)(1u << bit), 0, bit <= 2);
+        try_attributes(CS_IO_CLIENT, (uint16_t)(1u << bit), bit <= 11);
+        try_attributes(0, (uint16_t)(1u << bit), false);
+    }
+    for (uint16_t low = 0; low < 32; low++) {
+        try_attributes(low, 0x0FFF, by_hand_allowed(low));
+        try_attributes(low, 0x1FFF, false);
+        for (unsigned bit = 5; bit < 16; bit++)
+            try_attributes((uint16_t)(low | 1u << bit), 0x0FFF, false);
+    }
+}
+
+/* "RegisterClient doesn't look at the given handle"; "fields after the event
+   mask are ignored"; the packet stays. */
+void register_packets(void)
+{
+    static const size_t tried[] = {0, 1, 2, 3, 4, 12, 13, 14, 15, 16, 28, 14 + 256, 14 + 65536};
+    static uint8_t bytes[14 + 65536] = {CS_IO_CLIENT, 0, 0xFF, 0x0F};
+    struct chance c = {2};
+    for (size_t i = 0; i < sizeof tried / sizeof *tried; i++) {
+        bool good = tried[i] == 14;
+        lend_fresh(2);
+        must_be(ask_call(CS_REGISTER_CLIENT, 9, bytes, tried[i]),
+                good ? CS_SUCCESS : CS_BAD_ARG_LENGTH, good ? 1 : 0);
+        must_be(ask_call(CS_DEREGISTER_CLIENT, 1, bytes, tried[i]),
+                tried[i] != 0 ? CS_BAD_ARG_LENGTH : CS_BAD_HANDLE, 0);
+    }
+    lend_fresh(2);
+    for (uint16_t i = 0; i < CS_CLIENTS; i++) {
+        for (size_t at = 4; at < 14; at++)
+            bytes[at] = (uint8_t)pick(&c, 256);
+        must_be(ask_call(CS_REGISTER_CLIENT, (uint16_t)pick(&c, 65536), bytes, 14), CS_SUCCESS,
+                (uint16_t)(i + 1));
+    }
+    must_be(ask_call(CS_DEREGISTER_CLIENT, 3, NULL, 0), CS_SUCCESS, 3);
+    must_be(ask_call(CS_REGISTER_CLIENT, 3, NULL, 0), CS_BAD_ARG_LENGTH, 0);
+}
+
+/* "OUT_OF_RESOURCE exactly if 16 are live." */
+void client_limit(void)
+{
+    lend_fresh(8);
+    for (uint16_t i = 1; i <= CS_CLIENTS; i++)
+        must_be(register_one(), CS_SUCCESS, i);
+    must_be(register_one(), CS_OUT_OF_RESOURCE, 0);
+    must_be(register_with(0, 0), CS_BAD_ATTRIBUTE, 0);
+    for (uint16_t i = 1; i <= CS_CLIENTS; i++) {
+        must_be(deregister(i), CS_SUCCESS, i);
+        must_be(register_one(), CS_SUCCESS, (uint16_t)(CS_CLIENTS + i));
+        must_be(register_one(), CS_OUT_OF_RESOURCE, 0);
+    }
+    for (uint16_t i = 2 * CS_CLIENTS; i > CS_CLIENTS; i--)
+        must_be(deregister(i), CS_SUCCESS, i);
+    must_be(register_one(), CS_SUCCESS, 2 * CS_CLIENTS + 1);
+}
+
+/* ---- Handles ---- */
+
+/* "Each issued once in a table's life": clients come and go by chance. */
+static void no_handle_twice(void)
+{
+    struct chance c = {3};
+    lend_fresh(4);
+    uint16_t last = 0;
+    for (unsigned i = 0; i < 600; i++) {
+        const struct model *m = lent_facts();
+        if (m->clients == 0 || (m->clients < CS_CLIENTS && one_in(&c, 2)))
+            must_be(register_one(), CS_SUCCESS, ++last);
+        else
+            deregister(m->client[pick(&c, m->clients)].handle);
+    }
+}
+
+void handles(void)
+{
+    lend_fresh(1);
+    must_be(deregister(0), CS_BAD_HANDLE, 0);
+    must_be(deregister(1), CS_BAD_HANDLE, 0);
+    must_be(register_one(), CS_SUCCESS, 1);
+    must_be(register_one(), CS_SUCCESS, 2);
+    must_be(deregister(0), CS_BAD_HANDLE, 0);
+    must_be(deregister(3), CS_BAD_HANDLE, 0);
+    must_be(deregister(0x0101), CS_BAD_HANDLE, 0);
+    must_be(deregister(0xFFFF), CS_BAD_HANDLE, 0);
+    must_be(deregister(1), CS_SUCCESS, 1);
+    must_be(deregister(1), CS_BAD_HANDLE, 0);
+    must_be(register_one(), CS_SUCCESS, 3);
+    must_be(deregister(1), CS_BAD_HANDLE, 0);
+    must_be(deregister(3), CS_SUCCESS, 3);
+    must_be(deregister(2), CS_SUCCESS, 2);
+    must_be(register_one(), CS_SUCCESS, 4);
+    no_handle_twice();
+}
+
+/* "OUT_OF_RESOURCE exactly if 65,535 were issued", with no client live too. */
+void last_handles(void)
+{
+    struct model m;
+    model_fresh(&m, 1);
+    m.issued = CS_HANDLES - 2;
+    lend_set(&m);
+    must_be(register_one(), CS_SUCCESS, CS_HANDLES - 1);
+    must_be(register_one(), CS_SUCCESS, CS_HANDLES);
+    must_be(register_one(), CS_OUT_OF_RESOURCE, 0);
+    must_be(deregister(CS_HANDLES - 1), CS_SUCCESS, CS_HANDLES - 1);
+    must_be(register_one(), CS_OUT_OF_RESOURCE, 0);
+    must_be(deregister(CS_HANDLES), CS_SUCCESS, CS_HANDLES);
+    must_be(register_one(), CS_OUT_OF_RESOURCE, 0);
+    must_be(register_with(3, 0), CS_BAD_ATTRIBUTE, 0);
+    must_be(deregister(CS_HANDLES), CS_BAD_HANDLE, 0);
+    m.issued = 255;
+    lend_set(&m);
+    must_be(register_one(), CS_SUCCESS, 256);
+    must_be(register_one(), CS_SUCCESS, 257);
+    must_be(deregister(1), CS_BAD_HANDLE, 0);
+}
+
+/* ---- What a client holds ---- */
+
+enum holding { AN_IO_GRANT, AN_IRQ_GRANT, A_MASK, NOTHING, HOLDINGS };
+
+static void hold(struct model *m, enum holding what, uint16_t client, unsigned socket)
+{
+    if (what == AN_IO_GRANT)
+        m->io[socket] = (struct io_grant){true, client, 0x300, 8, 16, false};
+    if (what == AN_IRQ_GRANT)
+        m->irq[socket] = (struct irq_grant){true, client, 3, EXCLUSIVE};
+    if (what == A_MASK)
+        m->client[client - 1].masks[socket] = (struct mask){true, 0};
+}
+
+/* Client 1 holds one thing on one socket; client 2 holds nothing. */
+void deregister_in_use(void)
+{
+    for (unsigned socket = 0; socket < CS_SOCKETS; socket++)
+        for (unsigned what = 0; what < HOLDINGS; what++) {
+            struct model m;
+            full_set(&m, CS_CLIENTS);
+            for (unsigned s = 0; s < CS_SOCKETS; s++) {
+                m.io[s].live = m.irq[s].live = false;
+                m.client[0].masks[s].held = m.client[1].masks[s].held = false;
+            }
+            m.range[0] = (struct range){0x300, 8, false};
+            m.ranges = 1;
+            hold(&m, what, 1, socket);
+            lend_set(&m);
+            bool free = what == NOTHING;
+            must_be(deregister(1), free ? CS_SUCCESS : CS_IN_USE, free ? 1 : 0);
+            must_be(deregister(2), CS_SUCCESS, 2);
+            must_be(deregister(3), CS_IN_USE, 0);
+        }
+}
+
+/* ---- Host calls ---- */
+
+static void both_card_calls(uint16_t socket, uint32_t code)
+{
+    must_be(ask_card_in(socket), code, 0);
+    must_be(ask_card_in(socket), code, 0);
+    must_be(ask_card_out(socket), code, 0);
+    must_be(ask_card_out(socket), code, 0);
+}
+
+/* "BAD_SOCKET or done, also when nothing changes. Card out takes no grant or
+   mask away." */
+void cards(void)
+{
+    static const uint16_t far[] = {9, 15, 16, 127, 128, 255, 256, 257, 263, 32768, 65535};
+    for (unsigned sockets = 1; sockets <= CS_SOCKETS; sockets++) {
+        lend_fresh((uint8_t)sockets);
+        for (uint16_t socket = 0; socket <= CS_SOCKETS; socket++)
+            both_card_calls(socket, socket < sockets ? CS_SUCCESS : CS_BAD_SOCKET);
+        for (size_t i = 0; i < sizeof far / sizeof *far; i++)
+            both_card_calls(far[i], CS_BAD_SOCKET);
+    }
+    struct model m;
+    full_set(&m, CS_CLIENTS);
+    lend_set(&m);
+    for (uint16_t socket = 0; socket < CS_SOCKETS; socket++)
+        must_be(ask_card_out(socket), CS_SUCCESS, 0);
+    must_be(ask_sharers(3), CS_SUCCESS, 2);
+}
+
+/* "A level over 15 is BAD_IRQ; else the number of live grants." */
+void sharers_counted(void)
+{
+    static const uint16_t far[] = {16, 17, 31, 32, 255, 256, 259, 32771, 65535};
+    for (uint16_t many = 0; many <= CS_SOCKETS; many++) {
+        struct model m;
+        uint8_t shared = (uint8_t)(2 * many % CS_LEVELS);
+        full_set(&m, CS_CLIENTS);
+        for (unsigned s = 0; s < CS_SOCKETS; s++) {
+            m.irq[s].live = s < many;
+            m.irq[s].level = shared;
+        }
+        lend_set(&m);
+        for (uint16_t level = 0; level < CS_LEVELS; level++)
+            must_be(ask_sharers(level), CS_SUCCESS, level == shared ? many : 0);
+        for (size_t i = 0; i < sizeof far / sizeof *far; i++)
+            must_be(ask_sharers(far[i]), CS_BAD_IRQ, 0);
+    }
+}
+
+/* ---- Service numbers and broken tables ---- */
+
+/* A packet of 14 bytes, which RegisterClient accepts. */
+static void ask_every_service(void)
+{
+    static const uint8_t packet[CS_REGISTER_CLIENT_LENGTH] = {CS_IO_CLIENT};
+    for (uint32_t service = 0; service <= 0xFFFF; service++)
+        ask_call((uint16_t)service, 1, packet, sizeof packet);
+}
+
+void every_service(void)
+{
+    struct model m;
+    full_set(&m, CS_CLIENTS - 1);
+    lend_set(&m);
+    ask_every_service();
+    must_hold("only the services built are answered otherwise than UNSUPPORTED_SERVICE",
+              answered(CS_UNSUPPORTED_SERVICE) == 65536 - services_built());
+    must_hold("RegisterClient was answered SUCCESS", answered(CS_SUCCESS) >= 1);
+}
+
+static void lend_broken(size_t at)
+{
+    static uint8_t image[CS_TABLE_SIZE];
+    struct model m;
+    full_set(&m, CS_CLIENTS - 1);
+    model_image(&m, image);
+    image[at] ^= 0x80;
+    lend_bytes(image, sizeof image);
+}
+
+void every_service_broken(void)
+{
+    lend_broken(CS_TABLE_SIZE - 1);
+    ask_every_service();
+    must_hold("all are answered GENERAL_FAILURE", answered(CS_GENERAL_FAILURE) == 65536);
+}
+
+/* "Host calls check the table first too": before a bad service, length, handle,
+   socket, level or attribute. Fresh alone looks at no old byte. */
+void broken_before_anything(void)
+{
+    static const size_t places[] = {AT_SOCKETS, AT_CLIENT_COUNT, AT_RANGE_COUNT,   AT_CARDS,
+                                    AT_LEVELS,  AT_IO,           AT_IRQ,           AT_CLIENTS,
+                                    AT_RANGES,  AT_REST,         CS_TABLE_SIZE - 1};
+    for (size_t i = 0; i < sizeof places / sizeof *places; i++) {
+        lend_broken(places[i]);
+        must_hold("the model refuses it too", !lent_accepted());
+        must_be(register_one(), CS_GENERAL_FAILURE, 0);
+        must_be(register_with(0xFFFF, 0xFFFF), CS_GENERAL_FAILURE, 0);
+        must_be(ask_call(CS_REGISTER_CLIENT, 0, NULL, 0), CS_GENERAL_FAILURE, 0);
+        must_be(deregister(CS_CLIENTS - 1), CS_GENERAL_FAILURE, 0);
+        must_be(deregister(0), CS_GENERAL_FAILURE, 0);
+        must_be(ask_call(0xFFFF, 0, NULL, 0), CS_GENERAL_FAILURE, 0);
+        must_be(ask_card_in(0), CS_GENERAL_FAILURE, 0);
+        must_be(ask_card_in(8), CS_GENERAL_FAILURE, 0);
+        must_be(ask_card_out(0), CS_GENERAL_FAILURE, 0);
+        must_be(ask_card_out(65535), CS_GENERAL_FAILURE, 0);
+        must_be(ask_sharers(0), CS_GENERAL_FAILURE, 0);
+        must_be(ask_sharers(16), CS_GENERAL_FAILURE, 0);
+        must_be(ask_fresh(0), CS_GENERAL_FAILURE, 0);
+        must_be(ask_fresh(3), CS_SUCCESS, 0);
+        must_be(ask_card_in(2), CS_SUCCESS, 0);
+    }
+}
+
+/* ---- Runs ---- */
+
+/* Mostly of the services built; while growing, clients seldom leave. */
+static bool wanted(struct chance *c, uint16_t service, bool growing)
+{
+    if (growing && service == CS_DEREGISTER_CLIENT)
+        return one_in(c, 4);
+    return service_built(service) || one_in(c, 16);
+}
+
+static void ask_request(struct chance *c, bool growing)
+{
+    struct request r;
+    do
+        random_request(c, lent_facts(), &r);
+    while (!wanted(c, r.service, growing));
+    ask_call(r.service, r.handle, r.packet, r.len);
+}
+
+static void random_question(struct chance *c, bool growing)
+{
+    uint16_t near = (uint16_t)pick(c, CS_SOCKETS + 2);
+    switch (pick(c, 12)) {
+    case 0:
+        ask_card_in(near);
+        break;
+    case 1:
+        ask_card_out(near);
+        break;
+    case 2:
+        ask_sharers((uint16_t)pick(c, CS_LEVELS + 2));
+        break;
+    default:
+        ask_request(c, growing);
+    }
+}
+
+static void run_on(struct chance *c, unsigned questions)
+{
+    for (unsigned i = 0; i < questions; i++)
+        random_question(c, i / 50 % 2 == 0);
+}
+
+static void saw_enough(uint32_t code, unsigned long least)
+{
+    must_hold("a run gave each code often enough", answered(code) >= least);
+}
+
+void runs_from_fresh(void)
+{
+    for (uint64_t seed = 1; seed <= 30; seed++) {
+        struct chance c = {seed};
+        lend_fresh((uint8_t)(1 + seed % CS_SOCKETS));
+        run_on(&c, 400);
+        ask_fresh((uint8_t)pick(&c, CS_SOCKETS + 2));
+    }
+    saw_enough(CS_SUCCESS, 2000);
+    saw_enough(CS_BAD_ATTRIBUTE, 100);
+    saw_enough(CS_BAD_SOCKET, 100);
+    saw_enough(CS_BAD_IRQ, 50);
+    saw_enough(CS_BAD_ARG_LENGTH, 50);
+    saw_enough(CS_BAD_HANDLE, 50);
+    saw_enough(CS_UNSUPPORTED_SERVICE, 25);
+    saw_enough(CS_OUT_OF_RESOURCE, 25);
+}
+
+/* Sets with grants and masks, which the archive cannot make yet. */
+void runs_from_sets(void)
+{
+    static struct model m;
+    for (uint64_t seed = 101; seed <= 220; seed++) {
+        struct chance c = {seed};
+        random_set(&c, &m);
+        lend_set(&m);
+        run_on(&c, 50);
+    }
+    saw_enough(CS_SUCCESS, 1000);
+    saw_enough(CS_IN_USE, 100);
+    saw_enough(CS_OUT_OF_RESOURCE, 10);
+}

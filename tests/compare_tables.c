@@ -1,0 +1,366 @@
+#include <string.h>
+
+#include "check.h"
+#include "clauses.h"
+#include "compare.h"
+#include "layout.h"
+#include "sets.h"
+
+/* Whether the archive takes the lent bytes as a table: cs_sharers answers 00
+   or 19, and changes no byte. */
+static void table_is(bool good)
+{
+    uint32_t answer = ask_sharers(0);
+    must_be(CS_CODE(answer), good ? CS_SUCCESS : CS_GENERAL_FAILURE, 0);
+}
+
+static void set_is(const struct model *m, bool good)
+{
+    lend_set(m);
+    table_is(good);
+}
+
+/* ---- Sets written by hand, on both sides of a limit ---- */
+
+/* Two sockets, clients 1 and 2, levels 3 and 4, all ports managed. */
+static struct model two_sockets(void)
+{
+    struct model m;
+    model_fresh(&m, 2);
+    m.issued = m.clients = 2;
+    m.client[0] = (struct client){.handle = 1, .attributes = CS_IO_CLIENT};
+    m.client[1] = (struct client){.handle = 2, .attributes = CS_MEMORY_CLIENT};
+    m.level[3].managed = m.level[4].managed = true;
+    m.range[m.ranges++] = (struct range){0, PORTS, false};
+    return m;
+}
+
+static void handles_by_hand(void)
+{
+    struct model m = two_sockets();
+    set_is(&m, true);
+    m.issued = 1;
+    set_is(&m, false);
+    m.issued = CS_HANDLES;
+    m.client[1].handle = CS_HANDLES;
+    set_is(&m, true);
+    m.client[1].handle = 1;
+    set_is(&m, false);
+    m.client[1].handle = 0;
+    set_is(&m, false);
+}
+
+static void limits_by_hand(void)
+{
+    struct model m;
+    for (unsigned sockets = 0; sockets <= 255; sockets += sockets < 10 ? 1 : 49) {
+        model_fresh(&m, 1);
+        m.sockets = sockets;
+        set_is(&m, sockets >= 1 && sockets <= 8);
+    }
+    full_set(&m, CS_CLIENTS);
+    set_is(&m, true);
+    full_set(&m, 8);
+    set_is(&m, true);
+    m.issued = 7;
+    set_is(&m, false);
+}
+
+static void masks_by_hand(void)
+{
+    struct model m = two_sockets();
+    m.client[0].masks[1] = (struct mask){true, 0};
+    set_is(&m, true);
+    m.client[0].masks[1].events = 0x0FFF;
+    set_is(&m, true);
+    m.client[0].masks[1].events = 0x1000;
+    set_is(&m, false);
+    m.client[0].masks[1] = (struct mask){false, 0};
+    m.client[0].masks[2] = (struct mask){true, 0};
+    set_is(&m, false);
+}
+
+static void one_range_is(uint32_t base, uint32_t count, bool good)
+{
+    struct model m;
+    model_fresh(&m, 1);
+    m.range[m.ranges++] = (struct range){base, count, true};
+    set_is(&m, good);
+}
+
+/* Beside a range of 300, 16. */
+static void second_range_is(uint32_t base, uint32_t count, bool good)
+{
+    struct model m;
+    model_fresh(&m, 1);
+    m.range[0] = (struct range){0x300, 16, false};
+    m.range[1] = (struct range){base, count, false};
+    m.ranges = 2;
+    set_is(&m, good);
+}
+
+static void ranges_by_hand(void)
+{
+    one_range_is(0, PORTS, true);
+    one_range_is(0, PORTS + 1, false);
+    one_range_is(0, 0, false);
+    one_range_is(1, PORTS, false);
+    one_range_is(0xFFFF, 1, true);
+    one_range_is(0xFFFF, 2, false);
+    one_range_is(0xFFF8, 8, true);
+    one_range_is(0xFFF9, 8, false);
+    one_range_is(8, 0xFFFFFFFF, false);
+    one_range_is(8, 0x80000001, false);
+    second_range_is(0x310, 1, true);
+    second_range_is(0x30F, 1, false);
+    second_range_is(0x2FF, 1, true);
+    second_range_is(0x2FF, 2, false);
+    second_range_is(0x300, 16, false);
+    second_range_is(0x304, 2, false);
+    second_range_is(0x200, 0x200, false);
+}
+
+static void one_io_grant_is(uint16_t base, uint8_t count, uint8_t lines, bool good)
+{
+    struct model m = two_sockets();
+    m.io[1] = (struct io_grant){true, 2, base, count, lines, false};
+    set_is(&m, good);
+}
+
+static void io_grants_by_hand(void)
+{
+    one_io_grant_is(1, 1, 16, true);
+    one_io_grant_is(0, 1, 16, false);
+    one_io_grant_is(1, 255, 16, true);
+    one_io_grant_is(1, 0, 16, false);
+    one_io_grant_is(1, 255, 8, true);
+    one_io_grant_is(1, 255, 7, false);
+    one_io_grant_is(1, 128, 7, true);
+    one_io_grant_is(1, 129, 7, false);
+    one_io_grant_is(1, 2, 1, true);
+    one_io_grant_is(1, 3, 1, false);
+    one_io_grant_is(1, 1, 0, false);
+    one_io_grant_is(1, 1, 17, false);
+    one_io_grant_is(1, 1, 255, false);
+    one_io_grant_is(0xFFFF, 1, 16, true);
+    one_io_grant_is(0xFFFF, 2, 16, false);
+    one_io_grant_is(0xFF01, 255, 16, true);
+    one_io_grant_is(0xFF02, 255, 16, false);
+}
+
+/* A grant's ports may lie in two ranges, and not in the gap between two. */
+static void managed_ports_by_hand(void)
+{
+    struct model m = two_sockets();
+    m.range[0] = (struct range){0x308, 8, true};
+    m.range[1] = (struct range){0x300, 8, false};
+    m.ranges = 2;
+    m.io[0] = (struct io_grant){true, 1, 0x300, 16, 10, false};
+    set_is(&m, true);
+    m.io[0].count = 17;
+    set_is(&m, false);
+    m.io[0] = (struct io_grant){true, 1, 0x2FF, 2, 10, false};
+    set_is(&m, false);
+    m.io[0] = (struct io_grant){true, 1, 0x307, 2, 10, false};
+    set_is(&m, true);
+    m.range[0].base = 0x309;
+    set_is(&m, false);
+}
+
+static void grants_clients_by_hand(void)
+{
+    struct model m = two_sockets();
+    m.io[0] = (struct io_grant){true, 3, 0x300, 8, 16, false};
+    set_is(&m, false);
+    m.io[0].client = 2;
+    m.irq[0] = (struct irq_grant){true, 3, 3, EXCLUSIVE};
+    set_is(&m, false);
+    m.irq[0].client = 2;
+    set_is(&m, true);
+    m.irq[0].level = 5;
+    set_is(&m, false);
+    m.irq[0].level = 4;
+    set_is(&m, true);
+    m.irq[0].manner = DYNAMIC_PULSE;
+    set_is(&m, true);
+    m.irq[0].manner = MANNERS;
+    set_is(&m, false);
+    m.irq[2] = m.irq[0];
+    m.irq[0] = (struct irq_grant){0};
+    m.irq[2].manner = EXCLUSIVE;
+    set_is(&m, false);
+}
+
+/* N1 to N4, as two grants of one table that do not share, or that do. */
+static void two_io_grants_are(struct io_grant a, struct io_grant b, bool met)
+{
+    struct model m = two_sockets();
+    for (unsigned sharing = 0; sharing < 4; sharing++) {
+        a.shared = sharing % 2 == 1;
+        b.shared = sharing / 2 == 1;
+        m.io[0] = a;
+        m.io[1] = b;
+        set_is(&m, !met || sharing == 3);
+        m.io[0] = b;
+        m.io[1] = a;
+        set_is(&m, !met || sharing == 3);
+    }
+}
+
+static struct io_grant ports(uint16_t base, uint8_t count, uint8_t lines)
+{
+    return (struct io_grant){true, 1, base, count, lines, false};
+}
+
+static void meeting_by_hand(void)
+{
+    two_io_grants_are(ports(0x2F8, 8, 10), ports(0x6F8, 8, 16), true);
+    two_io_grants_are(ports(0x2F8, 8, 16), ports(0x6F8, 8, 16), false);
+    two_io_grants_are(ports(0x3E8, 8, 16), ports(0x3F0, 8, 16), false);
+    two_io_grants_are(ports(0x100, 1, 8), ports(0x200, 1, 16), true);
+    two_io_grants_are(ports(0x300, 8, 16), ports(0x307, 8, 16), true);
+    two_io_grants_are(ports(0x3FF, 2, 16), ports(0x400, 1, 10), true);
+    two_io_grants_are(ports(0x3FE, 2, 16), ports(0x400, 1, 10), false);
+    two_io_grants_are(ports(0x001, 2, 1), ports(0xFFFF, 1, 16), true);
+    two_io_grants_are(ports(0x100, 255, 8), ports(0x2FF, 1, 16), false);
+    two_io_grants_are(ports(0x100, 255, 8), ports(0x2FE, 1, 16), true);
+}
+
+void written_sets(void)
+{
+    handles_by_hand();
+    limits_by_hand();
+    masks_by_hand();
+    ranges_by_hand();
+    io_grants_by_hand();
+    managed_ports_by_hand();
+    grants_clients_by_hand();
+    meeting_by_hand();
+}
+
+/* ---- Random sets, and the same with one clause broken ---- */
+
+void random_sets(void)
+{
+    static struct model m;
+    struct chance c = {11};
+    for (unsigned i = 0; i < 500; i++) {
+        random_set(&c, &m);
+        set_is(&m, true);
+        ask_sharers((uint16_t)pick(&c, CS_LEVELS));
+    }
+}
+
+void broken_clauses(void)
+{
+    static uint8_t image[CS_TABLE_SIZE];
+    struct chance c = {12};
+    for (unsigned clause = 0; clause < clauses(); clause++)
+        for (unsigned tries = 0; tries < 60; tries++) {
+            break_clause(&c, clause, image);
+            lend_bytes(image, sizeof image);
+            describe("broken: %s", clause_name(clause));
+            table_is(false);
+        }
+    must_hold("every one was refused", answered(CS_SUCCESS) == 0);
+}
+
+/* ---- Pairs of grants ---- */
+
+/* Two I/O grants near each other or near an alias of each other. */
+void meeting_grants(void)
+{
+    struct chance c = {13};
+    for (unsigned i = 0; i < 4000; i++) {
+        struct model m = two_sockets();
+        struct io_grant a = ports((uint16_t)(1 + pick(&c, PORTS - 256)),
+                                  (uint8_t)(1 + pick(&c, 255)), (uint8_t)(1 + pick(&c, LINES)));
+        struct io_grant b = ports(0, (uint8_t)(1 + pick(&c, one_in(&c, 2) ? 8 : 255)),
+                                  (uint8_t)(1 + pick(&c, LINES)));
+        unsigned smaller = a.lines < b.lines ? a.lines : b.lines;
+        uint32_t alias = a.base + (pick(&c, PORTS) << smaller);
+        b.base = (uint16_t)(alias + (one_in(&c, 2) ? a.count : 0u - b.count) + pick(&c, 5) - 2);
+        a.shared = one_in(&c, 3);
+        b.shared = one_in(&c, 3);
+        m.io[0] = a;
+        m.io[1] = b;
+        lend_set(&m);
+        describe("grants %04X, %u ports, %u lines, shared %d and %04X, %u, %u, %d", a.base, a.count,
+                 a.lines, a.shared, b.base, b.count, b.lines, b.shared);
+        ask_sharers(0);
+    }
+    must_hold("some were accepted", answered(CS_SUCCESS) >= 500);
+    must_hold("some were refused", answered(CS_GENERAL_FAILURE) >= 500);
+}
+
+/* "Only equal ones, and never exclusive", on each level and pair of sockets. */
+void manners_on_a_level(void)
+{
+    struct model m;
+    for (unsigned pair = 0; pair < MANNERS * MANNERS; pair++)
+        for (unsigned s = 1; s < CS_SOCKETS; s++) {
+            uint8_t a = (uint8_t)(pair / MANNERS), b = (uint8_t)(pair % MANNERS);
+            full_set(&m, CS_CLIENTS);
+            memset(m.irq, 0, sizeof m.irq);
+            m.irq[s / 2] = (struct irq_grant){true, 1, (uint8_t)(2 * s), a};
+            m.irq[s] = (struct irq_grant){true, 2, (uint8_t)(2 * s), b};
+            bool together = a == b && a != EXCLUSIVE;
+            set_is(&m, together);
+            must_be(ask_sharers((uint16_t)(2 * s)), together ? CS_SUCCESS : CS_GENERAL_FAILURE,
+                    together ? 2 : 0);
+            m.irq[s].level ^= 1;
+            set_is(&m, true);
+        }
+}
+
+/* ---- Single bytes ---- */
+
+static void damage(const uint8_t *image, size_t at, uint8_t value)
+{
+    static uint8_t damaged[CS_TABLE_SIZE];
+    if (value == image[at])
+        return;
+    memcpy(damaged, image, CS_TABLE_SIZE);
+    damaged[at] = value;
+    lend_bytes(damaged, CS_TABLE_SIZE);
+    describe("byte %u changed from %02X to %02X", (unsigned)at, image[at], value);
+    ask_sharers(0);
+}
+
+static void damage_facts(struct chance *c, const uint8_t *image)
+{
+    for (size_t at = 0; at < AT_REST; at++) {
+        damage(image, at, image[at] ^ 1);
+        damage(image, at, (uint8_t)(image[at] + 1));
+        damage(image, at, image[at] ^ 0x10);
+        damage(image, at, 0);
+        damage(image, at, (uint8_t)pick(c, 256));
+    }
+}
+
+static void damage_rest(const uint8_t *image, size_t from)
+{
+    for (size_t at = AT_REST + from; at < CS_TABLE_SIZE; at += 2)
+        damage(image, at, (uint8_t)(1u << at % 8));
+}
+
+void damaged_bytes(void)
+{
+    static struct model m;
+    static uint8_t image[CS_TABLE_SIZE];
+    struct chance c = {14};
+    for (unsigned which = 0; which < 8; which++) {
+        if (which == 0)
+            model_fresh(&m, CS_SOCKETS);
+        else if (which == 1)
+            full_set(&m, CS_CLIENTS);
+        else
+            random_set(&c, &m);
+        model_image(&m, image);
+        damage_facts(&c, image);
+        if (which < 2)
+            damage_rest(image, which);
+    }
+    must_hold("some were still tables", answered(CS_SUCCESS) >= 300);
+    must_hold("most were none", answered(CS_GENERAL_FAILURE) >= 15000);
+}

@@ -1,0 +1,27 @@
+#include "card_services.h"
+
+static uint8_t table[CS_TABLE_SIZE];
+
+int main(void)
+{
+    uint8_t packet[CS_REGISTER_CLIENT_LENGTH] = {0};
+    uint32_t answer;
+    uint16_t client;
+
+    if (cs_fresh(table, sizeof table, 2) != CS_SUCCESS)
+        return 1;
+    if (cs_card_in(table, sizeof table, 0) != CS_SUCCESS)
+        return 1;
+
+    packet[0] = CS_IO_CLIENT;
+    packet[2] = 0x80; // events: Card Detect Change
+    answer = cs_call(table, sizeof table, CS_REGISTER_CLIENT, 0,
+                     packet, sizeof packet);
+    if (CS_CODE(answer) != CS_SUCCESS)
+        return 1;
+    client = CS_HANDLE(answer);
+
+    answer = cs_call(table, sizeof table, CS_DEREGISTER_CLIENT, client,
+                     NULL, CS_DEREGISTER_CLIENT_LENGTH);
+    return CS_CODE(answer) == CS_SUCCESS ? 0 : 1;
+}

@@ -1,0 +1,105 @@
+/*
+ * model.h: document 01 once more, in plain C
+ *
+ * Written from document 01 and the volume alone, for comparison with the
+ * proved library: a set of facts and the rules over it. It has all nine
+ * services and the five host calls, also those that the archive lacks.
+ */
+#ifndef MODEL_H
+#define MODEL_H
+
+#include <stdbool.h>
+#include <stddef.h>
+#include <stdint.h>
+
+#include "card_services.h"
+
+/* The services of document 01 that card_services.h does not have yet. */
+#define CS_ADJUST_RESOURCE_INFO 0x35
+#define CS_REQUEST_IRQ 0x20
+#define CS_RELEASE_IRQ 0x1C
+#define CS_REQUEST_IO 0x1F
+#define CS_RELEASE_IO 0x1B
+#define CS_REQUEST_SOCKET_MASK 0x22
+#define CS_RELEASE_SOCKET_MASK 0x2F
+
+/* "Up to 32 managed I/O ranges", ports 0 to FFFF, lines 1 to 16. */
+#define RANGES 32
+#define PORTS 65536
+#define LINES 16
+
+/* "Four manners: exclusive, time-multiplexed, dynamic level, dynamic pulse." */
+enum manner { EXCLUSIVE, TIME_MULTIPLEXED, DYNAMIC_LEVEL, DYNAMIC_PULSE, MANNERS };
+
+struct mask {
+    bool held;
+    uint16_t events;
+};
+
+struct client {
+    uint16_t handle;
+    uint16_t attributes;
+    uint16_t event_mask;
+    struct mask masks[CS_SOCKETS]; /* by socket */
+};
+
+struct level {
+    bool managed;
+    bool reserved;
+};
+
+struct range {
+    uint32_t base;
+    uint32_t count;
+    bool reserved;
+};
+
+struct io_grant {
+    bool live;
+    uint16_t client;
+    uint16_t base;
+    uint8_t count;
+    uint8_t lines;
+    bool shared;
+};
+
+struct irq_grant {
+    bool live;
+    uint16_t client;
+    uint8_t level;
+    uint8_t manner;
+};
+
+/* What a table says. The order of clients and of ranges says nothing. */
+struct model {
+    unsigned sockets;
+    bool card[CS_SOCKETS];
+    unsigned issued;
+    unsigned clients;
+    struct client client[CS_CLIENTS];
+    struct level level[CS_LEVELS];
+    unsigned ranges;
+    struct range range[RANGES];
+    struct io_grant io[CS_SOCKETS];   /* by socket */
+    struct irq_grant irq[CS_SOCKETS]; /* by socket */
+};
+
+/* The rules that cases and well-formed sets speak of. */
+bool meet(const struct io_grant *a, const struct io_grant *b);
+bool go_together(uint8_t a, uint8_t b);
+bool well_formed(const struct model *m);
+
+/* The entries, over a well-formed set; packed as in card_services.h. */
+uint32_t model_fresh(struct model *m, uint8_t sockets);
+uint32_t model_card_in(struct model *m, uint16_t socket);
+uint32_t model_card_out(struct model *m, uint16_t socket);
+uint32_t model_sharers(const struct model *m, uint16_t level);
+uint32_t model_call(struct model *m, uint16_t service, uint16_t handle, uint8_t *packet,
+                    size_t packet_len);
+
+/* Boot records of ten bytes: type, attributes, base or level (4), ports (4).
+   Answers code + 2^32 * place. */
+#define BOOT_RECORD 10
+uint64_t model_boot(struct model *m, const uint8_t *records, size_t len);
+
+#endif

@@ -1,0 +1,677 @@
+/*
+ * model_cases.c: document 01's cases by number, and both sides of its rules,
+ * run against the model alone
+ */
+#include <stdio.h>
+#include <string.h>
+
+#include "layout.h"
+#include "names.h"
+#include "sets.h"
+
+static unsigned long checks, failed;
+
+static void expect(const char *what, bool holds)
+{
+    checks++;
+    if (!holds) {
+        failed++;
+        printf("model_cases: not so: %s\n", what);
+    }
+}
+
+static void expect_code(const char *what, uint32_t answer, uint32_t code)
+{
+    checks++;
+    if (CS_CODE(answer) != code) {
+        failed++;
+        printf("model_cases: %s: expected %s, got %s\n", what, code_name(code),
+               code_name(CS_CODE(answer)));
+    }
+}
+
+/* ---- Short ways to ask ---- */
+
+enum { RESERVE = 0x40 };
+
+static uint32_t adjust(struct model *m, const uint8_t *packet, size_t len)
+{
+    uint8_t copy[12] = {0};
+    memcpy(copy, packet, len);
+    return model_call(m, CS_ADJUST_RESOURCE_INFO, 0, copy, len);
+}
+
+static uint32_t add_irq(struct model *m, uint8_t level, uint8_t attributes)
+{
+    return adjust(m, (uint8_t[]){1, 2, attributes, level}, 4);
+}
+
+/* Action 0 or 1 over an I/O range, in the short and in the long form. */
+static uint32_t short_io(struct model *m, uint8_t action, uint16_t base, uint8_t ports,
+                         uint8_t attributes)
+{
+    return adjust(
+        m, (uint8_t[]){action, 1, (uint8_t)base, (uint8_t)(base >> 8), ports, attributes, 16}, 7);
+}
+
+static uint32_t long_io(struct model *m, uint8_t action, uint32_t base, uint32_t ports)
+{
+    uint8_t packet[12] = {action, 1};
+    for (unsigned i = 0; i < 4; i++) {
+        packet[2 + i] = (uint8_t)(base >> 8 * i);
+        packet[6 + i] = (uint8_t)(ports >> 8 * i);
+    }
+    packet[11] = 16;
+    return adjust(m, packet, sizeof packet);
+}
+
+static uint32_t add_io(struct model *m, uint16_t base, uint8_t ports)
+{
+    return short_io(m, 1, base, ports, 0);
+}
+
+static uint32_t register_io_client(struct model *m)
+{
+    uint8_t packet[CS_REGISTER_CLIENT_LENGTH] = {CS_IO_CLIENT};
+    return model_call(m, CS_REGISTER_CLIENT, 0, packet, sizeof packet);
+}
+
+static uint32_t deregister(struct model *m, uint16_t handle)
+{
+    return model_call(m, CS_DEREGISTER_CLIENT, handle, NULL, 0);
+}
+
+/* AssignedIRQ is told, or FF for a refusal. */
+static uint32_t request_irq(struct model *m, uint8_t socket, uint16_t attributes, uint8_t info_1,
+                            uint16_t info_2, uint8_t *assigned)
+{
+    uint8_t packet[8] = {socket, 0,      (uint8_t)attributes, (uint8_t)(attributes >> 8),
+                         0xFF,   info_1, (uint8_t)info_2,     (uint8_t)(info_2 >> 8)};
+    uint32_t answer = model_call(m, CS_REQUEST_IRQ, 1, packet, sizeof packet);
+    *assigned = packet[4];
+    return answer;
+}
+
+static uint32_t request_irq_code(struct model *m, uint8_t socket, uint16_t attributes,
+                                 uint8_t info_1, uint16_t info_2)
+{
+    uint8_t assigned;
+    return request_irq(m, socket, attributes, info_1, info_2, &assigned);
+}
+
+static uint32_t release_irq(struct model *m, uint8_t socket, uint16_t handle, uint8_t type,
+                            uint8_t level)
+{
+    return model_call(m, CS_RELEASE_IRQ, handle, (uint8_t[]){socket, 0, type, 0xFF, level}, 5);
+}
+
+/* BasePort1 is told. */
+static uint32_t request_io(struct model *m, uint8_t socket, uint16_t base, uint8_t ports,
+                           uint8_t attributes, uint8_t lines, uint16_t *given)
+{
+    uint8_t packet[11] = {socket, 0,          (uint8_t)base, (uint8_t)(base >> 8),
+                          ports,  attributes, 0xAA,          0xAA,
+                          0,      0xFF,       lines};
+    uint32_t answer = model_call(m, CS_REQUEST_IO, 1, packet, sizeof packet);
+    *given = (uint16_t)(packet[2] | packet[3] << 8);
+    return answer;
+}
+
+static uint32_t request_io_code(struct model *m, uint8_t socket, uint16_t base, uint8_t ports,
+                                uint8_t attributes, uint8_t lines)
+{
+    uint16_t given;
+    return request_io(m, socket, base, ports, attributes, lines, &given);
+}
+
+static uint32_t release_io(struct model *m, uint8_t socket, uint16_t handle, uint16_t base,
+                           uint8_t ports, uint8_t ports_2)
+{
+    uint8_t packet[11] = {
+        socket, 0, (uint8_t)base, (uint8_t)(base >> 8), ports, 0xFF, 0xAA, 0xAA, ports_2, 0xFF, 0};
+    return model_call(m, CS_RELEASE_IO, handle, packet, sizeof packet);
+}
+
+/* Eight sockets with cards and clients 1 and 2. */
+static void ready(struct model *m)
+{
+    model_fresh(m, CS_SOCKETS);
+    for (uint16_t s = 0; s < CS_SOCKETS; s++)
+        model_card_in(m, s);
+    register_io_client(m);
+    register_io_client(m);
+}
+
+/* "Levels 3 and 5 managed, 5 reserved." */
+static void ready_n6(struct model *m)
+{
+    ready(m);
+    add_irq(m, 3, 0);
+    add_irq(m, 5, RESERVE);
+}
+
+/* ---- N1 to N12 ---- */
+
+static struct io_grant ports(uint16_t base, uint8_t count, uint8_t lines)
+{
+    return (struct io_grant){true, 1, base, count, lines, false};
+}
+
+static bool two_meet(struct io_grant a, struct io_grant b)
+{
+    return meet(&a, &b) && meet(&b, &a);
+}
+
+static bool neither_meets(struct io_grant a, struct io_grant b)
+{
+    return !meet(&a, &b) && !meet(&b, &a);
+}
+
+static void n1_to_n4(void)
+{
+    expect("N1", two_meet(ports(0x2F8, 8, 10), ports(0x6F8, 8, 16)));
+    expect("N2", neither_meets(ports(0x2F8, 8, 16), ports(0x6F8, 8, 16)));
+    expect("N3", neither_meets(ports(0x3E8, 8, 16), ports(0x3F0, 8, 16)));
+    expect("N4", two_meet(ports(0x100, 1, 8), ports(0x200, 1, 16)));
+}
+
+static void n5(void)
+{
+    struct model m;
+    ready(&m);
+    expect_code("N5 FFF9", add_io(&m, 0xFFF9, 8), CS_BAD_BASE);
+    expect_code("N5 FFF8", add_io(&m, 0xFFF8, 8), CS_SUCCESS);
+}
+
+static void n6(void)
+{
+    struct model m;
+    uint8_t assigned;
+    ready_n6(&m);
+    expect_code("N6 first", request_irq(&m, 0, 0, 0x30, 0x0028, &assigned), CS_SUCCESS);
+    expect("N6 first is 3", assigned == 3);
+    expect_code("N6 second", request_irq(&m, 1, 0, 0x30, 0x0028, &assigned), CS_SUCCESS);
+    expect("N6 second is 5", assigned == 5);
+    expect_code("N6 third", request_irq(&m, 2, 0, 0x30, 0x0028, &assigned), CS_BAD_IRQ);
+    expect("N6 third keeps the packet", assigned == 0xFF);
+}
+
+static void n7(void)
+{
+    struct model m;
+    ready_n6(&m);
+    expect_code("N7 dynamic level", request_irq_code(&m, 0, 2, 0xA3, 0), CS_SUCCESS);
+    expect_code("N7 time-multiplexed", request_irq_code(&m, 1, 1, 0xA3, 0), CS_BAD_IRQ);
+    expect_code("N7 dynamic level again", request_irq_code(&m, 1, 2, 0xA3, 0), CS_SUCCESS);
+    expect("N7 two sharers", model_sharers(&m, 3) == 2u << 16);
+}
+
+static void n8_n9(void)
+{
+    struct model m;
+    uint16_t given;
+    ready(&m);
+    add_io(&m, 0x300, 16);
+    expect_code("N8 held", request_io(&m, 0, 0x300, 8, 0, 16, &given), CS_SUCCESS);
+    expect_code("N8", request_io(&m, 1, 0, 8, 0, 16, &given), CS_SUCCESS);
+    expect("N8 gives 308", given == 0x308);
+    ready(&m);
+    add_io(&m, 0x302, 11);
+    expect_code("N9", request_io(&m, 0, 0, 5, 0, 16, &given), CS_SUCCESS);
+    expect("N9 gives 308", given == 0x308);
+}
+
+static void n10(void)
+{
+    struct model m;
+    model_fresh(&m, 1);
+    expect("N10 first", register_io_client(&m) == 1u << 16);
+    expect("N10 deregister", deregister(&m, 1) == 1u << 16);
+    expect("N10 second", register_io_client(&m) == 2u << 16);
+}
+
+static void n11(void)
+{
+    struct model m;
+    uint8_t level[8] = {0, 0, 2, 0, 0, 0xB0, 0x28, 0}, pulse[8] = {0, 0, 2, 0, 0, 0xD0, 0x28, 0};
+    ready_n6(&m);
+    expect("N11 level", model_call(&m, CS_REQUEST_IRQ, 1, level, 8) == 1u << 16);
+    expect("N11 level's packet", memcmp(level, "\x00\x00\x02\x00\x03\xB0\x28\x00", 8) == 0);
+    ready_n6(&m);
+    expect("N11 pulse", model_call(&m, CS_REQUEST_IRQ, 1, pulse, 8) == 1u << 16);
+    expect("N11 pulse's packet", memcmp(pulse, "\x00\x00\x02\x01\x03\xD0\x28\x00", 8) == 0);
+}
+
+static void n12(void)
+{
+    struct model m;
+    uint8_t packet[7] = {2, 1, 0xFF, 0xFF, 0xFF, 0xFF, 0xFF};
+    ready(&m);
+    add_io(&m, 0x300, 16);
+    expect("N12", model_call(&m, CS_ADJUST_RESOURCE_INFO, 7, packet, 7) == 0);
+    expect("N12's packet", memcmp(packet, "\x02\x01\x00\x03\x10\x00\x10", 7) == 0);
+}
+
+/* ---- Rules beside the numbered cases ---- */
+
+/* The rule by its letter: every port of one against every port of the other. */
+static bool meet_by_letter(const struct io_grant *a, const struct io_grant *b)
+{
+    unsigned smaller = a->lines < b->lines ? a->lines : b->lines;
+    for (unsigned i = 0; i < a->count; i++)
+        for (unsigned j = 0; j < b->count; j++)
+            if ((a->base + i) % (1u << smaller) == (b->base + j) % (1u << smaller))
+                return true;
+    return false;
+}
+
+static void meeting(void)
+{
+    struct chance c = {1};
+    for (unsigned i = 0; i < 3000; i++) {
+        struct io_grant a = ports((uint16_t)pick(&c, PORTS), (uint8_t)(1 + pick(&c, 20)),
+                                  (uint8_t)(1 + pick(&c, LINES)));
+        struct io_grant b = ports((uint16_t)(a.base + (1u << a.lines) + pick(&c, 64) - 32),
+                                  (uint8_t)(1 + pick(&c, 20)), (uint8_t)(1 + pick(&c, LINES)));
+        expect("meeting by its letter", meet(&a, &b) == meet_by_letter(&a, &b));
+    }
+}
+
+static void manners(void)
+{
+    static const bool table[MANNERS][MANNERS] = {
+        {false, false, false, false},
+        {false, true, false, false},
+        {false, false, true, false},
+        {false, false, false, true},
+    };
+    for (uint8_t a = 0; a < MANNERS; a++)
+        for (uint8_t b = 0; b < MANNERS; b++)
+            expect("four by four", go_together(a, b) == table[a][b]);
+}
+
+static void request_irq_codes(void)
+{
+    static const struct {
+        const char *what;
+        uint16_t attributes;
+        uint8_t info_1;
+        uint16_t info_2;
+        uint32_t code;
+    } cases[] = {
+        {"type 3", 3, 0xA3, 0, CS_BAD_ATTRIBUTE},
+        {"bit 4", 0x10, 0xA3, 0, CS_BAD_ATTRIBUTE},
+        {"bit 8", 0x100, 0xA3, 0, CS_BAD_ATTRIBUTE},
+        {"bit 15", 0x8000, 0xA3, 0, CS_BAD_ATTRIBUTE},
+        {"First Shared with Exclusive", 8, 0xA3, 0, CS_BAD_ATTRIBUTE},
+        {"First Shared with time-multiplexed", 9, 0x23, 0, CS_SUCCESS},
+        {"Force Pulse without Pulse", 4, 0xA3, 0, CS_BAD_ATTRIBUTE},
+        {"Force Pulse with Pulse", 4, 0x43, 0, CS_SUCCESS},
+        {"dynamic without Share", 2, 0x23, 0, CS_BAD_ATTRIBUTE},
+        {"time-multiplexed without Share", 1, 0x23, 0, CS_SUCCESS},
+        {"neither Level nor Pulse", 0, 0x83, 0, CS_BAD_ARGS},
+        {"Mask with bit 0", 0, 0x31, 8, CS_BAD_ARGS},
+        {"Mask with bit 3", 0, 0x38, 8, CS_BAD_ARGS},
+        {"Mask with IRQInfo2 0", 0, 0x30, 0, CS_BAD_ARGS},
+        {"Mask clear, IRQInfo2 ignored", 0, 0x23, 0x0020, CS_SUCCESS},
+        {"a level that is not managed", 0, 0x24, 0, CS_BAD_IRQ},
+        {"levels that are not managed", 0, 0x30, 0xFFD7, CS_BAD_IRQ},
+    };
+    for (size_t i = 0; i < sizeof cases / sizeof *cases; i++) {
+        struct model m;
+        ready_n6(&m);
+        expect_code(cases[i].what,
+                    request_irq_code(&m, 0, cases[i].attributes, cases[i].info_1, cases[i].info_2),
+                    cases[i].code);
+    }
+}
+
+static void irq_order(void)
+{
+    struct model m;
+    uint8_t assigned;
+    ready_n6(&m);
+    model_card_out(&m, 1);
+    expect_code("no card before type 3", request_irq_code(&m, 1, 3, 0xA3, 0), CS_NO_CARD);
+    expect_code("socket 8", request_irq_code(&m, 8, 3, 0xA3, 0), CS_BAD_SOCKET);
+    request_irq(&m, 0, 2, 0xB0, 0x0028, &assigned);
+    expect_code("a second grant on the socket", request_irq_code(&m, 0, 2, 0xB0, 0x0028),
+                CS_IN_USE);
+    expect_code("BAD_ARGS before it", request_irq_code(&m, 0, 2, 0x80, 0), CS_BAD_ARGS);
+    request_irq(&m, 2, 10, 0xB0, 0x0028, &assigned);
+    expect("First Shared takes a level without a grant", assigned == 5);
+    request_irq(&m, 3, 6, 0xF0, 0x0028, &assigned);
+    expect("dynamic pulse does not join dynamic level", assigned == 0xFF);
+    request_irq(&m, 3, 2, 0xF0, 0x0028, &assigned);
+    expect("dynamic level joins the unreserved level", assigned == 3);
+}
+
+static void irq_release(void)
+{
+    struct model m;
+    ready_n6(&m);
+    request_irq_code(&m, 0, 6, 0xC3, 0);
+    model_card_out(&m, 0);
+    expect_code("another client", release_irq(&m, 0, 2, 2, 3), CS_BAD_IRQ);
+    expect_code("another level", release_irq(&m, 0, 1, 2, 5), CS_BAD_IRQ);
+    expect_code("another socket", release_irq(&m, 1, 1, 2, 3), CS_BAD_IRQ);
+    expect_code("another type", release_irq(&m, 0, 1, 1, 3), CS_BAD_ATTRIBUTE);
+    expect_code("level before type", release_irq(&m, 0, 1, 1, 5), CS_BAD_IRQ);
+    expect_code("no client 3", release_irq(&m, 9, 3, 2, 3), CS_BAD_HANDLE);
+    expect_code("no socket 9", release_irq(&m, 9, 1, 2, 3), CS_BAD_SOCKET);
+    expect_code("remove a held level", adjust(&m, (uint8_t[]){0, 2, 0, 3}, 4), CS_IN_USE);
+    expect_code("deregister a holder", deregister(&m, 1), CS_IN_USE);
+    expect_code("released without a card", release_irq(&m, 0, 1, 2, 3), CS_SUCCESS);
+    expect_code("remove it then", adjust(&m, (uint8_t[]){0, 2, 0, 3}, 4), CS_SUCCESS);
+    expect_code("remove it again", adjust(&m, (uint8_t[]){0, 2, 0, 3}, 4), CS_BAD_IRQ);
+}
+
+static void request_io_codes(void)
+{
+    static const struct {
+        const char *what;
+        uint16_t base;
+        uint8_t ports, attributes, lines;
+        uint32_t code;
+    } cases[] = {
+        {"bit 4", 0x300, 8, 0x10, 16, CS_BAD_ATTRIBUTE},
+        {"bits 2 and 3", 0x300, 8, 0x0C, 16, CS_SUCCESS},
+        {"First Shared without Shared", 0x300, 8, 2, 16, CS_BAD_ATTRIBUTE},
+        {"First Shared with Shared", 0x300, 8, 3, 16, CS_SUCCESS},
+        {"lines 0", 0x300, 1, 0, 0, CS_BAD_ATTRIBUTE},
+        {"lines 1", 0x300, 2, 0, 1, CS_SUCCESS},
+        {"lines 17", 0x300, 1, 0, 17, CS_BAD_ATTRIBUTE},
+        {"no port", 0x300, 0, 0, 16, CS_BAD_SIZE},
+        {"two to the lines", 0x300, 8, 0, 3, CS_SUCCESS},
+        {"over two to the lines", 0x300, 9, 0, 3, CS_BAD_SIZE},
+        {"unmanaged at the end", 0x309, 8, 0, 16, CS_BAD_BASE},
+        {"unmanaged at the start", 0x2FF, 8, 0, 16, CS_BAD_BASE},
+        {"the last of the range", 0x308, 8, 0, 16, CS_SUCCESS},
+        {"up to FFFF", 0xFFF8, 8, 0, 16, CS_SUCCESS},
+        {"past FFFF", 0xFFF9, 8, 0, 16, CS_BAD_BASE},
+        {"over two ranges", 0x300, 24, 0, 16, CS_SUCCESS},
+        {"base 0, no candidate", 0, 33, 0, 16, CS_IN_USE},
+    };
+    for (size_t i = 0; i < sizeof cases / sizeof *cases; i++) {
+        struct model m;
+        ready(&m);
+        add_io(&m, 0x300, 16);
+        add_io(&m, 0xFFF8, 8);
+        if (cases[i].ports == 24)
+            add_io(&m, 0x310, 8);
+        expect_code(cases[i].what,
+                    request_io_code(&m, 0, cases[i].base, cases[i].ports, cases[i].attributes,
+                                    cases[i].lines),
+                    cases[i].code);
+    }
+}
+
+static void io_sharing(void)
+{
+    struct model m;
+    uint16_t given;
+    ready(&m);
+    add_io(&m, 0x2F8, 16);
+    add_io(&m, 0x6F8, 8);
+    request_io(&m, 0, 0x6F8, 8, 1, 10, &given);
+    expect_code("an alias, not shared", request_io_code(&m, 1, 0x2F8, 8, 0, 16), CS_IN_USE);
+    expect_code("an alias, First Shared", request_io_code(&m, 1, 0x2F8, 8, 3, 16), CS_IN_USE);
+    expect_code("an alias, shared", request_io_code(&m, 1, 0x2F8, 8, 1, 16), CS_SUCCESS);
+    expect_code("a second on the socket", request_io_code(&m, 1, 0x300, 8, 1, 16), CS_IN_USE);
+    request_io(&m, 2, 0, 8, 1, 16, &given);
+    expect("base 0 meets no live grant, also if shared", given == 0x300);
+}
+
+static void io_choice(void)
+{
+    struct model m;
+    uint16_t given;
+    ready(&m);
+    short_io(&m, 1, 0x200, 16, RESERVE);
+    short_io(&m, 1, 0x300, 4, 0);
+    short_io(&m, 1, 0x304, 4, RESERVE);
+    request_io(&m, 0, 0, 8, 0, 16, &given);
+    expect("half reserved is not wholly unreserved", given == 0x200);
+    request_io(&m, 1, 0, 4, 0, 16, &given);
+    expect("unreserved first", given == 0x300);
+    request_io(&m, 2, 0, 4, 0, 16, &given);
+    expect("then the lowest reserved", given == 0x208);
+    ready(&m);
+    long_io(&m, 1, 0, PORTS);
+    request_io(&m, 0, 0, 255, 0, 16, &given);
+    expect("a positive multiple", given == 256);
+}
+
+static void io_release(void)
+{
+    struct model m;
+    ready(&m);
+    add_io(&m, 0x300, 16);
+    request_io_code(&m, 0, 0x300, 8, 0, 16);
+    model_card_out(&m, 0);
+    expect_code("another client", release_io(&m, 0, 2, 0x300, 8, 0), CS_BAD_BASE);
+    expect_code("another base", release_io(&m, 0, 1, 0x308, 8, 0), CS_BAD_BASE);
+    expect_code("another count", release_io(&m, 0, 1, 0x300, 7, 0), CS_BAD_BASE);
+    expect_code("another socket", release_io(&m, 1, 1, 0x300, 8, 0), CS_BAD_BASE);
+    expect_code("NumPorts2 before that", release_io(&m, 1, 1, 0x300, 8, 1), CS_BAD_SIZE);
+    expect_code("remove a held range", short_io(&m, 0, 0x300, 16, 0), CS_IN_USE);
+    expect_code("remove a part", short_io(&m, 0, 0x308, 8, 0), CS_BAD_BASE);
+    expect_code("deregister a holder", deregister(&m, 1), CS_IN_USE);
+    expect_code("released without a card", release_io(&m, 0, 1, 0x300, 8, 0), CS_SUCCESS);
+    expect_code("released again", release_io(&m, 0, 1, 0x300, 8, 0), CS_BAD_BASE);
+    expect_code("remove it then", short_io(&m, 0, 0x300, 16, 0), CS_SUCCESS);
+}
+
+static void adjust_codes(void)
+{
+    static const struct {
+        const char *what;
+        uint8_t packet[13];
+        size_t len;
+        uint32_t code;
+    } cases[] = {
+        {"length 1", {9}, 1, CS_BAD_ARG_LENGTH},
+        {"action 4", {4, 0}, 2, CS_BAD_ARGS},
+        {"resource 0", {1, 0}, 2, CS_UNSUPPORTED_SERVICE},
+        {"resource 3", {1, 3}, 2, CS_UNSUPPORTED_SERVICE},
+        {"resource 4", {1, 4}, 2, CS_UNSUPPORTED_SERVICE},
+        {"resource 5", {1, 5}, 2, CS_BAD_ARGS},
+        {"IRQ, length 5", {1, 2, 0, 4, 0}, 5, CS_BAD_ARG_LENGTH},
+        {"I/O, length 8", {1, 1, 0, 1, 8, 0, 16, 0}, 8, CS_BAD_ARG_LENGTH},
+        {"Add IRQ, bit 7", {1, 2, 0x80, 4}, 4, CS_BAD_ATTRIBUTE},
+        {"Add IRQ, bit 6", {1, 2, 0x40, 15}, 4, CS_SUCCESS},
+        {"Remove IRQ, bit 6", {0, 2, 0x40, 3}, 4, CS_BAD_ATTRIBUTE},
+        {"level 16", {1, 2, 0, 16}, 4, CS_BAD_IRQ},
+        {"Add a managed level", {1, 2, 0, 3}, 4, CS_IN_USE},
+        {"lines 15", {1, 1, 0, 1, 8, 0, 15}, 7, CS_BAD_ATTRIBUTE},
+        {"no port", {1, 1, 0, 1, 0, 0, 16}, 7, CS_BAD_SIZE},
+        {"all ports", {1, 1, 0, 0, 0, 0, 0, 0, 1, 0, 0, 16}, 12, CS_IN_USE},
+        {"65,537 ports", {1, 1, 0, 0, 0, 0, 1, 0, 1, 0, 0, 16}, 12, CS_BAD_SIZE},
+        {"base 10000H", {1, 1, 0, 0, 1, 0, 1, 0, 0, 0, 0, 16}, 12, CS_BAD_BASE},
+        {"base FFFFFFFFH", {1, 1, 255, 255, 255, 255, 1, 0, 0, 0, 0, 16}, 12, CS_BAD_BASE},
+        {"beside a range", {1, 1, 0x10, 3, 8, 0x40, 16}, 7, CS_SUCCESS},
+        {"over its last port", {1, 1, 0x0F, 3, 8, 0, 16}, 7, CS_IN_USE},
+        {"Next after the last", {3, 1, 0, 3, 0, 0, 0}, 7, CS_NO_MORE_ITEMS},
+        {"Next after the last level", {3, 2, 0, 5}, 4, CS_NO_MORE_ITEMS},
+        {"Next after level 255", {3, 2, 0, 255}, 4, CS_NO_MORE_ITEMS},
+    };
+    for (size_t i = 0; i < sizeof cases / sizeof *cases; i++) {
+        struct model m;
+        uint8_t packet[13];
+        ready_n6(&m);
+        add_io(&m, 0x300, 16);
+        memcpy(packet, cases[i].packet, sizeof packet);
+        expect_code(cases[i].what,
+                    model_call(&m, CS_ADJUST_RESOURCE_INFO, 77, packet, cases[i].len),
+                    cases[i].code);
+    }
+}
+
+static void shown(void)
+{
+    struct model m;
+    uint8_t level[4] = {2, 2, 0xFF, 0xFF}, range[12] = {3, 1, 0xFF, 2};
+    ready_n6(&m);
+    long_io(&m, 1, 0x300, 256);
+    add_io(&m, 0x100, 255);
+    request_irq_code(&m, 0, 6, 0xC3, 0);
+    request_io_code(&m, 0, 0x308, 8, 1, 16);
+    expect("First level's holder",
+           model_call(&m, CS_ADJUST_RESOURCE_INFO, 9, level, 4) == 1u << 16);
+    expect("First level", memcmp(level, "\x02\x02\x82\x03", 4) == 0);
+    expect_code("First range, 255 ports in short", adjust(&m, (uint8_t[]){2, 1, 0, 0, 0, 0, 0}, 7),
+                CS_SUCCESS);
+    expect_code("Next range, 256 ports in short", adjust(&m, (uint8_t[]){3, 1, 0, 1, 0, 0, 0}, 7),
+                CS_BAD_SIZE);
+    expect("Next range's holder",
+           model_call(&m, CS_ADJUST_RESOURCE_INFO, 9, range, 12) == 1u << 16);
+    expect("Next range",
+           memcmp(range, "\x03\x01\x00\x03\x00\x00\x00\x01\x00\x00\x81\x10", 12) == 0);
+}
+
+/* Clients 2, 1 and 3 hold level 3, and ports of one range, on sockets 0 to 2. */
+static void shown_holders(void)
+{
+    static const uint16_t clients[] = {2, 1, 3};
+    struct model m;
+    uint8_t level[4] = {2, 2}, range[7] = {2, 1};
+    ready_n6(&m);
+    register_io_client(&m);
+    add_io(&m, 0x300, 24);
+    for (unsigned s = 0; s < 3; s++) {
+        m.irq[s] = (struct irq_grant){true, clients[s], 3, TIME_MULTIPLEXED};
+        m.io[s] = (struct io_grant){true, clients[s], (uint16_t)(0x300 + 8 * s), 8, 16, s != 1};
+    }
+    expect("the lowest holder", model_call(&m, CS_ADJUST_RESOURCE_INFO, 9, level, 4) == 1u << 16);
+    expect("their type", level[2] == 0x81);
+    expect("the lowest again", model_call(&m, CS_ADJUST_RESOURCE_INFO, 9, range, 7) == 1u << 16);
+    expect("not all of them share", range[5] == 0x80);
+    m.io[1].shared = true;
+    model_call(&m, CS_ADJUST_RESOURCE_INFO, 9, range, 7);
+    expect("all of them share", range[5] == 0x81);
+}
+
+/* NumPorts2, and a socket's function. */
+static void fields_that_must_be_zero(void)
+{
+    struct model m;
+    uint8_t two_ranges[11] = {0, 0, 0, 3, 8, 0, 0, 0, 1, 0, 16};
+    uint8_t function[11] = {0, 1, 0, 3, 8, 0, 0, 0, 0, 0, 16};
+    ready(&m);
+    add_io(&m, 0x300, 16);
+    expect_code("NumPorts2 not 0", model_call(&m, CS_REQUEST_IO, 1, two_ranges, 11), CS_BAD_SIZE);
+    expect_code("function not 0", model_call(&m, CS_REQUEST_IO, 1, function, 11), CS_BAD_SOCKET);
+    expect_code("nor at a release", model_call(&m, CS_RELEASE_IO, 1, function, 11), CS_BAD_SOCKET);
+}
+
+static void masks(void)
+{
+    struct model m;
+    ready(&m);
+    uint8_t mask[4] = {2, 0, 0xFF, 0x0F}, wide[4] = {2, 0, 0, 0x10};
+    expect_code("mask bit 12", model_call(&m, CS_REQUEST_SOCKET_MASK, 1, wide, 4),
+                CS_BAD_ATTRIBUTE);
+    expect_code("nothing held", model_call(&m, CS_RELEASE_SOCKET_MASK, 1, mask, 2), CS_BAD_SOCKET);
+    expect_code("a mask", model_call(&m, CS_REQUEST_SOCKET_MASK, 1, mask, 4), CS_SUCCESS);
+    expect_code("a second", model_call(&m, CS_REQUEST_SOCKET_MASK, 1, mask, 4), CS_IN_USE);
+    expect_code("another client's", model_call(&m, CS_REQUEST_SOCKET_MASK, 2, mask, 4), CS_SUCCESS);
+    expect_code("deregister a holder", deregister(&m, 1), CS_IN_USE);
+    model_card_out(&m, 2);
+    expect_code("no card", model_call(&m, CS_REQUEST_SOCKET_MASK, 1, mask, 4), CS_NO_CARD);
+    expect_code("released without a card", model_call(&m, CS_RELEASE_SOCKET_MASK, 1, mask, 2),
+                CS_SUCCESS);
+    expect_code("deregister", deregister(&m, 1), CS_SUCCESS);
+}
+
+static void boot_list(void)
+{
+    struct model m;
+    const uint8_t records[] = {
+        2, 0x40, 5,    0,    0, 0, 0xFF, 0xFF, 0xFF, 0xFF, /* level 5, reserved */
+        1, 0,    0xF8, 0xFF, 0, 0, 8,    0,    0,    0,    /* FFF8, 8 */
+        1, 0,    0xFF, 0xFF, 0, 0, 1,    0,    0,    0,    /* FFFF, 1 */
+    };
+    ready(&m);
+    expect("boot, none", model_boot(&m, NULL, 0) == 0);
+    expect("boot, two", model_boot(&m, records, 20) == (uint64_t)2 << 32);
+    expect("boot, what stays", m.level[5].reserved && m.ranges == 1);
+    ready(&m);
+    expect("boot, third in use", model_boot(&m, records, 30) == (CS_IN_USE | (uint64_t)2 << 32));
+    expect("boot, earlier ones stay", m.level[5].reserved && m.ranges == 1);
+    ready(&m);
+    expect("boot, bytes too few",
+           model_boot(&m, records, 19) == (CS_BAD_ARG_LENGTH | (uint64_t)1 << 32));
+}
+
+static void range_limit(void)
+{
+    struct model m;
+    ready(&m);
+    for (uint16_t i = 0; i < RANGES; i++)
+        expect_code("32 ranges", add_io(&m, (uint16_t)(16 * i), 8), CS_SUCCESS);
+    expect_code("the 33rd", add_io(&m, 0x8000, 8), CS_OUT_OF_RESOURCE);
+    expect_code("held comes first", add_io(&m, 0, 8), CS_IN_USE);
+}
+
+/* ---- Runs: every set reached is well formed, a refusal changes nothing, and
+   the image says the set ---- */
+
+static void step(struct chance *c, struct model *m)
+{
+    static uint8_t before[CS_TABLE_SIZE], after[CS_TABLE_SIZE];
+    static struct model read;
+    struct request r, kept;
+    random_request(c, m, &r);
+    kept = r;
+    model_image(m, before);
+    uint32_t answer = model_call(m, r.service, r.handle, r.packet, r.len);
+    model_image(m, after);
+    expect("the set reached is well formed", model_read(after, sizeof after, &read));
+    if (CS_CODE(answer) == CS_SUCCESS)
+        return;
+    expect("a refusal keeps the set", memcmp(before, after, sizeof after) == 0);
+    expect("a refusal keeps the packet", memcmp(kept.packet, r.packet, MOST_PACKET) == 0);
+    expect("a refusal answers handle 0", CS_HANDLE(answer) == 0);
+}
+
+static void runs(void)
+{
+    static struct model m;
+    for (uint64_t seed = 1; seed <= 40; seed++) {
+        struct chance c = {seed};
+        random_set(&c, &m);
+        for (unsigned i = 0; i < 60; i++)
+            step(&c, &m);
+    }
+}
+
+int main(void)
+{
+    n1_to_n4();
+    n5();
+    n6();
+    n7();
+    n8_n9();
+    n10();
+    n11();
+    n12();
+    meeting();
+    manners();
+    request_irq_codes();
+    irq_order();
+    irq_release();
+    request_io_codes();
+    io_sharing();
+    io_choice();
+    io_release();
+    adjust_codes();
+    shown();
+    shown_holders();
+    fields_that_must_be_zero();
+    masks();
+    boot_list();
+    range_limit();
+    runs();
+    printf("model_cases: %lu checks, %lu differ\n", checks, failed);
+    return failed == 0 ? 0 : 1;
+}

@@ -1,0 +1,289 @@
+#include "sets.h"
+
+#include <string.h>
+
+/* ---- Chance ---- */
+
+/* splitmix64 */
+static uint64_t next(struct chance *c)
+{
+    uint64_t z = c->state += 0x9E3779B97F4A7C15u;
+    z = (z ^ z >> 30) * 0xBF58476D1CE4E5B9u;
+    z = (z ^ z >> 27) * 0x94D049BB133111EBu;
+    return z ^ z >> 31;
+}
+
+uint32_t pick(struct chance *c, uint32_t below)
+{
+    return (uint32_t)((next(c) >> 32) * below >> 32);
+}
+
+bool one_in(struct chance *c, uint32_t many)
+{
+    return pick(c, many) == 0;
+}
+
+static uint8_t byte(struct chance *c)
+{
+    return (uint8_t)pick(c, 256);
+}
+
+/* ---- Sets ---- */
+
+void full_set(struct model *m, unsigned clients)
+{
+    model_fresh(m, CS_SOCKETS);
+    m->clients = m->issued = clients;
+    for (unsigned i = 0; i < clients; i++) {
+        m->client[i].handle = (uint16_t)(i + 1);
+        m->client[i].attributes = CS_IO_CLIENT | CS_INSERTION_SHARABLE;
+        m->client[i].event_mask = 0x0FFF;
+        for (unsigned s = 0; s < CS_SOCKETS; s++)
+            m->client[i].masks[s] = (struct mask){true, (uint16_t)(0x080 + s)};
+    }
+    for (unsigned level = 0; level < CS_LEVELS; level++)
+        m->level[level] = (struct level){true, level % 2 == 1};
+    m->ranges = RANGES;
+    for (uint32_t i = 0; i < RANGES; i++)
+        m->range[i] = (struct range){0x100 + 0x40 * i, 0x10, i % 2 == 1};
+    for (unsigned s = 0; s < CS_SOCKETS; s++) {
+        uint16_t client = (uint16_t)(s + 1), base = (uint16_t)(0x100 + 0x40 * (s / 2));
+        m->card[s] = true;
+        m->io[s] = (struct io_grant){true, client, base, 8, 16, true};
+        m->irq[s] = (struct irq_grant){true, client, (uint8_t)(s / 2), DYNAMIC_LEVEL};
+    }
+}
+
+static uint16_t allowed_attributes(struct chance *c)
+{
+    return (uint16_t)(1u << pick(c, 3) | pick(c, 4) << 3);
+}
+
+static void random_client(struct chance *c, struct model *m)
+{
+    struct client *new_one = &m->client[m->clients++];
+    new_one->handle = (uint16_t)(1 + pick(c, m->issued));
+    new_one->attributes = allowed_attributes(c);
+    new_one->event_mask = (uint16_t)pick(c, 0x1000);
+    for (unsigned s = 0; s < m->sockets; s++)
+        if (one_in(c, 3))
+            new_one->masks[s] = (struct mask){true, (uint16_t)pick(c, 0x1000)};
+    if (!well_formed(m))
+        memset(&m->client[--m->clients], 0, sizeof *new_one);
+}
+
+/* A port near those that others use, so that requests meet. */
+static uint32_t some_port(struct chance *c)
+{
+    static const uint32_t known[] = {0,     1,     0x2F8, 0x300,  0x3E8,
+                                     0x3F0, 0x6F8, 0x700, 0xFF00, 0xFFF8};
+    uint32_t base = known[pick(c, sizeof known / sizeof *known)];
+    return one_in(c, 4) ? pick(c, PORTS) : (base + pick(c, 16)) % PORTS;
+}
+
+static uint32_t some_count(struct chance *c)
+{
+    static const uint32_t known[] = {1, 2, 5, 8, 16, 32, 255, 256, 1024};
+    return one_in(c, 4) ? 1 + pick(c, 40) : known[pick(c, sizeof known / sizeof *known)];
+}
+
+static uint8_t some_lines(struct chance *c)
+{
+    static const uint8_t known[] = {16, 16, 10, 12, 8};
+    return one_in(c, 3) ? (uint8_t)(1 + pick(c, LINES)) : known[pick(c, sizeof known)];
+}
+
+static void random_range(struct chance *c, struct model *m)
+{
+    m->range[m->ranges++] = (struct range){some_port(c), some_count(c), one_in(c, 3)};
+    if (!well_formed(m))
+        m->ranges--;
+}
+
+static uint16_t some_client(struct chance *c, const struct model *m)
+{
+    return m->client[pick(c, m->clients)].handle;
+}
+
+/* A part of a managed range, as long as a grant can be. */
+static void random_io_grant(struct chance *c, struct model *m, unsigned socket)
+{
+    const struct range *r = &m->range[pick(c, m->ranges)];
+    uint32_t from = pick(c, r->count), left = r->count - from, count = some_count(c);
+    m->io[socket] = (struct io_grant){
+        .live = true,
+        .client = some_client(c, m),
+        .base = (uint16_t)(r->base + from),
+        .count = (uint8_t)(count < left ? count : left),
+        .lines = some_lines(c),
+        .shared = one_in(c, 2),
+    };
+    if (!well_formed(m))
+        m->io[socket] = (struct io_grant){0};
+}
+
+static void random_irq_grant(struct chance *c, struct model *m, unsigned socket)
+{
+    m->irq[socket] = (struct irq_grant){
+        .live = true,
+        .client = some_client(c, m),
+        .level = (uint8_t)pick(c, CS_LEVELS),
+        .manner = (uint8_t)pick(c, MANNERS),
+    };
+    if (!well_formed(m))
+        m->irq[socket] = (struct irq_grant){0};
+}
+
+static void random_grants(struct chance *c, struct model *m, unsigned socket)
+{
+    for (unsigned tries = pick(c, 4); tries > 0 && m->ranges > 0 && !m->io[socket].live; tries--)
+        random_io_grant(c, m, socket);
+    for (unsigned tries = pick(c, 6); tries > 0 && !m->irq[socket].live; tries--)
+        random_irq_grant(c, m, socket);
+}
+
+void random_set(struct chance *c, struct model *m)
+{
+    model_fresh(m, (uint8_t)(1 + pick(c, CS_SOCKETS)));
+    m->issued = one_in(c, 4) ? 1 + pick(c, CS_HANDLES) : pick(c, 40);
+    for (unsigned s = 0; s < m->sockets; s++)
+        m->card[s] = !one_in(c, 3);
+    for (unsigned level = 0; level < CS_LEVELS; level++) {
+        m->level[level].managed = one_in(c, 2);
+        m->level[level].reserved = m->level[level].managed && one_in(c, 3);
+    }
+    for (unsigned tries = m->issued == 0 ? 0 : pick(c, CS_CLIENTS + 1); tries > 0; tries--)
+        random_client(c, m);
+    if (one_in(c, 8))
+        m->range[m->ranges++] = (struct range){0, PORTS, one_in(c, 2)};
+    for (unsigned tries = pick(c, RANGES); tries > 0; tries--)
+        random_range(c, m);
+    for (unsigned s = 0; m->clients > 0 && s < m->sockets; s++)
+        random_grants(c, m, s);
+}
+
+/* ---- Requests ---- */
+
+static void put(struct request *r, size_t at, size_t size, uint32_t value)
+{
+    for (size_t i = 0; i < size; i++)
+        r->packet[at + i] = (uint8_t)(value >> (8 * i));
+}
+
+static void put_socket(struct chance *c, const struct model *m, struct request *r)
+{
+    r->packet[0] = one_in(c, 16) ? byte(c) : (uint8_t)pick(c, m->sockets + 1);
+    r->packet[1] = one_in(c, 32) ? byte(c) : 0;
+}
+
+static void register_packet(struct chance *c, const struct model *m, struct request *r)
+{
+    (void)m;
+    put(r, 0, 2, one_in(c, 8) ? pick(c, 65536) : allowed_attributes(c));
+    put(r, 2, 2, one_in(c, 8) ? pick(c, 65536) : pick(c, 0x1000));
+}
+
+static void any_packet(struct chance *c, const struct model *m, struct request *r)
+{
+    (void)c, (void)m, (void)r;
+}
+
+static void adjust_packet(struct chance *c, const struct model *m, struct request *r)
+{
+    bool known = m->ranges > 0 && one_in(c, 2), reserve = one_in(c, 3);
+    const struct range *range = &m->range[known ? pick(c, m->ranges) : 0];
+    uint32_t base = known ? range->base : some_port(c),
+             count = known ? range->count : some_count(c);
+    uint8_t attributes = one_in(c, 16) ? byte(c) : reserve ? 0x40 : 0;
+    uint8_t lines = one_in(c, 16) ? byte(c) : LINES;
+    r->packet[0] = one_in(c, 32) ? byte(c) : (uint8_t)pick(c, 4);
+    r->packet[1] = one_in(c, 16) ? (uint8_t)pick(c, 6) : (uint8_t)(1 + pick(c, 2));
+    if (r->packet[1] == 2) {
+        r->len = 4;
+        r->packet[2] = attributes;
+        r->packet[3] = (uint8_t)pick(c, CS_LEVELS + 1);
+    } else if (one_in(c, 2)) {
+        r->len = 7;
+        put(r, 2, 2, base);
+        put(r, 4, 1, count);
+        put(r, 5, 2, attributes | (uint32_t)lines << 8);
+    } else {
+        put(r, 2, 4, one_in(c, 16) ? PORTS + base : base);
+        put(r, 6, 4, one_in(c, 16) ? PORTS + count - 1 : count);
+        put(r, 10, 2, attributes | (uint32_t)lines << 8);
+    }
+}
+
+static void request_irq_packet(struct chance *c, const struct model *m, struct request *r)
+{
+    put_socket(c, m, r);
+    put(r, 2, 2, one_in(c, 16) ? pick(c, 65536) : pick(c, 16));
+    r->packet[5] = (uint8_t)(one_in(c, 2) ? 0xF0 & ~(1u << (4 + pick(c, 4))) : byte(c));
+}
+
+static void release_irq_packet(struct chance *c, const struct model *m, struct request *r)
+{
+    put_socket(c, m, r);
+    const struct irq_grant *g = &m->irq[r->packet[0] % CS_SOCKETS];
+    put(r, 2, 2, one_in(c, 4) ? pick(c, 65536) : g->manner == DYNAMIC_PULSE ? 2 : g->manner);
+    r->packet[4] = one_in(c, 4) ? byte(c) : g->level;
+    r->handle = one_in(c, 4) ? r->handle : g->client;
+}
+
+static void request_io_packet(struct chance *c, const struct model *m, struct request *r)
+{
+    put_socket(c, m, r);
+    put(r, 2, 2, one_in(c, 3) ? 0 : some_port(c));
+    r->packet[4] = (uint8_t)some_count(c);
+    r->packet[5] = one_in(c, 8) ? byte(c) : (uint8_t)pick(c, 16);
+    r->packet[8] = one_in(c, 16) ? byte(c) : 0;
+    r->packet[10] = one_in(c, 16) ? byte(c) : some_lines(c);
+}
+
+static void release_io_packet(struct chance *c, const struct model *m, struct request *r)
+{
+    put_socket(c, m, r);
+    const struct io_grant *g = &m->io[r->packet[0] % CS_SOCKETS];
+    put(r, 2, 2, one_in(c, 8) ? some_port(c) : g->base);
+    r->packet[4] = one_in(c, 8) ? byte(c) : g->count;
+    r->packet[8] = one_in(c, 16) ? byte(c) : 0;
+    r->handle = one_in(c, 4) ? r->handle : g->client;
+}
+
+static void request_mask_packet(struct chance *c, const struct model *m, struct request *r)
+{
+    put_socket(c, m, r);
+    put(r, 2, 2, one_in(c, 8) ? pick(c, 65536) : pick(c, 0x1000));
+}
+
+static const struct {
+    uint16_t service;
+    size_t len;
+    void (*packet)(struct chance *c, const struct model *m, struct request *r);
+} kinds[] = {
+    {CS_REGISTER_CLIENT, 14, register_packet},    {CS_DEREGISTER_CLIENT, 0, any_packet},
+    {CS_ADJUST_RESOURCE_INFO, 12, adjust_packet}, {CS_REQUEST_IRQ, 8, request_irq_packet},
+    {CS_RELEASE_IRQ, 5, release_irq_packet},      {CS_REQUEST_IO, 11, request_io_packet},
+    {CS_RELEASE_IO, 11, release_io_packet},       {CS_REQUEST_SOCKET_MASK, 4, request_mask_packet},
+    {CS_RELEASE_SOCKET_MASK, 2, put_socket},
+};
+
+static uint16_t some_handle(struct chance *c, const struct model *m)
+{
+    if (m->clients > 0 && !one_in(c, 8))
+        return some_client(c, m);
+    return (uint16_t)(one_in(c, 2) ? pick(c, 65536) : pick(c, m->issued + 2));
+}
+
+void random_request(struct chance *c, const struct model *m, struct request *r)
+{
+    unsigned kind = pick(c, sizeof kinds / sizeof *kinds);
+    for (size_t i = 0; i < MOST_PACKET; i++)
+        r->packet[i] = byte(c);
+    r->service = one_in(c, 32) ? (uint16_t)pick(c, 65536) : kinds[kind].service;
+    r->handle = some_handle(c, m);
+    r->len = kinds[kind].len;
+    kinds[kind].packet(c, m, r);
+    if (one_in(c, 16))
+        r->len = pick(c, MOST_PACKET + 1);
+}
