@@ -3,3 +3,4 @@ pub mod Says
 pub mod Company
 pub mod Unique
 pub mod Refusals
+pub mod Sharing

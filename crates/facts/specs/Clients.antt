@@ -23,6 +23,10 @@ withClients F cs =
 abbrev pub nextHandle : Facts → ℕ
 nextHandle F = F .issued + 1
 
+-- the packet of RegisterClient (5.37): attributes 2 bytes at 0, event mask 2 bytes at 2
+abbrev pub registerSize : ℕ
+registerSize = 14
+
 abbrev pub registered : Facts → ℕ → ℕ → Facts
 registered F attributes events =
     record {
@@ -40,7 +44,7 @@ registered F attributes events =
 -- fields after the event mask are ignored. Event mask bits 12 to 15 set: BAD_ATTRIBUTE. OUT_OF_RESOURCE exactly if 16 are live or 65,535 were issued."
 abbrev pub registerChecks : Facts → List ℕ → List Check
 registerChecks F p =
-    ((length p ≢ 14) gives BadArgLength)
+    ((length p ≢ registerSize) gives BadArgLength)
     ∷ ((AttributesAllowed (word p 0) → ⊥) gives BadAttribute)
     ∷ ((EventsAllowed (word p 2) → ⊥) gives BadAttribute)
     ∷ (((Table.mostClients ≤ length (F .clients)) ⊎ (Table.mostIssued ≤ F .issued)) gives OutOfResource)

@@ -16,12 +16,15 @@ use Rattle.facts.specs.Sets.{put}
 use Rattle.facts.specs.Clients.{registered, withClients, without}
 use Rattle.facts.specs.Sockets.{withCard}
 use Rattle.layout.specs.Layout.{mark, two, maskBytes, clientBytes, levelBytes, head}
-use Rattle.layout.specs.Reading.{clientPlace}
+use Rattle.layout.specs.Reading.{irqPlace, ioPlace, levelPlace, rangePlace, clientPlace}
 use Rattle.layout.proofs.Parts.{below-at}
 use Rattle.layout.proofs.Lists.{at-left, at-end, at-past}
 use Rattle.layout.proofs.RoundTrip.{mask-bytes}
 use Rattle.layout.proofs.Grants.{zeros}
 use Rattle.layout.proofs.Shows.{Shows}
+use Rattle.layout.specs.Layout
+use Rattle.facts.specs.Table
+use Rattle.layout.specs.Changed.{lastClient}
 
 -- what is put in its place, and what stays
 pub put-same : {A : Type 0} (f : ℕ → A) (k : ℕ) (x : A) → put f k x k ≡ x
@@ -31,9 +34,9 @@ pub put-other : {A : Type 0} (f : ℕ → A) (k : ℕ) (x : A) (j : ℕ) → j �
 put-other f k x j d = ap (λ (t : Bool). cond t x (f j)) (ne-eqb j k d)
 
 -- a card's byte
-pub card-shown : (F : Facts) (b b′ : List ℕ) (s : ℕ) (v : Bool) → Shows F b → s < 8 → length b′ ≡ length b
-    → byte b′ (5 + s) ≡ mark v
-    → ((p : ℕ) → p ≢ 5 + s → byte b′ p ≡ byte b p)
+pub card-shown : (F : Facts) (b b′ : List ℕ) (s : ℕ) (v : Bool) → Shows F b → s < Table.mostSockets → length b′ ≡ length b
+    → byte b′ (Layout.cardsAt + s) ≡ mark v
+    → ((p : ℕ) → p ≢ Layout.cardsAt + s → byte b′ p ≡ byte b p)
     → Shows (withCard F s v) b′
 unfolding head
 card-shown F b b′ s v w l size there other =
@@ -41,20 +44,20 @@ card-shown F b b′ s v w l size there other =
       size = size ∙ w .size;
       head-is = λ j m. w .head-is j m ∙ sym (other j (λ e. omega (arith, e)));
       cards-are = λ t m. card t m (ℕ-discrete t s);
-      levels-are = λ i j m n. w .levels-are i j m n ∙ sym (other (13 + i * 2 + j) (λ e. omega (arith, e)));
-      ios-are = λ i j m n. w .ios-are i j m n ∙ sym (other (45 + i * 11 + j) (λ e. omega (arith, e)));
-      irqs-are = λ i j m n. w .irqs-are i j m n ∙ sym (other (133 + i * 4 + j) (λ e. omega (arith, e)));
-      clients-are = λ i j m n. w .clients-are i j m n ∙ sym (other (165 + i * 22 + j) (λ e. omega (arith, e)));
-      ranges-are = λ i j m n. w .ranges-are i j m n ∙ sym (other (517 + i * 7 + j) (λ e. omega (arith, e)));
+      levels-are = λ i j m n. w .levels-are i j m n ∙ sym (other (levelPlace i + j) (λ e. omega (arith, e)));
+      ios-are = λ i j m n. w .ios-are i j m n ∙ sym (other (ioPlace i + j) (λ e. omega (arith, e)));
+      irqs-are = λ i j m n. w .irqs-are i j m n ∙ sym (other (irqPlace i + j) (λ e. omega (arith, e)));
+      clients-are = λ i j m n. w .clients-are i j m n ∙ sym (other (clientPlace i + j) (λ e. omega (arith, e)));
+      ranges-are = λ i j m n. w .ranges-are i j m n ∙ sym (other (rangePlace i + j) (λ e. omega (arith, e)));
       rest-is = λ i m n. other i (λ e. omega (arith, e)) ∙ w .rest-is i m n;
     }
   where
-    card : (t : ℕ) → t < 8 → Dec (t ≡ s) → mark (put (F .card) s v t) ≡ byte b′ (5 + t)
-    card t m (yes e) = ap mark (ap (put (F .card) s v) e ∙ put-same (F .card) s v) ∙ sym there ∙ ap (λ (i : ℕ). byte b′ (5 + i)) (sym e)
-    card t m (no d) = ap mark (put-other (F .card) s v t d) ∙ w .cards-are t m ∙ sym (other (5 + t) (λ e. d (omega (arith, e))))
+    card : (t : ℕ) → t < Table.mostSockets → Dec (t ≡ s) → mark (put (F .card) s v t) ≡ byte b′ (Layout.cardsAt + t)
+    card t m (yes e) = ap mark (ap (put (F .card) s v) e ∙ put-same (F .card) s v) ∙ sym there ∙ ap (λ (i : ℕ). byte b′ (Layout.cardsAt + i)) (sym e)
+    card t m (no d) = ap mark (put-other (F .card) s v t d) ∙ w .cards-are t m ∙ sym (other (Layout.cardsAt + t) (λ e. d (omega (arith, e))))
 
 -- a client with no mask: its bytes past the first six are zero
-no-masks : (c : Client) → ((s : ℕ) → c .mask s ≡ none) → (j : ℕ) → 6 ≤ j → j < 22 → getD (clientBytes (some c)) j 0 ≡ 0
+no-masks : (c : Client) → ((s : ℕ) → c .mask s ≡ none) → (j : ℕ) → 6 ≤ j → j < Layout.clientSize → getD (clientBytes (some c)) j 0 ≡ 0
 no-masks c h j l m =
     ap (λ (k : ℕ). getD (clientBytes (some c)) k 0) place ∙ mask-bytes c ((j - 6) / 2) ((j - 6) % 2) (omega arith) (omega arith)
     ∙ ap (λ (o : Option ℕ). getD (maskBytes o) ((j - 6) % 2) 0) (h ((j - 6) / 2))
@@ -79,7 +82,7 @@ pub record Left (F : Facts) (p : ℕ) : Type 0 where
   pub place : (p < clientPlace (length (F .clients))) ⊎ (clientPlace (length (F .clients)) + 6 ≤ p)
 
 -- a client registered: the number of clients, the handles issued and the next record are written
-module _ (F : Facts) (b b′ : List ℕ) (attributes events : ℕ) (w : Shows F b) (room : length (F .clients) < 16) (size : length b′ ≡ length b)
+module _ (F : Facts) (b b′ : List ℕ) (attributes events : ℕ) (w : Shows F b) (room : length (F .clients) < Table.mostClients) (size : length b′ ≡ length b)
     (count : byte b′ 1 ≡ length (F .clients) + 1) (low : byte b′ 3 ≡ (F .issued + 1) % 256) (high : byte b′ 4 ≡ (F .issued + 1) / 256)
     (six : (j : ℕ) → j < 6 → byte b′ (clientPlace (length (F .clients)) + j) ≡ getD (newBytes F attributes events) j 0)
     (other : (p : ℕ) → Left F p → byte b′ p ≡ byte b p) where
@@ -110,7 +113,7 @@ module _ (F : Facts) (b b′ : List ℕ) (attributes events : ℕ) (w : Shows F 
       )
 
   -- the new record
-  new-record : (j : ℕ) → j < 22 → getD (clientBytes (some (newClient F attributes events))) j 0 ≡ byte b′ (clientPlace (length (F .clients)) + j)
+  new-record : (j : ℕ) → j < Layout.clientSize → getD (clientBytes (some (newClient F attributes events))) j 0 ≡ byte b′ (clientPlace (length (F .clients)) + j)
   new-record j m = go (decLt j 6)
     where
       go : Dec (j < 6) → getD (clientBytes (some (newClient F attributes events))) j 0 ≡ byte b′ (clientPlace (length (F .clients)) + j)
@@ -119,12 +122,12 @@ module _ (F : Facts) (b b′ : List ℕ) (attributes events : ℕ) (w : Shows F 
           ((((((tt, refl), refl), refl), refl), refl), refl) j l
           ∙ sym (six j l)
       go (no l) =
-          no-masks (newClient F attributes events) (λ s. refl) j (omega arith) m ∙ sym (zeros 22 j m)
+          no-masks (newClient F attributes events) (λ s. refl) j (omega arith) m ∙ sym (zeros Layout.clientSize j m)
           ∙ ap (λ (o : Option Client). getD (clientBytes o) j 0) (sym (at-past (F .clients) (length (F .clients)) (omega arith)))
           ∙ w .clients-are (length (F .clients)) j room m
           ∙ sym (after (clientPlace (length (F .clients)) + j) (omega arith))
 
-  records : (i j : ℕ) → i < 16 → j < 22 → getD (clientBytes (getElem? (registered F attributes events .clients) i)) j 0 ≡ byte b′ (clientPlace i + j)
+  records : (i j : ℕ) → i < Table.mostClients → j < Layout.clientSize → getD (clientBytes (getElem? (registered F attributes events .clients) i)) j 0 ≡ byte b′ (clientPlace i + j)
   records i j l m = go (decLt i (length (F .clients))) (ℕ-discrete i (length (F .clients)))
     where
       new : Client
@@ -151,12 +154,12 @@ module _ (F : Facts) (b b′ : List ℕ) (attributes events : ℕ) (w : Shows F 
       record {
         size = size ∙ w .size;
         head-is = heads;
-        cards-are = λ s m. w .cards-are s m ∙ sym (before (5 + s) (omega arith) (omega arith));
-        levels-are = λ i j m n. w .levels-are i j m n ∙ sym (before (13 + i * 2 + j) (omega arith) (omega arith));
-        ios-are = λ i j m n. w .ios-are i j m n ∙ sym (before (45 + i * 11 + j) (omega arith) (omega arith));
-        irqs-are = λ i j m n. w .irqs-are i j m n ∙ sym (before (133 + i * 4 + j) (omega arith) (omega arith));
+        cards-are = λ s m. w .cards-are s m ∙ sym (before (Layout.cardsAt + s) (omega arith) (omega arith));
+        levels-are = λ i j m n. w .levels-are i j m n ∙ sym (before (levelPlace i + j) (omega arith) (omega arith));
+        ios-are = λ i j m n. w .ios-are i j m n ∙ sym (before (ioPlace i + j) (omega arith) (omega arith));
+        irqs-are = λ i j m n. w .irqs-are i j m n ∙ sym (before (irqPlace i + j) (omega arith) (omega arith));
         clients-are = records;
-        ranges-are = λ i j m n. w .ranges-are i j m n ∙ sym (after (517 + i * 7 + j) (omega arith));
+        ranges-are = λ i j m n. w .ranges-are i j m n ∙ sym (after (rangePlace i + j) (omega arith));
         rest-is = λ i m n. after i (omega arith) ∙ w .rest-is i m n;
       }
 
@@ -185,11 +188,11 @@ without-at h (x ∷ cs) (suc k) c e is first =
     at-back same past (suc i) l = ap (λ (l : List Client). getElem? l (suc i)) same ∙ past i (le-of-suc-le-suc l)
 
 -- a client deregistered: the number of clients is written, and the records past the kth move one place down
-module _ (F : Facts) (b b′ : List ℕ) (h k : ℕ) (c : Client) (w : Shows F b) (most : length (F .clients) ≤ 16) (here : getElem? (F .clients) k ≡ some c)
+module _ (F : Facts) (b b′ : List ℕ) (h k : ℕ) (c : Client) (w : Shows F b) (most : length (F .clients) ≤ Table.mostClients) (here : getElem? (F .clients) k ≡ some c)
     (is : c .handle ≡ h) (first : (i : ℕ) (x : Client) → i < k → getElem? (F .clients) i ≡ some x → x .handle ≢ h) (size : length b′ ≡ length b)
-    (count : byte b′ 1 + 1 ≡ length (F .clients)) (moved : (p : ℕ) → clientPlace k ≤ p → p < 495 → byte b′ p ≡ byte b (p + 22))
-    (last : (p : ℕ) → 495 ≤ p → p < 517 → byte b′ p ≡ 0)
-    (other : (p : ℕ) → p ≢ 1 → (p < clientPlace k) ⊎ (517 ≤ p) → byte b′ p ≡ byte b p) where
+    (count : byte b′ 1 + 1 ≡ length (F .clients)) (moved : (p : ℕ) → clientPlace k ≤ p → p < lastClient → byte b′ p ≡ byte b (p + Layout.clientSize))
+    (last : (p : ℕ) → lastClient ≤ p → p < Layout.rangesAt → byte b′ p ≡ 0)
+    (other : (p : ℕ) → p ≢ 1 → (p < clientPlace k) ⊎ (Layout.rangesAt ≤ p) → byte b′ p ≡ byte b p) where
   G : Facts
   G = withClients F (without h (F .clients))
 
@@ -198,7 +201,7 @@ module _ (F : Facts) (b b′ : List ℕ) (h k : ℕ) (c : Client) (w : Shows F b
       × (suc (length (without h (F .clients))) ≡ length (F .clients))
   fewer = without-at h (F .clients) k c here is first
 
-  stays : (p : ℕ) → p ≢ 1 → p < 165 → byte b′ p ≡ byte b p
+  stays : (p : ℕ) → p ≢ 1 → p < Layout.clientsAt → byte b′ p ≡ byte b p
   stays p d l = other p d (inl (omega arith))
 
   heads-less : (j : ℕ) → j < 5 → getD (head (withClients F (without h (F .clients)))) j 0 ≡ byte b′ j
@@ -215,10 +218,10 @@ module _ (F : Facts) (b b′ : List ℕ) (h k : ℕ) (c : Client) (w : Shows F b
       keep : (j : ℕ) → j < 5 → j ≢ 1 → getD (head F) j 0 ≡ byte b′ j
       keep j l d = w .head-is j l ∙ sym (stays j d (omega arith))
 
-  records-less : (i j : ℕ) → i < 16 → j < 22 → getD (clientBytes (getElem? (without h (F .clients)) i)) j 0 ≡ byte b′ (clientPlace i + j)
-  records-less i j l m = go (decLt i k) (decLt i 15)
+  records-less : (i j : ℕ) → i < Table.mostClients → j < Layout.clientSize → getD (clientBytes (getElem? (without h (F .clients)) i)) j 0 ≡ byte b′ (clientPlace i + j)
+  records-less i j l m = go (decLt i k) (decLt (suc i) Table.mostClients)
     where
-      go : Dec (i < k) → Dec (i < 15) → getD (clientBytes (getElem? (without h (F .clients)) i)) j 0 ≡ byte b′ (clientPlace i + j)
+      go : Dec (i < k) → Dec (suc i < Table.mostClients) → getD (clientBytes (getElem? (without h (F .clients)) i)) j 0 ≡ byte b′ (clientPlace i + j)
       go (yes x) d =
           ap (λ (o : Option Client). getD (clientBytes o) j 0) (fewer .0 i x) ∙ w .clients-are i j l m
           ∙ sym (other (clientPlace i + j) (λ e. omega (arith, e)) (inl (omega arith)))
@@ -226,10 +229,10 @@ module _ (F : Facts) (b b′ : List ℕ) (h k : ℕ) (c : Client) (w : Shows F b
           ap (λ (o : Option Client). getD (clientBytes o) j 0) (fewer .1 i (omega arith)) ∙ w .clients-are (suc i) j (omega arith) m
           ∙ ap (byte b) next ∙ sym (moved (clientPlace i + j) (omega arith) (omega arith))
         where
-          next : clientPlace (suc i) + j ≡ clientPlace i + j + 22
+          next : clientPlace (suc i) + j ≡ clientPlace i + j + Layout.clientSize
           next = omega arith
       go (no x) (no y) =
-          ap (λ (o : Option Client). getD (clientBytes o) j 0) (fewer .1 i (omega arith) ∙ at-past (F .clients) (suc i) (omega arith)) ∙ zeros 22 j m
+          ap (λ (o : Option Client). getD (clientBytes o) j 0) (fewer .1 i (omega arith) ∙ at-past (F .clients) (suc i) (omega arith)) ∙ zeros Layout.clientSize j m
           ∙ sym (last (clientPlace i + j) (omega arith) (omega arith))
 
   pub deregister-shown : Shows (withClients F (without h (F .clients))) b′
@@ -237,17 +240,17 @@ module _ (F : Facts) (b b′ : List ℕ) (h k : ℕ) (c : Client) (w : Shows F b
       record {
         size = size ∙ w .size;
         head-is = heads-less;
-        cards-are = λ s m. w .cards-are s m ∙ sym (stays (5 + s) (λ e. omega (arith, e)) (omega arith));
-        levels-are = λ i j m n. w .levels-are i j m n ∙ sym (stays (13 + i * 2 + j) (λ e. omega (arith, e)) (omega arith));
-        ios-are = λ i j m n. w .ios-are i j m n ∙ sym (stays (45 + i * 11 + j) (λ e. omega (arith, e)) (omega arith));
-        irqs-are = λ i j m n. w .irqs-are i j m n ∙ sym (stays (133 + i * 4 + j) (λ e. omega (arith, e)) (omega arith));
+        cards-are = λ s m. w .cards-are s m ∙ sym (stays (Layout.cardsAt + s) (λ e. omega (arith, e)) (omega arith));
+        levels-are = λ i j m n. w .levels-are i j m n ∙ sym (stays (levelPlace i + j) (λ e. omega (arith, e)) (omega arith));
+        ios-are = λ i j m n. w .ios-are i j m n ∙ sym (stays (ioPlace i + j) (λ e. omega (arith, e)) (omega arith));
+        irqs-are = λ i j m n. w .irqs-are i j m n ∙ sym (stays (irqPlace i + j) (λ e. omega (arith, e)) (omega arith));
         clients-are = records-less;
-        ranges-are = λ i j m n. w .ranges-are i j m n ∙ sym (other (517 + i * 7 + j) (λ e. omega (arith, e)) (inr (omega arith)));
+        ranges-are = λ i j m n. w .ranges-are i j m n ∙ sym (other (rangePlace i + j) (λ e. omega (arith, e)) (inr (omega arith)));
         rest-is = λ i m n. other i (λ e. omega (arith, e)) (inr (omega arith)) ∙ w .rest-is i m n;
       }
 
 -- a fresh table: the socket count, and zero
-pub fresh-shown : (n : ℕ) (b : List ℕ) → length b ≡ 8192 → byte b 0 ≡ n → ((p : ℕ) → 1 ≤ p → p < 8192 → byte b p ≡ 0) → Shows (fresh n) b
+pub fresh-shown : (n : ℕ) (b : List ℕ) → length b ≡ Layout.tableSize → byte b 0 ≡ n → ((p : ℕ) → 1 ≤ p → p < Layout.tableSize → byte b p ≡ 0) → Shows (fresh n) b
 unfolding head
 fresh-shown n b size count zero-past =
     record {
@@ -259,11 +262,11 @@ fresh-shown n b size count zero-past =
         ),
         sym (zero-past 4 (omega arith) (omega arith)),
       );
-      cards-are = λ s l. sym (zero-past (5 + s) (omega arith) (omega arith));
-      levels-are = λ l j h m. below-at 2 (λ j. getD (levelBytes (fresh n .level l)) j 0 ≡ 0) ((tt, refl), refl) j m ∙ sym (zero-past (13 + l * 2 + j) (omega arith) (omega arith));
-      ios-are = λ s j h m. zeros 11 j m ∙ sym (zero-past (45 + s * 11 + j) (omega arith) (omega arith));
-      irqs-are = λ s j h m. zeros 4 j m ∙ sym (zero-past (133 + s * 4 + j) (omega arith) (omega arith));
-      clients-are = λ i j h m. zeros 22 j m ∙ sym (zero-past (165 + i * 22 + j) (omega arith) (omega arith));
-      ranges-are = λ i j h m. zeros 7 j m ∙ sym (zero-past (517 + i * 7 + j) (omega arith) (omega arith));
+      cards-are = λ s l. sym (zero-past (Layout.cardsAt + s) (omega arith) (omega arith));
+      levels-are = λ l j h m. below-at 2 (λ j. getD (levelBytes (fresh n .level l)) j 0 ≡ 0) ((tt, refl), refl) j m ∙ sym (zero-past (levelPlace l + j) (omega arith) (omega arith));
+      ios-are = λ s j h m. zeros Layout.ioSize j m ∙ sym (zero-past (ioPlace s + j) (omega arith) (omega arith));
+      irqs-are = λ s j h m. zeros Layout.irqSize j m ∙ sym (zero-past (irqPlace s + j) (omega arith) (omega arith));
+      clients-are = λ i j h m. zeros Layout.clientSize j m ∙ sym (zero-past (clientPlace i + j) (omega arith) (omega arith));
+      ranges-are = λ i j h m. zeros Layout.rangeSize j m ∙ sym (zero-past (rangePlace i + j) (omega arith) (omega arith));
       rest-is = λ i l m. zero-past i (omega arith) m;
     }

@@ -19,9 +19,10 @@ use Rattle.layout.proofs.Shows.{Shows, shows-image}
 use Rattle.layout.proofs.Of
 use Rattle.layout.proofs.Written.{byte-same, byte-other, word-length, word-low, word-high, word-other}
 use Rattle.layout.proofs.Changes.{newBytes, register-shown, deregister-shown}
+use Rattle.facts.specs.Table
 
 -- the bytes of a table with a new client
-module _ (b : List ℕ) (n h attributes events : ℕ) (size : length b ≡ Layout.tableSize) (room : n < 16) (low : h < 65536) (lowa : attributes < 65536) (lowe : events < 65536) where
+module _ (b : List ℕ) (n h attributes events : ℕ) (size : length b ≡ Layout.tableSize) (room : n < Table.mostClients) (low : h < 65536) (lowa : attributes < 65536) (lowe : events < 65536) where
   w1 : List ℕ
   w1 = withWord b (clientPlace n) h
 
@@ -34,19 +35,19 @@ module _ (b : List ℕ) (n h attributes events : ℕ) (size : length b ≡ Layou
   w4 : List ℕ
   w4 = withWord w3 3 h
 
-  size1 : length w1 ≡ 8192
+  size1 : length w1 ≡ Layout.tableSize
   unfolding w1
   size1 = word-length b (clientPlace n) h ∙ size
 
-  size2 : length w2 ≡ 8192
+  size2 : length w2 ≡ Layout.tableSize
   unfolding w2
   size2 = word-length w1 (clientPlace n + 2) attributes ∙ size1
 
-  size3 : length w3 ≡ 8192
+  size3 : length w3 ≡ Layout.tableSize
   unfolding w3
   size3 = word-length w2 (clientPlace n + 4) events ∙ size2
 
-  size4 : length w4 ≡ 8192
+  size4 : length w4 ≡ Layout.tableSize
   unfolding w4
   size4 = word-length w3 3 h ∙ size3
 
@@ -118,7 +119,7 @@ module _ (b : List ℕ) (n h attributes events : ℕ) (size : length b ≡ Layou
       apart j (inr l) h e = omega (arith, e)
 
 -- the facts with the new client
-pub entered-image : (F : Facts) (b : List ℕ) (attributes events : ℕ) → Shows F b → length (F .clients) < 16 → F .issued < 65535 → attributes < 65536 → events < 65536
+pub entered-image : (F : Facts) (b : List ℕ) (attributes events : ℕ) → Shows F b → length (F .clients) < Table.mostClients → F .issued < Table.mostIssued → attributes < 65536 → events < 65536
     → image (registered F attributes events) ≡ entered b (length (F .clients)) (F .issued + 1) attributes events
 entered-image F b attributes events w room left lowa lowe =
     shows-image (registered F attributes events) (entered b n h attributes events)

@@ -49,16 +49,16 @@ module _ (b : List ℕ) (bytes : Bytes b) (s : Sound b) where
 
   card-formed : (t : ℕ) → factsIn b .card t ≡ true → t < socketsIn b
   unfolding factsIn
-  card-formed t e = go (decLt t 8)
+  card-formed t e = go (decLt t Table.mostSockets)
     where
-      go : Dec (t < 8) → t < socketsIn b
-      go (yes l) = s .cards t l .socket (marked-is (byte b (5 + t)) (sym (below-in 8 false (λ t. marked (byte b (5 + t))) t l) ∙ e))
-      go (no l) = absurd (false≢true (sym (below-past 8 false (λ t. marked (byte b (5 + t))) t (omega arith)) ∙ e))
+      go : Dec (t < Table.mostSockets) → t < socketsIn b
+      go (yes l) = s .cards t l .socket (marked-is (byte b (Layout.cardsAt + t)) (sym (below-in Table.mostSockets false (λ t. marked (byte b (Layout.cardsAt + t))) t l) ∙ e))
+      go (no l) = absurd (false≢true (sym (below-past Table.mostSockets false (λ t. marked (byte b (Layout.cardsAt + t))) t (omega arith)) ∙ e))
 
   mask-formed : (i t m : ℕ) → i < clientsIn b → clientIn b i .mask t ≡ some m → (t < socketsIn b) × EventsAllowed m
   unfolding clientIn
   mask-formed i t m l e =
-      let f = found 8 (λ t. maskOf (word b (maskPlace i t))) t m e in
+      let f = found Table.mostSockets (λ t. maskOf (word b (maskPlace i t))) t m e in
       let n = nonzero (word b (maskPlace i t)) (word b (maskPlace i t) - 4096) m (f .1) in
       go (s .clients i l .masks t (f .0)) n
     where
@@ -96,40 +96,40 @@ module _ (b : List ℕ) (bytes : Bytes b) (s : Sound b) where
   unfolding rangeIn
   range-formed i l = s .ranges i l .within
 
-  level-there : (l : ℕ) → factsIn b .level l .managed ≡ true → (l < 16) × (byte b (levelPlace l) ≡ 1)
+  level-there : (l : ℕ) → factsIn b .level l .managed ≡ true → (l < Table.allLevels) × (byte b (levelPlace l) ≡ 1)
   unfolding factsIn levelIn
-  level-there l e = go (decLt l 16)
+  level-there l e = go (decLt l Table.allLevels)
     where
       none-managed : Level
       none-managed = record { managed = false; reserved = false }
 
-      go : Dec (l < 16) → (l < 16) × (byte b (levelPlace l) ≡ 1)
-      go (yes h) = (h, marked-is (byte b (levelPlace l)) (sym (ap (λ (v : Level). v .managed) (below-in 16 none-managed (levelIn b) l h)) ∙ e))
-      go (no h) = absurd (false≢true (sym (ap (λ (v : Level). v .managed) (below-past 16 none-managed (levelIn b) l (omega arith))) ∙ e))
+      go : Dec (l < Table.allLevels) → (l < Table.allLevels) × (byte b (levelPlace l) ≡ 1)
+      go (yes h) = (h, marked-is (byte b (levelPlace l)) (sym (ap (λ (v : Level). v .managed) (below-in Table.allLevels none-managed (levelIn b) l h)) ∙ e))
+      go (no h) = absurd (false≢true (sym (ap (λ (v : Level). v .managed) (below-past Table.allLevels none-managed (levelIn b) l (omega arith))) ∙ e))
 
-  level-managed : (l : ℕ) → l < 16 → byte b (levelPlace l) ≡ 1 → factsIn b .level l .managed ≡ true
+  level-managed : (l : ℕ) → l < Table.allLevels → byte b (levelPlace l) ≡ 1 → factsIn b .level l .managed ≡ true
   unfolding factsIn levelIn
-  level-managed l h e = ap (λ (v : Level). v .managed) (below-in 16 (record { managed = false; reserved = false }) (levelIn b) l h) ∙ marked-one (byte b (levelPlace l)) e
+  level-managed l h e = ap (λ (v : Level). v .managed) (below-in Table.allLevels (record { managed = false; reserved = false }) (levelIn b) l h) ∙ marked-one (byte b (levelPlace l)) e
 
   level-reserved : (l : ℕ) → factsIn b .level l .reserved ≡ true → factsIn b .level l .managed ≡ true
   unfolding factsIn levelIn
-  level-reserved l e = go (decLt l 16)
+  level-reserved l e = go (decLt l Table.allLevels)
     where
       none-managed : Level
       none-managed = record { managed = false; reserved = false }
 
-      go : Dec (l < 16) → below 16 none-managed (levelIn b) l .managed ≡ true
+      go : Dec (l < Table.allLevels) → below Table.allLevels none-managed (levelIn b) l .managed ≡ true
       go (yes h) =
-          let r = marked-is (byte b (levelPlace l + 1)) (sym (ap (λ (v : Level). v .reserved) (below-in 16 none-managed (levelIn b) l h)) ∙ e) in
-          ap (λ (v : Level). v .managed) (below-in 16 none-managed (levelIn b) l h)
+          let r = marked-is (byte b (levelPlace l + 1)) (sym (ap (λ (v : Level). v .reserved) (below-in Table.allLevels none-managed (levelIn b) l h)) ∙ e) in
+          ap (λ (v : Level). v .managed) (below-in Table.allLevels none-managed (levelIn b) l h)
           ∙ marked-one (byte b (levelPlace l)) (omega (arith, r, s .levels l h .managed, s .levels l h .reserved))
-      go (no h) = absurd (false≢true (sym (ap (λ (v : Level). v .reserved) (below-past 16 none-managed (levelIn b) l (omega arith))) ∙ e))
+      go (no h) = absurd (false≢true (sym (ap (λ (v : Level). v .reserved) (below-past Table.allLevels none-managed (levelIn b) l (omega arith))) ∙ e))
 
   -- a grant that is read is the record of a socket that is used
-  io-there : (t : ℕ) (g : IoGrant) → factsIn b .io t ≡ some g → (t < 8) × IoUsed b t × IoSound b t × (ioIn b t ≡ g)
+  io-there : (t : ℕ) (g : IoGrant) → factsIn b .io t ≡ some g → (t < Table.mostSockets) × IoUsed b t × IoSound b t × (ioIn b t ≡ g)
   unfolding factsIn ioHere
   io-there t g e =
-      let f = found 8 (ioHere b) t g e in
+      let f = found Table.mostSockets (ioHere b) t g e in
       let r = read b (ioPlace t) Layout.ioSize (omega arith) (ioIn b t) g (f .1) (s .ios t (f .0)) in
       (f .0, r .0, r .1, r .2)
 
@@ -148,10 +148,10 @@ module _ (b : List ℕ) (bytes : Bytes b) (s : Sound b) where
         managed = λ p h. managed-of p (u .managed p h);
       }
 
-  irq-there : (t : ℕ) (g : IrqGrant) → factsIn b .irq t ≡ some g → (t < 8) × IrqUsed b t × IrqSound b t × (irqIn b t ≡ g)
+  irq-there : (t : ℕ) (g : IrqGrant) → factsIn b .irq t ≡ some g → (t < Table.mostSockets) × IrqUsed b t × IrqSound b t × (irqIn b t ≡ g)
   unfolding factsIn irqHere
   irq-there t g e =
-      let f = found 8 (irqHere b) t g e in
+      let f = found Table.mostSockets (irqHere b) t g e in
       let r = read b (irqPlace t) Layout.irqSize (omega arith) (irqIn b t) g (f .1) (s .irqs t (f .0)) in
       (f .0, r .0, r .1, r .2)
 
@@ -160,14 +160,14 @@ module _ (b : List ℕ) (bytes : Bytes b) (s : Sound b) where
   irq-fits t u =
       record { client = live-of (word b (irqPlace t)) (u .client); socket = u .socket; managed = level-managed (byte b (irqPlace t + 2)) (u .level) (u .managed) }
 
-  io-keeps : (t u : ℕ) → t < 8 → u < 8 → t ≢ u → IoUsed b t → IoUsed b u → IoCompany (ioIn b t) (ioIn b u)
+  io-keeps : (t u : ℕ) → t < Table.mostSockets → u < Table.mostSockets → t ≢ u → IoUsed b t → IoUsed b u → IoCompany (ioIn b t) (ioIn b u)
   io-keeps t u l m d x y = go (decLt u t)
     where
       go : Dec (u < t) → IoCompany (ioIn b t) (ioIn b u)
       go (yes h) = s .io-company t u l h x y
       go (no h) = λ meets. let r = s .io-company u t m (omega arith) y x (meet-symmetric (ioIn b t .ports) (ioIn b u .ports) meets) in (r .1, r .0)
 
-  irq-keeps : (t u : ℕ) → t < 8 → u < 8 → t ≢ u → IrqUsed b t → IrqUsed b u → IrqCompany (irqIn b t) (irqIn b u)
+  irq-keeps : (t u : ℕ) → t < Table.mostSockets → u < Table.mostSockets → t ≢ u → IrqUsed b t → IrqUsed b u → IrqCompany (irqIn b t) (irqIn b u)
   irq-keeps t u l m d x y = go (decLt u t)
     where
       go : Dec (u < t) → IrqCompany (irqIn b t) (irqIn b u)

@@ -20,8 +20,8 @@ pub mask-size : (m : Option ℕ) → length (maskBytes m) ≡ 2
 mask-size none = refl
 mask-size (some m) = refl
 
-masks-size : (c : Client) → length (each Table.mostSockets (λ s. maskBytes (c .mask s))) ≡ 16
-masks-size c = each-length 2 (λ s. maskBytes (c .mask s)) (λ s. mask-size (c .mask s)) 8
+masks-size : (c : Client) → length (each Table.mostSockets (λ s. maskBytes (c .mask s))) ≡ Table.mostSockets * Layout.maskSize
+masks-size c = each-length Layout.maskSize (λ s. maskBytes (c .mask s)) (λ s. mask-size (c .mask s)) Table.mostSockets
 
 pub client-size : (c : Option Client) → length (clientBytes c) ≡ Layout.clientSize
 client-size none = refl
@@ -45,33 +45,33 @@ past l A B m n e h = sym (drop-drop n m l) ∙ ap (drop n) e ∙ drop-at A B n h
 
 module _ (F : Facts) where
   -- the length of each part
-  pub cards-length : length (cards F) ≡ 8
+  pub cards-length : length (cards F) ≡ Table.mostSockets * Layout.cardSize
   unfolding cards
-  cards-length = each-length 1 (λ s. mark (F .card s) ∷ []) (λ s. refl) 8
+  cards-length = each-length Layout.cardSize (λ s. mark (F .card s) ∷ []) (λ s. refl) Table.mostSockets
 
-  pub levels-length : length (levels F) ≡ 32
+  pub levels-length : length (levels F) ≡ Table.allLevels * Layout.levelSize
   unfolding levels
-  levels-length = each-length 2 (λ l. levelBytes (F .level l)) (λ s. refl) 16
+  levels-length = each-length Layout.levelSize (λ l. levelBytes (F .level l)) (λ s. refl) Table.allLevels
 
-  pub ios-length : length (ios F) ≡ 88
+  pub ios-length : length (ios F) ≡ Table.mostSockets * Layout.ioSize
   unfolding ios
-  ios-length = each-length 11 (λ s. ioBytes (F .io s)) (λ s. io-size (F .io s)) 8
+  ios-length = each-length Layout.ioSize (λ s. ioBytes (F .io s)) (λ s. io-size (F .io s)) Table.mostSockets
 
-  pub irqs-length : length (irqs F) ≡ 32
+  pub irqs-length : length (irqs F) ≡ Table.mostSockets * Layout.irqSize
   unfolding irqs
-  irqs-length = each-length 4 (λ s. irqBytes (F .irq s)) (λ s. irq-size (F .irq s)) 8
+  irqs-length = each-length Layout.irqSize (λ s. irqBytes (F .irq s)) (λ s. irq-size (F .irq s)) Table.mostSockets
 
-  pub clients-length : length (clients F) ≡ 352
+  pub clients-length : length (clients F) ≡ Table.mostClients * Layout.clientSize
   unfolding clients
-  clients-length = each-length 22 (λ i. clientBytes (getElem? (F .clients) i)) (λ i. client-size (getElem? (F .clients) i)) 16
+  clients-length = each-length Layout.clientSize (λ i. clientBytes (getElem? (F .clients) i)) (λ i. client-size (getElem? (F .clients) i)) Table.mostClients
 
-  pub ranges-length : length (ranges F) ≡ 224
+  pub ranges-length : length (ranges F) ≡ Table.mostRanges * Layout.rangeSize
   unfolding ranges
-  ranges-length = each-length 7 (λ i. rangeBytes (getElem? (F .ranges) i)) (λ i. range-size (getElem? (F .ranges) i)) 32
+  ranges-length = each-length Layout.rangeSize (λ i. rangeBytes (getElem? (F .ranges) i)) (λ i. range-size (getElem? (F .ranges) i)) Table.mostRanges
 
-  pub rest-length : length rest ≡ 7451
+  pub rest-length : length rest ≡ (Layout.tableSize - Layout.restAt)
   unfolding rest
-  rest-length = length-replicate {A = ℕ} 7451 0
+  rest-length = length-replicate {A = ℕ} (Layout.tableSize - Layout.restAt) 0
 
   -- what follows each place
   pub from-cards : drop Layout.cardsAt (image F) ≡ cards F ++ (levels F ++ (ios F ++ (irqs F ++ (clients F ++ (ranges F ++ rest)))))
@@ -79,22 +79,22 @@ module _ (F : Facts) where
   from-cards = refl
 
   pub from-levels : drop Layout.levelsAt (image F) ≡ levels F ++ (ios F ++ (irqs F ++ (clients F ++ (ranges F ++ rest))))
-  from-levels = past (image F) (cards F) (levels F ++ (ios F ++ (irqs F ++ (clients F ++ (ranges F ++ rest))))) 5 8 from-cards cards-length
+  from-levels = past (image F) (cards F) (levels F ++ (ios F ++ (irqs F ++ (clients F ++ (ranges F ++ rest))))) Layout.cardsAt (Table.mostSockets * Layout.cardSize) from-cards cards-length
 
   pub from-ios : drop Layout.iosAt (image F) ≡ ios F ++ (irqs F ++ (clients F ++ (ranges F ++ rest)))
-  from-ios = past (image F) (levels F) (ios F ++ (irqs F ++ (clients F ++ (ranges F ++ rest)))) 13 32 from-levels levels-length
+  from-ios = past (image F) (levels F) (ios F ++ (irqs F ++ (clients F ++ (ranges F ++ rest)))) Layout.levelsAt (Table.allLevels * Layout.levelSize) from-levels levels-length
 
   pub from-irqs : drop Layout.irqsAt (image F) ≡ irqs F ++ (clients F ++ (ranges F ++ rest))
-  from-irqs = past (image F) (ios F) (irqs F ++ (clients F ++ (ranges F ++ rest))) 45 88 from-ios ios-length
+  from-irqs = past (image F) (ios F) (irqs F ++ (clients F ++ (ranges F ++ rest))) Layout.iosAt (Table.mostSockets * Layout.ioSize) from-ios ios-length
 
   pub from-clients : drop Layout.clientsAt (image F) ≡ clients F ++ (ranges F ++ rest)
-  from-clients = past (image F) (irqs F) (clients F ++ (ranges F ++ rest)) 133 32 from-irqs irqs-length
+  from-clients = past (image F) (irqs F) (clients F ++ (ranges F ++ rest)) Layout.irqsAt (Table.mostSockets * Layout.irqSize) from-irqs irqs-length
 
   pub from-ranges : drop Layout.rangesAt (image F) ≡ ranges F ++ rest
-  from-ranges = past (image F) (clients F) (ranges F ++ rest) 165 352 from-clients clients-length
+  from-ranges = past (image F) (clients F) (ranges F ++ rest) Layout.clientsAt (Table.mostClients * Layout.clientSize) from-clients clients-length
 
   pub from-rest : drop Layout.restAt (image F) ≡ rest
-  from-rest = past (image F) (ranges F) rest 517 224 from-ranges ranges-length
+  from-rest = past (image F) (ranges F) rest Layout.rangesAt (Table.mostRanges * Layout.rangeSize) from-ranges ranges-length
 
   pub image-length : length (image F) ≡ Layout.tableSize
   unfolding image head
@@ -126,39 +126,39 @@ module _ (b : List ℕ) (place k : ℕ) (x : List ℕ) (at : (j : ℕ) → j < k
 
 -- the bytes of an image, record by record
 module _ (F : Facts) where
-  pub card-at : (s : ℕ) → s < 8 → byte (image F) (Layout.cardsAt + s) ≡ mark (F .card s)
+  pub card-at : (s : ℕ) → s < Table.mostSockets → byte (image F) (Layout.cardsAt + s) ≡ mark (F .card s)
   unfolding cards
   card-at s l =
       ap (byte (image F)) (omega arith)
-      ∙ byte-of (image F) (levels F ++ (ios F ++ (irqs F ++ (clients F ++ (ranges F ++ rest))))) 5 1 8 (λ s. mark (F .card s) ∷ []) (λ s. refl) (from-cards F) s l 0 (omega arith)
+      ∙ byte-of (image F) (levels F ++ (ios F ++ (irqs F ++ (clients F ++ (ranges F ++ rest))))) Layout.cardsAt Layout.cardSize Table.mostSockets (λ s. mark (F .card s) ∷ []) (λ s. refl) (from-cards F) s l 0 (omega arith)
 
-  pub level-at : (l : ℕ) → l < 16 → (j : ℕ) → j < 2 → byte (image F) (Layout.levelsAt + l * Layout.levelSize + j) ≡ getD (levelBytes (F .level l)) j 0
+  pub level-at : (l : ℕ) → l < Table.allLevels → (j : ℕ) → j < 2 → byte (image F) (Layout.levelsAt + l * Layout.levelSize + j) ≡ getD (levelBytes (F .level l)) j 0
   unfolding levels
-  level-at = byte-of (image F) (ios F ++ (irqs F ++ (clients F ++ (ranges F ++ rest)))) 13 2 16 (λ l. levelBytes (F .level l)) (λ l. refl) (from-levels F)
+  level-at = byte-of (image F) (ios F ++ (irqs F ++ (clients F ++ (ranges F ++ rest)))) Layout.levelsAt Layout.levelSize Table.allLevels (λ l. levelBytes (F .level l)) (λ l. refl) (from-levels F)
 
-  pub io-at : (s : ℕ) → s < 8 → (j : ℕ) → j < 11 → byte (image F) (Layout.iosAt + s * Layout.ioSize + j) ≡ getD (ioBytes (F .io s)) j 0
+  pub io-at : (s : ℕ) → s < Table.mostSockets → (j : ℕ) → j < Layout.ioSize → byte (image F) (Layout.iosAt + s * Layout.ioSize + j) ≡ getD (ioBytes (F .io s)) j 0
   unfolding ios
-  io-at = byte-of (image F) (irqs F ++ (clients F ++ (ranges F ++ rest))) 45 11 8 (λ s. ioBytes (F .io s)) (λ s. io-size (F .io s)) (from-ios F)
+  io-at = byte-of (image F) (irqs F ++ (clients F ++ (ranges F ++ rest))) Layout.iosAt Layout.ioSize Table.mostSockets (λ s. ioBytes (F .io s)) (λ s. io-size (F .io s)) (from-ios F)
 
-  pub irq-at : (s : ℕ) → s < 8 → (j : ℕ) → j < 4 → byte (image F) (Layout.irqsAt + s * Layout.irqSize + j) ≡ getD (irqBytes (F .irq s)) j 0
+  pub irq-at : (s : ℕ) → s < Table.mostSockets → (j : ℕ) → j < Layout.irqSize → byte (image F) (Layout.irqsAt + s * Layout.irqSize + j) ≡ getD (irqBytes (F .irq s)) j 0
   unfolding irqs
-  irq-at = byte-of (image F) (clients F ++ (ranges F ++ rest)) 133 4 8 (λ s. irqBytes (F .irq s)) (λ s. irq-size (F .irq s)) (from-irqs F)
+  irq-at = byte-of (image F) (clients F ++ (ranges F ++ rest)) Layout.irqsAt Layout.irqSize Table.mostSockets (λ s. irqBytes (F .irq s)) (λ s. irq-size (F .irq s)) (from-irqs F)
 
-  pub client-at : (i : ℕ) → i < 16 → (j : ℕ) → j < 22
+  pub client-at : (i : ℕ) → i < Table.mostClients → (j : ℕ) → j < Layout.clientSize
       → byte (image F) (Layout.clientsAt + i * Layout.clientSize + j) ≡ getD (clientBytes (getElem? (F .clients) i)) j 0
   unfolding clients
   client-at =
-      byte-of (image F) (ranges F ++ rest) 165 22 16 (λ i. clientBytes (getElem? (F .clients) i)) (λ i. client-size (getElem? (F .clients) i)) (from-clients F)
+      byte-of (image F) (ranges F ++ rest) Layout.clientsAt Layout.clientSize Table.mostClients (λ i. clientBytes (getElem? (F .clients) i)) (λ i. client-size (getElem? (F .clients) i)) (from-clients F)
 
-  pub range-at : (i : ℕ) → i < 32 → (j : ℕ) → j < 7
+  pub range-at : (i : ℕ) → i < Table.mostRanges → (j : ℕ) → j < Layout.rangeSize
       → byte (image F) (Layout.rangesAt + i * Layout.rangeSize + j) ≡ getD (rangeBytes (getElem? (F .ranges) i)) j 0
   unfolding ranges
   range-at =
-      byte-of (image F) rest 517 7 32 (λ i. rangeBytes (getElem? (F .ranges) i)) (λ i. range-size (getElem? (F .ranges) i)) (from-ranges F)
+      byte-of (image F) rest Layout.rangesAt Layout.rangeSize Table.mostRanges (λ i. rangeBytes (getElem? (F .ranges) i)) (λ i. range-size (getElem? (F .ranges) i)) (from-ranges F)
 
   pub rest-at : (i : ℕ) → Layout.restAt ≤ i → i < Layout.tableSize → byte (image F) i ≡ 0
   unfolding rest
   rest-at i h l =
       ap (byte (image F)) (omega arith) ∙ sym (getD-drop Layout.restAt (image F) (i - Layout.restAt) 0)
       ∙ ap (λ (y : List ℕ). getD y (i - Layout.restAt) 0) (from-rest F)
-      ∙ getD-replicate 7451 (i - Layout.restAt) 0 0 (omega arith)
+      ∙ getD-replicate (Layout.tableSize - Layout.restAt) (i - Layout.restAt) 0 0 (omega arith)

@@ -2,7 +2,7 @@
 use mathlib.Core.Path.{_≡_, refl, ap, sym, _∙_, subst}
 use mathlib.Core.Logic.{_⊎_, inl, inr}
 use mathlib.Core.List.{List}
-use mathlib.Core.Option.{Option, none, some}
+use mathlib.Core.Option.{Option, none, some, Option·some-injective, Option·none-ne-some}
 use Prim.Native.Nat.{ℕ, _+_, _<_}
 use native.Mathlib.Decide.{decLt}
 use native.Mathlib.Omega.{arith}
@@ -21,16 +21,20 @@ use Rattle.layout.proofs.Shows.{Shows, image-shows}
 use Rattle.layout.proofs.Grants.{no-client}
 use Rattle.layout.proofs.Sounds
 
--- a socket has no grant, and its record says no client; or it has one, and its record says so
-abbrev pub IoOf : (b : List ℕ) → Accepted b → ℕ → Type 0
-IoOf b a s =
-    ((a .facts .io s ≡ none) × (word b (ioPlace s) ≡ 0))
-    ⊎ ((g : IoGrant) × (a .facts .io s ≡ some g) × (word b (ioPlace s) ≡ g .client) × (0 < g .client))
+-- there is no grant, and its record says no client; or there is one, and its record says whose
+abbrev pub GrantOf : {G : Type 0} → (G → ℕ) → Option G → ℕ → Type 0
+GrantOf {G} client o w = ((o ≡ none) × (w ≡ 0)) ⊎ ((g : G) × (o ≡ some g) × (w ≡ client g) × (0 < client g))
 
-abbrev pub IrqOf : (b : List ℕ) → Accepted b → ℕ → Type 0
-IrqOf b a s =
-    ((a .facts .irq s ≡ none) × (word b (irqPlace s) ≡ 0))
-    ⊎ ((g : IrqGrant) × (a .facts .irq s ≡ some g) × (word b (irqPlace s) ≡ g .client) × (0 < g .client) × (byte b (irqPlace s + 2) ≡ g .level))
+module _ {G : Type 0} (client : G → ℕ) (o : Option G) (w h : ℕ) where
+  -- a record that says a client is a grant of that client
+  pub grant-said : 0 < h → GrantOf client o w → w ≡ h → (g : G) × (o ≡ some g) × (client g ≡ h)
+  grant-said l (inl n) e = absurd (omega (arith, l, n .1, e))
+  grant-said l (inr g) e = (g .0, g .1, sym (g .2) ∙ e)
+
+  -- the record of a client's grant says so
+  pub said-grant : GrantOf client o w → (g : G) → o ≡ some g → client g ≡ h → w ≡ h
+  said-grant (inl n) g e c = absurd (Option·none-ne-some g (sym (n .0) ∙ e))
+  said-grant (inr x) g e c = x .2 ∙ ap client (Option·some-injective (x .0) g (sym (x .1) ∙ e)) ∙ c
 
 module _ (b : List ℕ) (a : Accepted b) where
   pub size-in : length b ≡ Layout.tableSize
@@ -64,7 +68,7 @@ module _ (b : List ℕ) (a : Accepted b) where
       → maskOf (word b (maskPlace i s)) ≡ c .mask s
   unfolding clientIn
   mask-of i s c e l h =
-      sym (below-in 8 none (λ s. maskOf (word b (maskPlace i s))) s h) ∙ ap (λ (x : Client). x .mask s) (record-of i c e l)
+      sym (below-in Table.mostSockets none (λ s. maskOf (word b (maskPlace i s))) s h) ∙ ap (λ (x : Client). x .mask s) (record-of i c e l)
 
   -- a live client is listed
   pub listed-live : (h : ℕ) → Live (a .facts) h → LiveIn b h
@@ -84,33 +88,33 @@ module _ (b : List ℕ) (a : Accepted b) where
       go (no l) (yes m) = absurd (omega (arith, e, rising-before 0 (a .facts .clients) j i y x (a .formed .handles) m q p))
       go (no l) (no m) = omega arith
 
-  -- a socket's I/O grant
-  pub io-of : (s : ℕ) → s < Table.mostSockets → IoOf b a s
+  -- a socket's grants
+  pub io-of : (s : ℕ) → s < Table.mostSockets → GrantOf (λ (g : IoGrant). g .client) (a .facts .io s) (word b (ioPlace s))
   unfolding ioIn
   io-of s l = go (a .facts .io s) refl
     where
-      unsaid : a .facts .io s ≡ none → word b (ioPlace s) ≡ 0
-      unsaid e = no-client b (ioPlace s) 11 (omega arith) (subst (λ (x : List ℕ). Zero x (ioPlace s) (ioPlace s + 11)) (a .is) (Sounds.io-zero (a .facts) (a .formed) s l e))
-
-      go : (o : Option IoGrant) → a .facts .io s ≡ o → IoOf b a s
-      go none e = inl (e, unsaid e)
+      go : (o : Option IoGrant) → a .facts .io s ≡ o → GrantOf (λ (g : IoGrant). g .client) (a .facts .io s) (word b (ioPlace s))
+      go none e =
+          inl (e, no-client b (ioPlace s) Layout.ioSize (omega arith)
+          (subst (λ (x : List ℕ). Zero x (ioPlace s) (ioPlace s + Layout.ioSize)) (a .is) (Sounds.io-zero (a .facts) (a .formed) s l e)))
       go (some g) e =
-          inr (
-            g,
-            e,
-            ap (λ (x : IoGrant). x .client) (subst (λ (x : List ℕ). ioIn x s ≡ g) (a .is) (Sounds.io-is (a .facts) (a .formed) s g l e .1)),
-            live-positive (a .formed) (a .formed .ios s g e .client),
-          )
+          inr (g, e, ap (λ (x : IoGrant). x .client) (subst (λ (x : List ℕ). ioIn x s ≡ g) (a .is) (Sounds.io-is (a .facts) (a .formed) s g l e .1)),
+          live-positive (a .formed) (a .formed .ios s g e .client))
 
-  pub irq-of : (s : ℕ) → s < Table.mostSockets → IrqOf b a s
+  irq-record : (s : ℕ) (g : IrqGrant) → s < Table.mostSockets → a .facts .irq s ≡ some g → irqIn b s ≡ g
+  irq-record s g l e = subst (λ (x : List ℕ). irqIn x s ≡ g) (a .is) (Sounds.irq-is (a .facts) (a .formed) s g l e .1)
+
+  pub irq-of : (s : ℕ) → s < Table.mostSockets → GrantOf (λ (g : IrqGrant). g .client) (a .facts .irq s) (word b (irqPlace s))
   unfolding irqIn
   irq-of s l = go (a .facts .irq s) refl
     where
-      unsaid : a .facts .irq s ≡ none → word b (irqPlace s) ≡ 0
-      unsaid e = no-client b (irqPlace s) 4 (omega arith) (subst (λ (x : List ℕ). Zero x (irqPlace s) (irqPlace s + 4)) (a .is) (Sounds.irq-zero (a .facts) (a .formed) s l e))
-
-      go : (o : Option IrqGrant) → a .facts .irq s ≡ o → IrqOf b a s
-      go none e = inl (e, unsaid e)
+      go : (o : Option IrqGrant) → a .facts .irq s ≡ o → GrantOf (λ (g : IrqGrant). g .client) (a .facts .irq s) (word b (irqPlace s))
+      go none e =
+          inl (e, no-client b (irqPlace s) Layout.irqSize (omega arith)
+          (subst (λ (x : List ℕ). Zero x (irqPlace s) (irqPlace s + Layout.irqSize)) (a .is) (Sounds.irq-zero (a .facts) (a .formed) s l e)))
       go (some g) e =
-          let is = subst (λ (x : List ℕ). irqIn x s ≡ g) (a .is) (Sounds.irq-is (a .facts) (a .formed) s g l e .1) in
-          inr (g, e, ap (λ (x : IrqGrant). x .client) is, live-positive (a .formed) (a .formed .irqs s g e .client), ap (λ (x : IrqGrant). x .level) is)
+          inr (g, e, ap (λ (x : IrqGrant). x .client) (irq-record s g l e), live-positive (a .formed) (a .formed .irqs s g e .client))
+
+  pub irq-level : (s : ℕ) (g : IrqGrant) → s < Table.mostSockets → a .facts .irq s ≡ some g → byte b (irqPlace s + 2) ≡ g .level
+  unfolding irqIn
+  irq-level s g l e = ap (λ (x : IrqGrant). x .level) (irq-record s g l e)

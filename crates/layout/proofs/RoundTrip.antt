@@ -54,70 +54,70 @@ mask-back (some m) w e =
     positive-test w none (some (w - 4096)) (omega (arith, two-back (4096 + m))) ∙ ap {B = Option ℕ} some (omega (arith, two-back (4096 + m)))
 
 -- the bytes of a client's masks
-pub mask-bytes : (c : Client) (s r : ℕ) → s < 8 → r < 2 → getD (clientBytes (some c)) (6 + (s * 2 + r)) 0 ≡ getD (maskBytes (c .mask s)) r 0
+pub mask-bytes : (c : Client) (s r : ℕ) → s < Table.mostSockets → r < 2 → getD (clientBytes (some c)) (6 + (s * Layout.maskSize + r)) 0 ≡ getD (maskBytes (c .mask s)) r 0
 mask-bytes c s r h l =
-    skip (two (c .handle) ++ two (c .attributes) ++ two (c .events)) (each 8 (λ s. maskBytes (c .mask s))) 6 (s * 2 + r) refl
-    ∙ each-at 2 (λ s. maskBytes (c .mask s)) (λ s. Image.mask-size (c .mask s)) 8 s r h l
+    skip (two (c .handle) ++ two (c .attributes) ++ two (c .events)) (each Table.mostSockets (λ s. maskBytes (c .mask s))) 6 (s * Layout.maskSize + r) refl
+    ∙ each-at Layout.maskSize (λ s. maskBytes (c .mask s)) (λ s. Image.mask-size (c .mask s)) Table.mostSockets s r h l
 
-module _ (b : List ℕ) (i : ℕ) (c : Client) (at : (j : ℕ) → j < 22 → byte b (clientPlace i + j) ≡ getD (clientBytes (some c)) j 0) where
-  pub mask-word : (s : ℕ) → s < 8 → word b (maskPlace i s) ≡ getD (maskBytes (c .mask s)) 0 0 + 256 * getD (maskBytes (c .mask s)) 1 0
+module _ (b : List ℕ) (i : ℕ) (c : Client) (at : (j : ℕ) → j < Layout.clientSize → byte b (clientPlace i + j) ≡ getD (clientBytes (some c)) j 0) where
+  pub mask-word : (s : ℕ) → s < Table.mostSockets → word b (maskPlace i s) ≡ getD (maskBytes (c .mask s)) 0 0 + 256 * getD (maskBytes (c .mask s)) 1 0
   mask-word s h =
       ap₂ (λ (y z : ℕ). y + 256 * z)
-      (ap (byte b) (omega arith) ∙ at (6 + (s * 2 + 0)) (omega arith) ∙ mask-bytes c s 0 h (omega arith))
-      (ap (byte b) (omega arith) ∙ at (6 + (s * 2 + 1)) (omega arith) ∙ mask-bytes c s 1 h (omega arith))
+      (ap (byte b) (omega arith) ∙ at (6 + (s * Layout.maskSize + 0)) (omega arith) ∙ mask-bytes c s 0 h (omega arith))
+      (ap (byte b) (omega arith) ∙ at (6 + (s * Layout.maskSize + 1)) (omega arith) ∙ mask-bytes c s 1 h (omega arith))
 
   -- a client's record is the client, where it has no mask past the sockets
-  pub client-back : ((s : ℕ) → 8 ≤ s → c .mask s ≡ none) → clientIn b i ≡ c
+  pub client-back : ((s : ℕ) → Table.mostSockets ≤ s → c .mask s ≡ none) → clientIn b i ≡ c
   unfolding clientIn
   client-back past = λ k. record { handle = h k; attributes = a k; events = e k; mask = m k }
     where
       h : word b (clientPlace i) ≡ c .handle
-      h = Image.first-word b (clientPlace i) 22 (clientBytes (some c)) at (omega arith) ∙ two-back (c .handle)
+      h = Image.first-word b (clientPlace i) Layout.clientSize (clientBytes (some c)) at (omega arith) ∙ two-back (c .handle)
 
       a : word b (clientPlace i + 2) ≡ c .attributes
-      a = Image.word-of b (clientPlace i) 22 (clientBytes (some c)) at 2 (omega arith) ∙ two-back (c .attributes)
+      a = Image.word-of b (clientPlace i) Layout.clientSize (clientBytes (some c)) at 2 (omega arith) ∙ two-back (c .attributes)
 
       e : word b (clientPlace i + 4) ≡ c .events
-      e = Image.word-of b (clientPlace i) 22 (clientBytes (some c)) at 4 (omega arith) ∙ two-back (c .events)
+      e = Image.word-of b (clientPlace i) Layout.clientSize (clientBytes (some c)) at 4 (omega arith) ∙ two-back (c .events)
 
-      at-socket : (s : ℕ) → Dec (s < 8) → below Table.mostSockets none (λ s. maskOf (word b (maskPlace i s))) s ≡ c .mask s
-      at-socket s (yes l) = below-in 8 none (λ s. maskOf (word b (maskPlace i s))) s l ∙ mask-back (c .mask s) (word b (maskPlace i s)) (mask-word s l)
-      at-socket s (no l) = below-past 8 none (λ s. maskOf (word b (maskPlace i s))) s (omega arith) ∙ sym (past s (omega arith))
+      at-socket : (s : ℕ) → Dec (s < Table.mostSockets) → below Table.mostSockets none (λ s. maskOf (word b (maskPlace i s))) s ≡ c .mask s
+      at-socket s (yes l) = below-in Table.mostSockets none (λ s. maskOf (word b (maskPlace i s))) s l ∙ mask-back (c .mask s) (word b (maskPlace i s)) (mask-word s l)
+      at-socket s (no l) = below-past Table.mostSockets none (λ s. maskOf (word b (maskPlace i s))) s (omega arith) ∙ sym (past s (omega arith))
 
       m : below Table.mostSockets none (λ s. maskOf (word b (maskPlace i s))) ≡ c .mask
-      m = fun-ext (λ s. at-socket s (decLt s 8))
+      m = fun-ext (λ s. at-socket s (decLt s Table.mostSockets))
 
 -- a range's record is the range
-pub range-back : (b : List ℕ) (i : ℕ) (r : Range) → ((j : ℕ) → j < 7 → byte b (rangePlace i + j) ≡ getD (rangeBytes (some r)) j 0) → rangeIn b i ≡ r
+pub range-back : (b : List ℕ) (i : ℕ) (r : Range) → ((j : ℕ) → j < Layout.rangeSize → byte b (rangePlace i + j) ≡ getD (rangeBytes (some r)) j 0) → rangeIn b i ≡ r
 unfolding rangeIn
 range-back b i r at = λ k. record { base = base k; count = count k; reserved = reserved k }
   where
     base : word b (rangePlace i) ≡ r .base
-    base = Image.first-word b (rangePlace i) 7 (rangeBytes (some r)) at (omega arith) ∙ two-back (r .base)
+    base = Image.first-word b (rangePlace i) Layout.rangeSize (rangeBytes (some r)) at (omega arith) ∙ two-back (r .base)
 
     high : word b (rangePlace i + 2 + 2) ≡ r .count / 65536 % 256 + 256 * (r .count / 16777216)
-    high = ap (word b) (add-assoc (rangePlace i) 2 2) ∙ Image.word-of b (rangePlace i) 7 (rangeBytes (some r)) at 4 (omega arith)
+    high = ap (word b) (add-assoc (rangePlace i) 2 2) ∙ Image.word-of b (rangePlace i) Layout.rangeSize (rangeBytes (some r)) at 4 (omega arith)
 
     count : long b (rangePlace i + 2) ≡ r .count
     count =
-        ap₂ (λ (y z : ℕ). y + 65536 * z) (Image.word-of b (rangePlace i) 7 (rangeBytes (some r)) at 2 (omega arith)) high ∙ four-back (r .count)
+        ap₂ (λ (y z : ℕ). y + 65536 * z) (Image.word-of b (rangePlace i) Layout.rangeSize (rangeBytes (some r)) at 2 (omega arith)) high ∙ four-back (r .count)
 
     reserved : marked (byte b (rangePlace i + 6)) ≡ r .reserved
     reserved = ap marked (at 6 (omega arith)) ∙ mark-back (r .reserved)
 
 -- a grant's record is the grant
 pub io-back : (b : List ℕ) (s : ℕ) (o : Option IoGrant) → ((g : IoGrant) → o ≡ some g → 0 < g .client)
-    → ((j : ℕ) → j < 11 → byte b (ioPlace s + j) ≡ getD (ioBytes o) j 0)
+    → ((j : ℕ) → j < Layout.ioSize → byte b (ioPlace s + j) ≡ getD (ioBytes o) j 0)
     → ioHere b s ≡ o
 unfolding ioHere ioIn
-io-back b s none live at = zero-test (word b (ioPlace s)) none (some (ioIn b s)) (Image.first-word b (ioPlace s) 11 (ioBytes none) at (omega arith))
+io-back b s none live at = zero-test (word b (ioPlace s)) none (some (ioIn b s)) (Image.first-word b (ioPlace s) Layout.ioSize (ioBytes none) at (omega arith))
 io-back b s (some g) live at = positive-test (word b (ioPlace s)) none (some (ioIn b s)) (omega (arith, client, live g refl)) ∙ ap {B = Option IoGrant} some whole
   where
     client : word b (ioPlace s) ≡ g .client
-    client = Image.first-word b (ioPlace s) 11 (ioBytes (some g)) at (omega arith) ∙ two-back (g .client)
+    client = Image.first-word b (ioPlace s) Layout.ioSize (ioBytes (some g)) at (omega arith) ∙ two-back (g .client)
 
     base : word b (ioPlace s + 2) ≡ g .ports .base
-    base = Image.word-of b (ioPlace s) 11 (ioBytes (some g)) at 2 (omega arith) ∙ two-back (g .ports .base)
+    base = Image.word-of b (ioPlace s) Layout.ioSize (ioBytes (some g)) at 2 (omega arith) ∙ two-back (g .ports .base)
 
     shared : marked (byte b (ioPlace s + 6)) ≡ g .shared
     shared = ap marked (at 6 (omega arith)) ∙ mark-back (g .shared)
@@ -126,14 +126,14 @@ io-back b s (some g) live at = positive-test (word b (ioPlace s)) none (some (io
     whole = λ k. record { client = client k; ports = record { base = base k; count = at 4 (omega arith) k; lines = at 5 (omega arith) k }; shared = shared k }
 
 pub irq-back : (b : List ℕ) (s : ℕ) (o : Option IrqGrant) → ((g : IrqGrant) → o ≡ some g → 0 < g .client)
-    → ((j : ℕ) → j < 4 → byte b (irqPlace s + j) ≡ getD (irqBytes o) j 0)
+    → ((j : ℕ) → j < Layout.irqSize → byte b (irqPlace s + j) ≡ getD (irqBytes o) j 0)
     → irqHere b s ≡ o
 unfolding irqHere irqIn
-irq-back b s none live at = zero-test (word b (irqPlace s)) none (some (irqIn b s)) (Image.first-word b (irqPlace s) 4 (irqBytes none) at (omega arith))
+irq-back b s none live at = zero-test (word b (irqPlace s)) none (some (irqIn b s)) (Image.first-word b (irqPlace s) Layout.irqSize (irqBytes none) at (omega arith))
 irq-back b s (some g) live at = positive-test (word b (irqPlace s)) none (some (irqIn b s)) (omega (arith, client, live g refl)) ∙ ap {B = Option IrqGrant} some whole
   where
     client : word b (irqPlace s) ≡ g .client
-    client = Image.first-word b (irqPlace s) 4 (irqBytes (some g)) at (omega arith) ∙ two-back (g .client)
+    client = Image.first-word b (irqPlace s) Layout.irqSize (irqBytes (some g)) at (omega arith) ∙ two-back (g .client)
 
     manner : mannerOf (byte b (irqPlace s + 3)) ≡ g .manner
     manner = ap mannerOf (at 3 (omega arith)) ∙ manner-back (g .manner)
@@ -156,26 +156,26 @@ absent none h = refl
 absent (some x) h = absurd (h x refl)
 
 module _ (F : Facts) (w : WellFormed F) where
-  cards-back : (s : ℕ) → Dec (s < 8) → below Table.mostSockets false (λ s. marked (byte (image F) (Layout.cardsAt + s))) s ≡ F .card s
+  cards-back : (s : ℕ) → Dec (s < Table.mostSockets) → below Table.mostSockets false (λ s. marked (byte (image F) (Layout.cardsAt + s))) s ≡ F .card s
   cards-back s (yes l) =
-      below-in 8 false (λ s. marked (byte (image F) (Layout.cardsAt + s))) s l ∙ ap marked (Image.card-at F s l) ∙ mark-back (F .card s)
+      below-in Table.mostSockets false (λ s. marked (byte (image F) (Layout.cardsAt + s))) s l ∙ ap marked (Image.card-at F s l) ∙ mark-back (F .card s)
   cards-back s (no l) =
-      below-past 8 false (λ s. marked (byte (image F) (Layout.cardsAt + s))) s (omega arith)
+      below-past Table.mostSockets false (λ s. marked (byte (image F) (Layout.cardsAt + s))) s (omega arith)
       ∙ unmarked (F .card s) (λ e. omega (arith, w .cards s e, w .sockets-most))
 
-  level-back : (l : ℕ) → l < 16 → levelIn (image F) l ≡ F .level l
+  level-back : (l : ℕ) → l < Table.allLevels → levelIn (image F) l ≡ F .level l
   unfolding levelIn
   level-back l h = λ k. record { managed = m k; reserved = r k }
     where
       m : marked (byte (image F) (levelPlace l)) ≡ F .level l .managed
-      m = ap marked (Image.first-byte (image F) (levelPlace l) 2 (levelBytes (F .level l)) (Image.level-at F l h) (omega arith)) ∙ mark-back (F .level l .managed)
+      m = ap marked (Image.first-byte (image F) (levelPlace l) Layout.levelSize (levelBytes (F .level l)) (Image.level-at F l h) (omega arith)) ∙ mark-back (F .level l .managed)
 
       r : marked (byte (image F) (levelPlace l + 1)) ≡ F .level l .reserved
       r = ap marked (Image.level-at F l h 1 (omega arith)) ∙ mark-back (F .level l .reserved)
 
-  levels-back : (l : ℕ) → Dec (l < 16) → below Table.allLevels (record { managed = false; reserved = false }) (levelIn (image F)) l ≡ F .level l
-  levels-back l (yes h) = below-in 16 (record { managed = false; reserved = false }) (levelIn (image F)) l h ∙ level-back l h
-  levels-back l (no h) = below-past 16 (record { managed = false; reserved = false }) (levelIn (image F)) l (omega arith) ∙ (λ k. record { managed = m k; reserved = r k })
+  levels-back : (l : ℕ) → Dec (l < Table.allLevels) → below Table.allLevels (record { managed = false; reserved = false }) (levelIn (image F)) l ≡ F .level l
+  levels-back l (yes h) = below-in Table.allLevels (record { managed = false; reserved = false }) (levelIn (image F)) l h ∙ level-back l h
+  levels-back l (no h) = below-past Table.allLevels (record { managed = false; reserved = false }) (levelIn (image F)) l (omega arith) ∙ (λ k. record { managed = m k; reserved = r k })
     where
       m : false ≡ F .level l .managed
       m = unmarked (F .level l .managed) (λ e. omega (arith, w .levels l e))
@@ -183,23 +183,23 @@ module _ (F : Facts) (w : WellFormed F) where
       r : false ≡ F .level l .reserved
       r = unmarked (F .level l .reserved) (λ e. omega (arith, w .levels l (w .reserved l e)))
 
-  pub ios-back : (s : ℕ) → Dec (s < 8) → below Table.mostSockets none (ioHere (image F)) s ≡ F .io s
+  pub ios-back : (s : ℕ) → Dec (s < Table.mostSockets) → below Table.mostSockets none (ioHere (image F)) s ≡ F .io s
   ios-back s (yes l) =
-      below-in 8 none (ioHere (image F)) s l
+      below-in Table.mostSockets none (ioHere (image F)) s l
       ∙ io-back (image F) s (F .io s) (λ g e. live-positive w (w .ios s g e .client)) (Image.io-at F s l)
   ios-back s (no l) =
-      below-past 8 none (ioHere (image F)) s (omega arith) ∙ absent (F .io s) (λ g e. omega (arith, w .ios s g e .socket, w .sockets-most))
+      below-past Table.mostSockets none (ioHere (image F)) s (omega arith) ∙ absent (F .io s) (λ g e. omega (arith, w .ios s g e .socket, w .sockets-most))
 
-  pub irqs-back : (s : ℕ) → Dec (s < 8) → below Table.mostSockets none (irqHere (image F)) s ≡ F .irq s
+  pub irqs-back : (s : ℕ) → Dec (s < Table.mostSockets) → below Table.mostSockets none (irqHere (image F)) s ≡ F .irq s
   irqs-back s (yes l) =
-      below-in 8 none (irqHere (image F)) s l
+      below-in Table.mostSockets none (irqHere (image F)) s l
       ∙ irq-back (image F) s (F .irq s) (λ g e. live-positive w (w .irqs s g e .client)) (Image.irq-at F s l)
   irqs-back s (no l) =
-      below-past 8 none (irqHere (image F)) s (omega arith) ∙ absent (F .irq s) (λ g e. omega (arith, w .irqs s g e .socket, w .sockets-most))
+      below-past Table.mostSockets none (irqHere (image F)) s (omega arith) ∙ absent (F .irq s) (λ g e. omega (arith, w .irqs s g e .socket, w .sockets-most))
 
   -- the bytes of the ith client's record
   pub client-bytes : (i : ℕ) (c : Client) → getElem? (F .clients) i ≡ some c → i < length (F .clients)
-      → (j : ℕ) → j < 22 → byte (image F) (clientPlace i + j) ≡ getD (clientBytes (some c)) j 0
+      → (j : ℕ) → j < Layout.clientSize → byte (image F) (clientPlace i + j) ≡ getD (clientBytes (some c)) j 0
   client-bytes i c e l j h = Image.client-at F i (omega (arith, w .clients-most)) j h ∙ ap (λ (o : Option Client). getD (clientBytes o) j 0) e
 
   -- the ith client's record is the ith client
@@ -219,13 +219,13 @@ module _ (F : Facts) (w : WellFormed F) where
   read-back =
       λ k. record {
         sockets = F .sockets;
-        card = fun-ext (λ s. cards-back s (decLt s 8)) k;
+        card = fun-ext (λ s. cards-back s (decLt s Table.mostSockets)) k;
         issued = two-back (F .issued) k;
         clients = listed (F .clients) (clientIn (image F)) client-is k;
-        level = fun-ext (λ l. levels-back l (decLt l 16)) k;
+        level = fun-ext (λ l. levels-back l (decLt l Table.allLevels)) k;
         ranges = listed (F .ranges) (rangeIn (image F)) range-is k;
-        io = fun-ext (λ s. ios-back s (decLt s 8)) k;
-        irq = fun-ext (λ s. irqs-back s (decLt s 8)) k;
+        io = fun-ext (λ s. ios-back s (decLt s Table.mostSockets)) k;
+        irq = fun-ext (λ s. irqs-back s (decLt s Table.mostSockets)) k;
       }
 
 -- "no two share one"

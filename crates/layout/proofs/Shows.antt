@@ -35,19 +35,19 @@ part b place k n f sized fits h =
     (λ i j l m. h i j l m ∙ ap (byte b) (add-assoc place (i * k) j) ∙ sym (getD-drop place b (i * k + j) 0) ∙ sym (getD-take (n * k) (drop place b) (i * k + j) 0 (record-below l m)))
 
 module _ (F : Facts) (b : List ℕ) (s : Shows F b) where
-  enough : {n : ℕ} → n ≤ 8192 → n ≤ length b
+  enough : {n : ℕ} → n ≤ Layout.tableSize → n ≤ length b
   enough l = omega (arith, s .size)
 
-  card-bytes : (i j : ℕ) → i < 8 → j < 1 → getD (mark (F .card i) ∷ []) j 0 ≡ byte b (5 + i * 1 + j)
+  card-bytes : (i j : ℕ) → i < Table.mostSockets → j < 1 → getD (mark (F .card i) ∷ []) j 0 ≡ byte b (Layout.cardsAt + i * 1 + j)
   card-bytes i j l m =
-      below-at 1 (λ j. getD (mark (F .card i) ∷ []) j 0 ≡ byte b (5 + i * 1 + j)) (tt, s .cards-are i l ∙ ap (byte b) (omega arith)) j m
+      below-at 1 (λ j. getD (mark (F .card i) ∷ []) j 0 ≡ byte b (Layout.cardsAt + i * 1 + j)) (tt, s .cards-are i l ∙ ap (byte b) (omega arith)) j m
 
-  rest-bytes : rest ≡ drop 741 b
+  rest-bytes : rest ≡ drop Layout.restAt b
   unfolding rest
   rest-bytes =
-      ext-getD 0 (replicate 7451 0) (drop 741 b) (length-replicate {A = ℕ} 7451 0 ∙ sym (length-drop 741 b ∙ ap (λ (n : ℕ). n - 741) (s .size)))
-      (λ i l. let m = subst (λ (n : ℕ). i < n) (length-replicate {A = ℕ} 7451 0) l in
-      getD-replicate 7451 i 0 0 m ∙ sym (s .rest-is (741 + i) (omega arith) (omega arith)) ∙ sym (getD-drop 741 b i 0))
+      ext-getD 0 (replicate (Layout.tableSize - Layout.restAt) 0) (drop Layout.restAt b) (length-replicate {A = ℕ} (Layout.tableSize - Layout.restAt) 0 ∙ sym (length-drop Layout.restAt b ∙ ap (λ (n : ℕ). n - Layout.restAt) (s .size)))
+      (λ i l. let m = subst (λ (n : ℕ). i < n) (length-replicate {A = ℕ} (Layout.tableSize - Layout.restAt) 0) l in
+      getD-replicate (Layout.tableSize - Layout.restAt) i 0 0 m ∙ sym (s .rest-is (Layout.restAt + i) (omega arith) (omega arith)) ∙ sym (getD-drop Layout.restAt b i 0))
 
   head-bytes : head F ≡ take 5 b
   unfolding head
@@ -61,12 +61,12 @@ module _ (F : Facts) (b : List ℕ) (s : Shows F b) where
   unfolding image cards levels ios irqs clients ranges
   shows-image =
       join 5 head-bytes
-      (step 5 8 (part b 5 1 8 (λ s. mark (F .card s) ∷ []) (λ i. refl) (enough (omega arith)) card-bytes)
-      (step 13 32 (part b 13 2 16 (λ l. levelBytes (F .level l)) (λ i. refl) (enough (omega arith)) (s .levels-are))
-      (step 45 88 (part b 45 11 8 (λ s. ioBytes (F .io s)) (λ i. Image.io-size (F .io i)) (enough (omega arith)) (s .ios-are))
-      (step 133 32 (part b 133 4 8 (λ s. irqBytes (F .irq s)) (λ i. Image.irq-size (F .irq i)) (enough (omega arith)) (s .irqs-are))
-      (step 165 352 (part b 165 22 16 (λ i. clientBytes (getElem? (F .clients) i)) (λ i. Image.client-size (getElem? (F .clients) i)) (enough (omega arith)) (s .clients-are))
-      (step 517 224 (part b 517 7 32 (λ i. rangeBytes (getElem? (F .ranges) i)) (λ i. Image.range-size (getElem? (F .ranges) i)) (enough (omega arith)) (s .ranges-are))
+      (step Layout.cardsAt (Table.mostSockets * Layout.cardSize) (part b Layout.cardsAt Layout.cardSize Table.mostSockets (λ s. mark (F .card s) ∷ []) (λ i. refl) (enough (omega arith)) card-bytes)
+      (step Layout.levelsAt (Table.allLevels * Layout.levelSize) (part b Layout.levelsAt Layout.levelSize Table.allLevels (λ l. levelBytes (F .level l)) (λ i. refl) (enough (omega arith)) (s .levels-are))
+      (step Layout.iosAt (Table.mostSockets * Layout.ioSize) (part b Layout.iosAt Layout.ioSize Table.mostSockets (λ s. ioBytes (F .io s)) (λ i. Image.io-size (F .io i)) (enough (omega arith)) (s .ios-are))
+      (step Layout.irqsAt (Table.mostSockets * Layout.irqSize) (part b Layout.irqsAt Layout.irqSize Table.mostSockets (λ s. irqBytes (F .irq s)) (λ i. Image.irq-size (F .irq i)) (enough (omega arith)) (s .irqs-are))
+      (step Layout.clientsAt (Table.mostClients * Layout.clientSize) (part b Layout.clientsAt Layout.clientSize Table.mostClients (λ i. clientBytes (getElem? (F .clients) i)) (λ i. Image.client-size (getElem? (F .clients) i)) (enough (omega arith)) (s .clients-are))
+      (step Layout.rangesAt (Table.mostRanges * Layout.rangeSize) (part b Layout.rangesAt Layout.rangeSize Table.mostRanges (λ i. rangeBytes (getElem? (F .ranges) i)) (λ i. Image.range-size (getElem? (F .ranges) i)) (enough (omega arith)) (s .ranges-are))
       rest-bytes))))))
 
 -- the image shows its set

@@ -22,6 +22,7 @@ use Rattle.layout.proofs.Image
 use Rattle.layout.proofs.Lists.{below-in, at-below, at-past, at-in, in-at, rising-over, rising-next, apart-port, apart-next}
 use Rattle.layout.proofs.RoundTrip.{two-back, mask-word, client-bytes, client-is, range-is, ios-back, irqs-back}
 use Rattle.layout.proofs.Grants.{zeros, nonzero, none-zero, placed, used}
+use Rattle.facts.specs.Table
 
 mark-most : (t : Bool) → mark t ≤ 1
 mark-most true = omega arith
@@ -58,7 +59,7 @@ module _ (F : Facts) (w : WellFormed F) where
   unfolding image head
   issued-is = two-back (F .issued)
 
-  card-sound : (s : ℕ) → s < 8 → CardSound (image F) s
+  card-sound : (s : ℕ) → s < Table.mostSockets → CardSound (image F) s
   card-sound s l =
       let e = Image.card-at F s l in
       record {
@@ -66,9 +67,9 @@ module _ (F : Facts) (w : WellFormed F) where
         socket = λ h. omega (arith, sockets-is, w .cards s (mark-true (F .card s) (sym e ∙ h)));
       }
 
-  level-sound : (l : ℕ) → l < 16 → LevelSound (image F) l
+  level-sound : (l : ℕ) → l < Table.allLevels → LevelSound (image F) l
   level-sound l h =
-      let m = Image.first-byte (image F) (levelPlace l) 2 (levelBytes (F .level l)) (Image.level-at F l h) (omega arith) in
+      let m = Image.first-byte (image F) (levelPlace l) Layout.levelSize (levelBytes (F .level l)) (Image.level-at F l h) (omega arith) in
       let r = Image.level-at F l h 1 (omega arith) in
       record {
         managed = omega (arith, m, mark-most (F .level l .managed));
@@ -79,7 +80,7 @@ module _ (F : Facts) (w : WellFormed F) where
   unfolding clientIn
   handle-is i c e l = ap (λ (x : Client). x .handle) (client-is F w i c e l)
 
-  pub mask-sound : (i : ℕ) (c : Client) → getElem? (F .clients) i ≡ some c → i < length (F .clients) → (s : ℕ) → s < 8 → MaskSound (image F) i s
+  pub mask-sound : (i : ℕ) (c : Client) → getElem? (F .clients) i ≡ some c → i < length (F .clients) → (s : ℕ) → s < Table.mostSockets → MaskSound (image F) i s
   mask-sound i c e l s h = go (c .mask s) refl
     where
       is : word (image F) (maskPlace i s) ≡ getD (maskBytes (c .mask s)) 0 0 + 256 * getD (maskBytes (c .mask s)) 1 0
@@ -116,15 +117,15 @@ module _ (F : Facts) (w : WellFormed F) where
   clients-end : Zero (image F) (clientPlace (clientsIn (image F))) Layout.rangesAt
   clients-end k l m =
       ap (byte (image F)) place ∙ Image.client-at F i (omega arith) j (omega arith)
-      ∙ ap (λ (o : Option Client). getD (clientBytes o) j 0) (at-past (F .clients) i (omega (arith, clients-is))) ∙ zeros 22 j (omega arith)
+      ∙ ap (λ (o : Option Client). getD (clientBytes o) j 0) (at-past (F .clients) i (omega (arith, clients-is))) ∙ zeros Layout.clientSize j (omega arith)
     where
       i : ℕ
-      i = (k - 165) / 22
+      i = (k - Layout.clientsAt) / Layout.clientSize
 
       j : ℕ
-      j = (k - 165) % 22
+      j = (k - Layout.clientsAt) % Layout.clientSize
 
-      place : k ≡ 165 + i * 22 + j
+      place : k ≡ clientPlace i + j
       place = omega arith
 
   base-is : (i : ℕ) (r : Range) → getElem? (F .ranges) i ≡ some r → i < length (F .ranges) → (baseIn (image F) i ≡ r .base) × (countIn (image F) i ≡ r .count)
@@ -156,21 +157,21 @@ module _ (F : Facts) (w : WellFormed F) where
       }
 
   ranges-end : Zero (image F) (rangePlace (rangesIn (image F))) Layout.tableSize
-  ranges-end k l m = go (decLt k 741)
+  ranges-end k l m = go (decLt k Layout.restAt)
     where
       i : ℕ
-      i = (k - 517) / 7
+      i = (k - Layout.rangesAt) / Layout.rangeSize
 
       j : ℕ
-      j = (k - 517) % 7
+      j = (k - Layout.rangesAt) % Layout.rangeSize
 
-      place : k ≡ 517 + i * 7 + j
+      place : k ≡ rangePlace i + j
       place = omega arith
 
-      go : Dec (k < 741) → byte (image F) k ≡ 0
+      go : Dec (k < Layout.restAt) → byte (image F) k ≡ 0
       go (yes h) =
           ap (byte (image F)) place ∙ Image.range-at F i (omega arith) j (omega arith)
-          ∙ ap (λ (o : Option Range). getD (rangeBytes o) j 0) (at-past (F .ranges) i (omega (arith, ranges-is))) ∙ zeros 7 j (omega arith)
+          ∙ ap (λ (o : Option Range). getD (rangeBytes o) j 0) (at-past (F .ranges) i (omega (arith, ranges-is))) ∙ zeros Layout.rangeSize j (omega arith)
       go (no h) = Image.rest-at F k (omega arith) m
 
   pub live-in : (h : ℕ) → Live F h → LiveIn (image F) h
@@ -185,15 +186,15 @@ module _ (F : Facts) (w : WellFormed F) where
       (r .0, omega (arith, r .1, ranges-is), record { from = omega (arith, is .0, m .has .from); below = omega (arith, is .0, is .1, m .has .below) })
 
   -- what stands at a socket's place
-  pub io-zero : (s : ℕ) → s < 8 → F .io s ≡ none → Zero (image F) (ioPlace s) (ioPlace s + Layout.ioSize)
-  io-zero s l = none-zero (image F) (ioPlace s) 11 (omega arith) ioBytes refl (F .io s) (Image.io-at F s l)
+  pub io-zero : (s : ℕ) → s < Table.mostSockets → F .io s ≡ none → Zero (image F) (ioPlace s) (ioPlace s + Layout.ioSize)
+  io-zero s l = none-zero (image F) (ioPlace s) Layout.ioSize (omega arith) ioBytes refl (F .io s) (Image.io-at F s l)
 
-  pub io-is : (s : ℕ) (g : IoGrant) → s < 8 → F .io s ≡ some g → (0 < word (image F) (ioPlace s)) × (ioIn (image F) s ≡ g)
+  pub io-is : (s : ℕ) (g : IoGrant) → s < Table.mostSockets → F .io s ≡ some g → (0 < word (image F) (ioPlace s)) × (ioIn (image F) s ≡ g)
   unfolding ioHere
   io-is s g l e =
-      nonzero (word (image F) (ioPlace s)) (ioIn (image F) s) g (sym (below-in 8 none (ioHere (image F)) s l) ∙ ios-back F w s (yes l) ∙ e)
+      nonzero (word (image F) (ioPlace s)) (ioIn (image F) s) g (sym (below-in Table.mostSockets none (ioHere (image F)) s l) ∙ ios-back F w s (yes l) ∙ e)
 
-  io-spare : (s : ℕ) (g : IoGrant) → s < 8 → F .io s ≡ some g → Zero (image F) (ioPlace s + 7) (ioPlace s + Layout.ioSize)
+  io-spare : (s : ℕ) (g : IoGrant) → s < Table.mostSockets → F .io s ≡ some g → Zero (image F) (ioPlace s + 7) (ioPlace s + Layout.ioSize)
   io-spare s g l e k h m =
       ap (byte (image F)) place ∙ Image.io-at F s l (7 + (k - ioPlace s - 7)) (omega arith)
       ∙ ap (λ (o : Option IoGrant). getD (ioBytes o) (7 + (k - ioPlace s - 7)) 0) e
@@ -202,7 +203,7 @@ module _ (F : Facts) (w : WellFormed F) where
       place : k ≡ ioPlace s + (7 + (k - ioPlace s - 7))
       place = omega arith
 
-  io-sound : (s : ℕ) (g : IoGrant) → s < 8 → F .io s ≡ some g → IoSound (image F) s
+  io-sound : (s : ℕ) (g : IoGrant) → s < Table.mostSockets → F .io s ≡ some g → IoSound (image F) s
   unfolding ioIn
   io-sound s g l e =
       let is = io-is s g l e .1 in
@@ -224,31 +225,31 @@ module _ (F : Facts) (w : WellFormed F) where
         spare = io-spare s g l e;
       }
 
-  io-place : (s : ℕ) → s < 8 → IoPlaceSound (image F) s
-  io-place s l = placed (image F) (ioPlace s) 11 (omega arith) (F .io s) (io-zero s l) (λ g e. (io-is s g l e .0, io-sound s g l e))
+  io-place : (s : ℕ) → s < Table.mostSockets → IoPlaceSound (image F) s
+  io-place s l = placed (image F) (ioPlace s) Layout.ioSize (omega arith) (F .io s) (io-zero s l) (λ g e. (io-is s g l e .0, io-sound s g l e))
 
-  io-used : (s : ℕ) → s < 8 → IoUsed (image F) s → (g : IoGrant) × (F .io s ≡ some g) × (ioIn (image F) s ≡ g)
-  io-used s l u = let x = used (image F) (ioPlace s) 11 (omega arith) (F .io s) (io-zero s l) u in (x .0, x .1, io-is s (x .0) l (x .1) .1)
+  io-used : (s : ℕ) → s < Table.mostSockets → IoUsed (image F) s → (g : IoGrant) × (F .io s ≡ some g) × (ioIn (image F) s ≡ g)
+  io-used s l u = let x = used (image F) (ioPlace s) Layout.ioSize (omega arith) (F .io s) (io-zero s l) u in (x .0, x .1, io-is s (x .0) l (x .1) .1)
 
-  io-pair : (s t : ℕ) → s < 8 → t < s → IoPairSound (image F) s t
+  io-pair : (s t : ℕ) → s < Table.mostSockets → t < s → IoPairSound (image F) s t
   io-pair s t l m u v =
       let x = io-used s l u in
       let y = io-used t (omega arith) v in
       subst₂ IoCompany (sym (x .2)) (sym (y .2)) (w .io-company s t (x .0) (y .0) (λ e. omega (arith, e)) (x .1) (y .1))
 
-  pub irq-zero : (s : ℕ) → s < 8 → F .irq s ≡ none → Zero (image F) (irqPlace s) (irqPlace s + Layout.irqSize)
-  irq-zero s l = none-zero (image F) (irqPlace s) 4 (omega arith) irqBytes refl (F .irq s) (Image.irq-at F s l)
+  pub irq-zero : (s : ℕ) → s < Table.mostSockets → F .irq s ≡ none → Zero (image F) (irqPlace s) (irqPlace s + Layout.irqSize)
+  irq-zero s l = none-zero (image F) (irqPlace s) Layout.irqSize (omega arith) irqBytes refl (F .irq s) (Image.irq-at F s l)
 
-  pub irq-is : (s : ℕ) (g : IrqGrant) → s < 8 → F .irq s ≡ some g → (0 < word (image F) (irqPlace s)) × (irqIn (image F) s ≡ g)
+  pub irq-is : (s : ℕ) (g : IrqGrant) → s < Table.mostSockets → F .irq s ≡ some g → (0 < word (image F) (irqPlace s)) × (irqIn (image F) s ≡ g)
   unfolding irqHere
   irq-is s g l e =
-      nonzero (word (image F) (irqPlace s)) (irqIn (image F) s) g (sym (below-in 8 none (irqHere (image F)) s l) ∙ irqs-back F w s (yes l) ∙ e)
+      nonzero (word (image F) (irqPlace s)) (irqIn (image F) s) g (sym (below-in Table.mostSockets none (irqHere (image F)) s l) ∙ irqs-back F w s (yes l) ∙ e)
 
   level-byte : (l : ℕ) → F .level l .managed ≡ true → byte (image F) (levelPlace l) ≡ 1
   level-byte l e =
-      Image.first-byte (image F) (levelPlace l) 2 (levelBytes (F .level l)) (Image.level-at F l (w .levels l e)) (omega arith) ∙ ap mark e
+      Image.first-byte (image F) (levelPlace l) Layout.levelSize (levelBytes (F .level l)) (Image.level-at F l (w .levels l e)) (omega arith) ∙ ap mark e
 
-  irq-sound : (s : ℕ) (g : IrqGrant) → s < 8 → F .irq s ≡ some g → IrqSound (image F) s
+  irq-sound : (s : ℕ) (g : IrqGrant) → s < Table.mostSockets → F .irq s ≡ some g → IrqSound (image F) s
   unfolding irqIn
   irq-sound s g l e =
       let is = irq-is s g l e .1 in
@@ -262,13 +263,13 @@ module _ (F : Facts) (w : WellFormed F) where
         manner = omega (arith, Image.irq-at F s l 3 (omega arith) ∙ ap (λ (o : Option IrqGrant). getD (irqBytes o) 3 0) e, manner-most (g .manner));
       }
 
-  irq-place : (s : ℕ) → s < 8 → IrqPlaceSound (image F) s
-  irq-place s l = placed (image F) (irqPlace s) 4 (omega arith) (F .irq s) (irq-zero s l) (λ g e. (irq-is s g l e .0, irq-sound s g l e))
+  irq-place : (s : ℕ) → s < Table.mostSockets → IrqPlaceSound (image F) s
+  irq-place s l = placed (image F) (irqPlace s) Layout.irqSize (omega arith) (F .irq s) (irq-zero s l) (λ g e. (irq-is s g l e .0, irq-sound s g l e))
 
-  irq-used : (s : ℕ) → s < 8 → IrqUsed (image F) s → (g : IrqGrant) × (F .irq s ≡ some g) × (irqIn (image F) s ≡ g)
-  irq-used s l u = let x = used (image F) (irqPlace s) 4 (omega arith) (F .irq s) (irq-zero s l) u in (x .0, x .1, irq-is s (x .0) l (x .1) .1)
+  irq-used : (s : ℕ) → s < Table.mostSockets → IrqUsed (image F) s → (g : IrqGrant) × (F .irq s ≡ some g) × (irqIn (image F) s ≡ g)
+  irq-used s l u = let x = used (image F) (irqPlace s) Layout.irqSize (omega arith) (F .irq s) (irq-zero s l) u in (x .0, x .1, irq-is s (x .0) l (x .1) .1)
 
-  irq-pair : (s t : ℕ) → s < 8 → t < s → IrqPairSound (image F) s t
+  irq-pair : (s t : ℕ) → s < Table.mostSockets → t < s → IrqPairSound (image F) s t
   irq-pair s t l m u v =
       let x = irq-used s l u in
       let y = irq-used t (omega arith) v in

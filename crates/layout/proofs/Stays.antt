@@ -246,10 +246,10 @@ register-stays F h p o w (inr r) =
     (register-formed F (word p 0) (word p 2) w (room passed) (left passed) (told (attributes-told (word p 0)) (passed .1 .0)) (told (decLt (word p 2) 4096) (passed .1 .1 .0)))
   where
     room : Passed (registerChecks F p) → length (F .clients) < Table.mostClients
-    room x = told (decLt (length (F .clients)) 16) (λ d. x .1 .1 .1 .0 (inl (omega arith)))
+    room x = told (decLt (length (F .clients)) Table.mostClients) (λ d. x .1 .1 .1 .0 (inl (omega arith)))
 
     left : Passed (registerChecks F p) → F .issued < Table.mostIssued
-    left x = told (decLt (F .issued) 65535) (λ d. x .1 .1 .1 .0 (inr (omega arith)))
+    left x = told (decLt (F .issued) Table.mostIssued) (λ d. x .1 .1 .1 .0 (inr (omega arith)))
 
 pub deregister-stays : (F : Facts) (h : ℕ) (p : List ℕ) (o : Outcome) → WellFormed F → Deregister F h p o → WellFormed (o .facts)
 deregister-stays F h p o w (inl r) = subst WellFormed (sym (r .1 .facts)) w

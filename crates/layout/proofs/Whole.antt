@@ -19,6 +19,8 @@ use Rattle.layout.proofs.Grants.{zeros, read-bytes}
 use Rattle.layout.proofs.Shows.{shows-image}
 use Rattle.layout.proofs.Lists.{below-in, at-upTo, at-past, upTo-length}
 use Rattle.layout.proofs.RoundTrip.{zero-test, positive-test, mask-bytes}
+use Rattle.layout.specs.Layout
+use Rattle.facts.specs.Table
 
 -- every element is a byte
 abbrev pub Bytes : List ℕ → Type 0
@@ -45,23 +47,23 @@ module _ (b : List ℕ) (bytes : Bytes b) where
   high o = omega (arith, bytes o, bytes (o + 1))
 
   module _ (s : Sound b) where
-    card-bytes : (i : ℕ) → i < 8 → mark (factsIn b .card i) ≡ byte b (5 + i)
+    card-bytes : (i : ℕ) → i < Table.mostSockets → mark (factsIn b .card i) ≡ byte b (Layout.cardsAt + i)
     unfolding factsIn
-    card-bytes i l = ap mark (below-in 8 false (λ s. marked (byte b (5 + s))) i l) ∙ mark-of (byte b (5 + i)) (s .cards i l .mark)
+    card-bytes i l = ap mark (below-in Table.mostSockets false (λ s. marked (byte b (Layout.cardsAt + s))) i l) ∙ mark-of (byte b (Layout.cardsAt + i)) (s .cards i l .mark)
 
-    level-bytes : (i j : ℕ) → i < 16 → j < 2 → getD (levelBytes (factsIn b .level i)) j 0 ≡ byte b (levelPlace i + j)
+    level-bytes : (i j : ℕ) → i < Table.allLevels → j < 2 → getD (levelBytes (factsIn b .level i)) j 0 ≡ byte b (levelPlace i + j)
     unfolding factsIn levelIn
     level-bytes i j l m =
-        ap (λ (v : Level). getD (levelBytes v) j 0) (below-in 16 (record { managed = false; reserved = false }) (levelIn b) i l)
+        ap (λ (v : Level). getD (levelBytes v) j 0) (below-in Table.allLevels (record { managed = false; reserved = false }) (levelIn b) i l)
         ∙ below-at 2 (λ j. getD (levelBytes (levelIn b i)) j 0 ≡ byte b (levelPlace i + j)) (
           (tt, mark-of (byte b (levelPlace i)) (s .levels i l .managed) ∙ ap (byte b) (sym (add-zero (levelPlace i)))),
           mark-of (byte b (levelPlace i + 1)) (omega (arith, s .levels i l .managed, s .levels i l .reserved)),
         ) j m
 
-    io-used : (i j : ℕ) → j < 11 → byte b (ioPlace i + 6) ≤ 1 → Zero b (ioPlace i + 7) (ioPlace i + 11) → getD (ioBytes (some (ioIn b i))) j 0 ≡ byte b (ioPlace i + j)
+    io-used : (i j : ℕ) → j < Layout.ioSize → byte b (ioPlace i + 6) ≤ 1 → Zero b (ioPlace i + 7) (ioPlace i + Layout.ioSize) → getD (ioBytes (some (ioIn b i))) j 0 ≡ byte b (ioPlace i + j)
     unfolding ioIn
     io-used i j m shared spare =
-        below-at 11 (λ j. getD (ioBytes (some (ioIn b i))) j 0 ≡ byte b (ioPlace i + j)) (
+        below-at Layout.ioSize (λ j. getD (ioBytes (some (ioIn b i))) j 0 ≡ byte b (ioPlace i + j)) (
           (
             (
               (
@@ -81,28 +83,28 @@ module _ (b : List ℕ) (bytes : Bytes b) where
         p : ℕ
         p = ioPlace i
 
-    io-bytes : (i j : ℕ) → i < 8 → j < 11 → getD (ioBytes (factsIn b .io i)) j 0 ≡ byte b (ioPlace i + j)
+    io-bytes : (i j : ℕ) → i < Table.mostSockets → j < Layout.ioSize → getD (ioBytes (factsIn b .io i)) j 0 ≡ byte b (ioPlace i + j)
     unfolding factsIn ioHere
     io-bytes i j l m =
-        ap (λ (o : Option IoGrant). getD (ioBytes o) j 0) (below-in 8 none (ioHere b) i l)
-        ∙ read-bytes b (ioPlace i) 11 (omega arith) ioBytes refl (ioIn b i) (s .ios i l) (λ u j m. io-used i j m (u .mark) (u .spare)) j m
+        ap (λ (o : Option IoGrant). getD (ioBytes o) j 0) (below-in Table.mostSockets none (ioHere b) i l)
+        ∙ read-bytes b (ioPlace i) Layout.ioSize (omega arith) ioBytes refl (ioIn b i) (s .ios i l) (λ u j m. io-used i j m (u .mark) (u .spare)) j m
 
-    irq-used : (i j : ℕ) → j < 4 → byte b (irqPlace i + 3) ≤ 3 → getD (irqBytes (some (irqIn b i))) j 0 ≡ byte b (irqPlace i + j)
+    irq-used : (i j : ℕ) → j < Layout.irqSize → byte b (irqPlace i + 3) ≤ 3 → getD (irqBytes (some (irqIn b i))) j 0 ≡ byte b (irqPlace i + j)
     unfolding irqIn
     irq-used i j m manner =
         below-at 4 (λ j. getD (irqBytes (some (irqIn b i))) j 0 ≡ byte b (irqPlace i + j))
         ((((tt, low (irqPlace i) ∙ ap (byte b) (sym (add-zero (irqPlace i)))), high (irqPlace i)), refl), mannerByte-of (byte b (irqPlace i + 3)) manner) j m
 
-    irq-bytes : (i j : ℕ) → i < 8 → j < 4 → getD (irqBytes (factsIn b .irq i)) j 0 ≡ byte b (irqPlace i + j)
+    irq-bytes : (i j : ℕ) → i < Table.mostSockets → j < Layout.irqSize → getD (irqBytes (factsIn b .irq i)) j 0 ≡ byte b (irqPlace i + j)
     unfolding factsIn irqHere
     irq-bytes i j l m =
-        ap (λ (o : Option IrqGrant). getD (irqBytes o) j 0) (below-in 8 none (irqHere b) i l)
-        ∙ read-bytes b (irqPlace i) 4 (omega arith) irqBytes refl (irqIn b i) (s .irqs i l) (λ u j m. irq-used i j m (u .manner)) j m
+        ap (λ (o : Option IrqGrant). getD (irqBytes o) j 0) (below-in Table.mostSockets none (irqHere b) i l)
+        ∙ read-bytes b (irqPlace i) Layout.irqSize (omega arith) irqBytes refl (irqIn b i) (s .irqs i l) (λ u j m. irq-used i j m (u .manner)) j m
 
-    range-used : (i j : ℕ) → j < 7 → byte b (rangePlace i + 6) ≤ 1 → getD (rangeBytes (some (rangeIn b i))) j 0 ≡ byte b (rangePlace i + j)
+    range-used : (i j : ℕ) → j < Layout.rangeSize → byte b (rangePlace i + 6) ≤ 1 → getD (rangeBytes (some (rangeIn b i))) j 0 ≡ byte b (rangePlace i + j)
     unfolding rangeIn
     range-used i j m reserved =
-        below-at 7 (λ j. getD (rangeBytes (some (rangeIn b i))) j 0 ≡ byte b (rangePlace i + j)) (
+        below-at Layout.rangeSize (λ j. getD (rangeBytes (some (rangeIn b i))) j 0 ≡ byte b (rangePlace i + j)) (
           (
             (((((tt, low p ∙ ap (byte b) (sym (add-zero p))), high p), c0), c1 ∙ ap (byte b) (add-assoc p 2 1)), c2 ∙ ap (byte b) (add-assoc p 2 2)),
             c3 ∙ ap (byte b) (ap (λ (o : ℕ). o + 1) (add-assoc p 2 2) ∙ add-assoc p 4 1),
@@ -137,7 +139,7 @@ module _ (b : List ℕ) (bytes : Bytes b) where
         c3 : long b (p + 2) / 16777216 ≡ byte b (p + 2 + 2 + 1)
         c3 = omega (arith, b0, b1, b2, b3)
 
-    range-bytes : (i j : ℕ) → i < 32 → j < 7 → getD (rangeBytes (getElem? (factsIn b .ranges) i)) j 0 ≡ byte b (rangePlace i + j)
+    range-bytes : (i j : ℕ) → i < Table.mostRanges → j < Layout.rangeSize → getD (rangeBytes (getElem? (factsIn b .ranges) i)) j 0 ≡ byte b (rangePlace i + j)
     unfolding factsIn
     range-bytes i j l m = go (decLt i (rangesIn b))
       where
@@ -146,10 +148,10 @@ module _ (b : List ℕ) (bytes : Bytes b) where
             ap (λ (o : Option Range). getD (rangeBytes o) j 0) (at-upTo (rangesIn b) (rangeIn b) i h) ∙ range-used i j m (s .ranges i h .mark)
         go (no h) =
             ap (λ (o : Option Range). getD (rangeBytes o) j 0)
-            (at-past (upTo (rangesIn b) (rangeIn b)) i (omega (arith, upTo-length (rangesIn b) (rangeIn b)))) ∙ zeros 7 j m
+            (at-past (upTo (rangesIn b) (rangeIn b)) i (omega (arith, upTo-length (rangesIn b) (rangeIn b)))) ∙ zeros Layout.rangeSize j m
             ∙ sym (s .ranges-end (rangePlace i + j) (omega arith) (omega arith))
 
-    mask-two : (i t r : ℕ) → t < 8 → r < 2 → MaskSound b i t → getD (maskBytes (maskOf (word b (maskPlace i t)))) r 0 ≡ byte b (maskPlace i t + r)
+    mask-two : (i t r : ℕ) → t < Table.mostSockets → r < 2 → MaskSound b i t → getD (maskBytes (maskOf (word b (maskPlace i t)))) r 0 ≡ byte b (maskPlace i t + r)
     mask-two i t r l m (inl e) =
         ap (λ (o : Option ℕ). getD (maskBytes o) r 0) (zero-test w none (some (w - 4096)) e)
         ∙ below-at 2 (λ r. getD (maskBytes none) r 0 ≡ byte b (maskPlace i t + r))
@@ -169,7 +171,7 @@ module _ (b : List ℕ) (bytes : Bytes b) where
         back : 4096 + (w - 4096) ≡ w
         back = omega (arith, u .0)
 
-    client-used : (i j : ℕ) → j < 22 → ((t : ℕ) → t < 8 → MaskSound b i t) → getD (clientBytes (some (clientIn b i))) j 0 ≡ byte b (clientPlace i + j)
+    client-used : (i j : ℕ) → j < Layout.clientSize → ((t : ℕ) → t < Table.mostSockets → MaskSound b i t) → getD (clientBytes (some (clientIn b i))) j 0 ≡ byte b (clientPlace i + j)
     unfolding clientIn
     client-used i j m masks = go (decLt j 6)
       where
@@ -189,15 +191,15 @@ module _ (b : List ℕ) (bytes : Bytes b) where
               high (p + 4) ∙ ap (byte b) (add-assoc p 4 1),
             ) j l
         go (no l) =
-            ap (λ (k : ℕ). getD (clientBytes (some (clientIn b i))) k 0) place ∙ mask-bytes (clientIn b i) t r below-8 below-2
-            ∙ ap (λ (o : Option ℕ). getD (maskBytes o) r 0) (below-in 8 none (λ t. maskOf (word b (maskPlace i t))) t below-8)
-            ∙ mask-two i t r below-8 below-2 (masks t below-8) ∙ ap (byte b) there
+            ap (λ (k : ℕ). getD (clientBytes (some (clientIn b i))) k 0) place ∙ mask-bytes (clientIn b i) t r in-sockets in-mask
+            ∙ ap (λ (o : Option ℕ). getD (maskBytes o) r 0) (below-in Table.mostSockets none (λ t. maskOf (word b (maskPlace i t))) t in-sockets)
+            ∙ mask-two i t r in-sockets in-mask (masks t in-sockets) ∙ ap (byte b) there
           where
-            below-8 : t < 8
-            below-8 = omega arith
+            in-sockets : t < Table.mostSockets
+            in-sockets = omega arith
 
-            below-2 : r < 2
-            below-2 = omega arith
+            in-mask : r < 2
+            in-mask = omega arith
 
             place : j ≡ 6 + (t * 2 + r)
             place = omega arith
@@ -205,7 +207,7 @@ module _ (b : List ℕ) (bytes : Bytes b) where
             there : maskPlace i t + r ≡ clientPlace i + j
             there = omega arith
 
-    client-bytes : (i j : ℕ) → i < 16 → j < 22 → getD (clientBytes (getElem? (factsIn b .clients) i)) j 0 ≡ byte b (clientPlace i + j)
+    client-bytes : (i j : ℕ) → i < Table.mostClients → j < Layout.clientSize → getD (clientBytes (getElem? (factsIn b .clients) i)) j 0 ≡ byte b (clientPlace i + j)
     unfolding factsIn
     client-bytes i j l m = go (decLt i (clientsIn b))
       where
@@ -214,7 +216,7 @@ module _ (b : List ℕ) (bytes : Bytes b) where
             ap (λ (o : Option Client). getD (clientBytes o) j 0) (at-upTo (clientsIn b) (clientIn b) i h) ∙ client-used i j m (s .clients i h .masks)
         go (no h) =
             ap (λ (o : Option Client). getD (clientBytes o) j 0)
-            (at-past (upTo (clientsIn b) (clientIn b)) i (omega (arith, upTo-length (clientsIn b) (clientIn b)))) ∙ zeros 22 j m
+            (at-past (upTo (clientsIn b) (clientIn b)) i (omega (arith, upTo-length (clientsIn b) (clientIn b)))) ∙ zeros Layout.clientSize j m
             ∙ sym (s .clients-end (clientPlace i + j) (omega arith) (omega arith))
 
     -- the bytes are the image of the facts read off them

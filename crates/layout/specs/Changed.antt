@@ -2,7 +2,7 @@
 use mathlib.Core.Path.{_≡_}
 use mathlib.Core.Logic.{_⊎_, _≢_}
 use mathlib.Core.List.{List}
-use Prim.Native.Nat.{ℕ, _+_, _≤_, _<_}
+use Prim.Native.Nat.{ℕ, _+_, _-_, _≤_, _<_}
 use lib.ListN.{length, set}
 use Rattle.facts.specs.Packets.{byte, withWord}
 use Rattle.layout.specs.Layout
@@ -15,7 +15,7 @@ entered b n h attributes events =
 
 -- where the last client's record stands
 abbrev pub lastClient : ℕ
-lastClient = 495
+lastClient = Layout.rangesAt - Layout.clientSize
 
 -- the client in the place i is taken out: the records after it stand one place lower, the last one is zero, and there is one client less
 pub record Withdrawn (b b′ : List ℕ) (i : ℕ) : Type 0 where

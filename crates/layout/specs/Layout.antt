@@ -2,7 +2,7 @@
 use mathlib.Core.List.{List, [], _∷_, _++_}
 use mathlib.Core.Bool.{Bool, true, false}
 use mathlib.Core.Option.{Option, none, some}
-use Prim.Native.Nat.{ℕ, zero, suc, _+_, _/_, _%_}
+use Prim.Native.Nat.{ℕ, zero, suc, _+_, _-_, _*_, _/_, _%_}
 use lib.ListN.{length, getElem?, replicate}
 use Rattle.facts.specs.declared.Manner.{Manner}
 use Rattle.facts.specs.declared.Manner.the-variants.{Exclusive, TimeMultiplexed, DynamicLevel, DynamicPulse}
@@ -12,42 +12,49 @@ use Rattle.facts.specs.Table.{Facts, Client, Level, Range, IoGrant, IrqGrant}
 abbrev pub tableSize : ℕ
 tableSize = 8192
 
--- where each part begins, and the size of its records
-abbrev pub cardsAt : ℕ
-cardsAt = 5
-
-abbrev pub levelsAt : ℕ
-levelsAt = 13
+-- the size of each part's records
+abbrev pub cardSize : ℕ
+cardSize = 1
 
 abbrev pub levelSize : ℕ
 levelSize = 2
 
-abbrev pub iosAt : ℕ
-iosAt = 45
-
 abbrev pub ioSize : ℕ
 ioSize = 11
-
-abbrev pub irqsAt : ℕ
-irqsAt = 133
 
 abbrev pub irqSize : ℕ
 irqSize = 4
 
-abbrev pub clientsAt : ℕ
-clientsAt = 165
+abbrev pub maskSize : ℕ
+maskSize = 2
 
 abbrev pub clientSize : ℕ
-clientSize = 22
-
-abbrev pub rangesAt : ℕ
-rangesAt = 517
+clientSize = 6 + Table.mostSockets * maskSize
 
 abbrev pub rangeSize : ℕ
 rangeSize = 7
 
+-- where each part begins: after the head and the parts before it
+abbrev pub cardsAt : ℕ
+cardsAt = 5
+
+abbrev pub levelsAt : ℕ
+levelsAt = cardsAt + Table.mostSockets * cardSize
+
+abbrev pub iosAt : ℕ
+iosAt = levelsAt + Table.allLevels * levelSize
+
+abbrev pub irqsAt : ℕ
+irqsAt = iosAt + Table.mostSockets * ioSize
+
+abbrev pub clientsAt : ℕ
+clientsAt = irqsAt + Table.mostSockets * irqSize
+
+abbrev pub rangesAt : ℕ
+rangesAt = clientsAt + Table.mostClients * clientSize
+
 abbrev pub restAt : ℕ
-restAt = 741
+restAt = rangesAt + Table.mostRanges * rangeSize
 
 -- "One byte for each mark, 0 or 1"
 abbrev pub mark : Bool → ℕ
@@ -102,7 +109,7 @@ irqBytes (some g) = two (g .client) ++ g .level ∷ mannerByte (g .manner) ∷ [
 
 -- what follows the ranges: the planes of functions 1 to 7 and room, all zero
 unfoldable pub rest : List ℕ
-rest = replicate 7451 0
+rest = replicate (tableSize - restAt) 0
 
 -- the parts of the image
 unfoldable pub head : Facts → List ℕ

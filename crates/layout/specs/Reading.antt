@@ -56,7 +56,7 @@ abbrev pub handleIn : List ℕ → ℕ → ℕ
 handleIn b i = word b (clientPlace i)
 
 abbrev pub maskPlace : ℕ → ℕ → ℕ
-maskPlace i s = clientPlace i + 6 + s * 2
+maskPlace i s = clientPlace i + 6 + s * Layout.maskSize
 
 abbrev pub maskOf : ℕ → Option ℕ
 maskOf w = cond (eqb w 0) none (some (w - 4096))

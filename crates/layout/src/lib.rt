@@ -28,23 +28,25 @@ pub const ISSUED_IN: usize = 3;
 
 pub const CARDS_AT: usize = 5;
 
-pub const LEVELS_AT: usize = 13;
+pub const CARD_SIZE: usize = 1;
+
+pub const LEVELS_AT: usize = CARDS_AT + MOST_SOCKETS * CARD_SIZE;
 
 pub const LEVEL_SIZE: usize = 2;
 
-pub const IOS_AT: usize = 45;
+pub const IOS_AT: usize = LEVELS_AT + ALL_LEVELS * LEVEL_SIZE;
 
 pub const IO_SIZE: usize = 11;
 
-pub const IRQS_AT: usize = 133;
+pub const IRQS_AT: usize = IOS_AT + MOST_SOCKETS * IO_SIZE;
 
 pub const IRQ_SIZE: usize = 4;
 
-pub const CLIENTS_AT: usize = 165;
+pub const CLIENTS_AT: usize = IRQS_AT + MOST_SOCKETS * IRQ_SIZE;
 
-pub const CLIENT_SIZE: usize = 22;
+pub const CLIENT_SIZE: usize = CLIENT_MASKS + MOST_SOCKETS * MASK_SIZE;
 
-pub const RANGES_AT: usize = 517;
+pub const RANGES_AT: usize = CLIENTS_AT + MOST_CLIENTS * CLIENT_SIZE;
 
 pub const RANGE_SIZE: usize = 7;
 

@@ -12,7 +12,7 @@ use Rattle.facts.specs.Table.{Facts, Client, IoGrant, IrqGrant}
 use Rattle.facts.specs.Packets.{word}
 use Rattle.facts.specs.WellFormed.{AttributesAllowed, EventsAllowed, Live}
 use Rattle.facts.specs.Checks.{Outcome}
-use Rattle.facts.specs.Clients.{Register, Deregister, registered, withClients, without, HoldsIo, HoldsIrq, HoldsMask, Masks}
+use Rattle.facts.specs.Clients.{Register, Deregister, registerSize, registered, withClients, without, HoldsIo, HoldsIrq, HoldsMask, Masks}
 use Rattle.layout.specs.Reading.{clientsIn, issuedIn, maskPlace, ioPlace, irqPlace}
 use Rattle.layout.specs.Sound.{Accepted, LiveIn}
 use Rattle.layout.specs.Served.{Served}
@@ -20,10 +20,9 @@ use Rattle.layout.specs.Changed.{entered, Withdrawn}
 use Rattle.layout.proofs.Lists.{at-in, in-at}
 use Rattle.layout.proofs.RoundTrip.{live-positive, zero-test, positive-test}
 use Rattle.layout.proofs.Of
-use Rattle.layout.proofs.Of.{IoOf, IrqOf}
 use Rattle.layout.proofs.Clients.{entered-image, withdrawn-image}
 use Rattle.scan.specs.Finding.{FirstAt}
-use Rattle.services.specs.Clients.{Asks, NextIs, GrantIn, MaskHeldIn, HoldsSome}
+use Rattle.services.specs.Clients.{Asks, NextIs, GrantIn, GrantHeldIn, MaskHeldIn, HoldsSome}
 use Rattle.services.proofs.Serve.{kept, done, refusal, success}
 
 -- the rules, of a packet
@@ -34,10 +33,10 @@ abbrev pub Deregisters : ℕ → List ℕ → Facts → Outcome → Type 0
 Deregisters h p F = Deregister F h p
 
 module _ (b p : List ℕ) (a : Accepted b) where
-  pub register-length : length p ≢ 14 → Served (Registers p) b b p BadArgLength 0
+  pub register-length : length p ≢ registerSize → Served (Registers p) b b p BadArgLength 0
   register-length h = refusal (Registers p) b p a BadArgLength (inl (inl (h, refl), kept (a .facts) p BadArgLength))
 
-  pub register-bad : length p ≡ 14 → (AttributesAllowed (word p 0) → ⊥) ⊎ (AttributesAllowed (word p 0) × (EventsAllowed (word p 2) → ⊥))
+  pub register-bad : length p ≡ registerSize → (AttributesAllowed (word p 0) → ⊥) ⊎ (AttributesAllowed (word p 0) × (EventsAllowed (word p 2) → ⊥))
       → Served (Registers p) b b p BadAttribute 0
   register-bad l (inl h) =
       refusal (Registers p) b p a BadAttribute (inl (inr ((λ d. d l), inl (h, refl)), kept (a .facts) p BadAttribute))
@@ -45,7 +44,7 @@ module _ (b p : List ℕ) (a : Accepted b) where
       refusal (Registers p) b p a BadAttribute
       (inl (inr ((λ d. d l), inr ((λ d. d (h .0)), inl (h .1, refl))), kept (a .facts) p BadAttribute))
 
-  pub register-full : length p ≡ 14 → {attributes events : ℕ} → Asks p attributes events → (Table.mostClients ≤ clientsIn b) ⊎ (Table.mostIssued ≤ issuedIn b)
+  pub register-full : length p ≡ registerSize → {attributes events : ℕ} → Asks p attributes events → (Table.mostClients ≤ clientsIn b) ⊎ (Table.mostIssued ≤ issuedIn b)
       → Served (Registers p) b b p OutOfResource 0
   register-full l q h =
       refusal (Registers p) b p a OutOfResource
@@ -59,7 +58,7 @@ module _ (b p : List ℕ) (a : Accepted b) where
       full (inl m) = inl (omega (arith, Of.clients-in b a))
       full (inr m) = inr (omega (arith, Of.issued-in b a))
 
-  pub register-done : length p ≡ 14 → {attributes events n h : ℕ} → Asks p attributes events → NextIs b n h
+  pub register-done : length p ≡ registerSize → {attributes events n h : ℕ} → Asks p attributes events → NextIs b n h
       → Served (Registers p) b (entered b n h attributes events) p Success h
   register-done l {attributes} {events} {n} {h} q r =
       subst₂ (λ (m k : ℕ). Served (Registers p) b (entered b m k attributes events) p Success k) (sym (r .place ∙ Of.clients-in b a)) (sym handle)
@@ -76,10 +75,10 @@ module _ (b p : List ℕ) (a : Accepted b) where
       handle : h ≡ a .facts .issued + 1
       handle = r .handle ∙ ap (λ (k : ℕ). k + 1) (Of.issued-in b a)
 
-      room : length (a .facts .clients) < 16
+      room : length (a .facts .clients) < Table.mostClients
       room = omega (arith, r .room, r .place, Of.clients-in b a)
 
-      left : a .facts .issued < 65535
+      left : a .facts .issued < Table.mostIssued
       left = omega (arith, r .left, Of.issued-in b a)
 
       no-full : (Table.mostClients ≤ length (a .facts .clients)) ⊎ (Table.mostIssued ≤ a .facts .issued) → ⊥
@@ -91,42 +90,31 @@ module _ (b : List ℕ) (a : Accepted b) (i h : ℕ) (f : FirstAt b h i) where
   pub found-live : Live (a .facts) h
   found-live = Of.live-listed b a i h (f .listed) (f .handle)
 
+  in-sockets : {s : ℕ} → s < a .facts .sockets → s < Table.mostSockets
+  in-sockets l = omega (arith, a .formed .sockets-most)
+
   positive : 0 < h
   positive = live-positive (a .formed) found-live
 
-  io-holds : (s : ℕ) × (s < Table.mostSockets) × (word b (ioPlace s) ≡ h) → HoldsIo (a .facts) h
-  io-holds x = go (Of.io-of b a (x .0) (x .1))
-    where
-      go : IoOf b a (x .0) → HoldsIo (a .facts) h
-      go (inl n) = absurd (omega (arith, positive, n .1, x .2))
-      go (inr g) = record { socket = x .0; grant = g .0; live = g .1; holder = sym (g .2) ∙ x .2 }
+  io-holds : (s : ℕ) → s < Table.mostSockets → word b (ioPlace s) ≡ h → HoldsIo (a .facts) h
+  io-holds s l e =
+      let g = Of.grant-said (λ (g : IoGrant). g .client) (a .facts .io s) (word b (ioPlace s)) h positive (Of.io-of b a s l) e in
+      record { socket = s; grant = g .0; live = g .1; holder = g .2 }
 
-  holds-io : HoldsIo (a .facts) h → (s : ℕ) × (s < Table.mostSockets) × (word b (ioPlace s) ≡ h)
-  holds-io x = (x .socket, l, go (Of.io-of b a (x .socket) l))
-    where
-      l : x .socket < 8
-      l = omega (arith, a .formed .ios (x .socket) (x .grant) (x .live) .socket, a .formed .sockets-most)
+  irq-holds : (s : ℕ) → s < Table.mostSockets → word b (irqPlace s) ≡ h → HoldsIrq (a .facts) h
+  irq-holds s l e =
+      let g = Of.grant-said (λ (g : IrqGrant). g .client) (a .facts .irq s) (word b (irqPlace s)) h positive (Of.irq-of b a s l) e in
+      record { socket = s; grant = g .0; live = g .1; holder = g .2 }
 
-      go : IoOf b a (x .socket) → word b (ioPlace (x .socket)) ≡ h
-      go (inl n) = absurd (Option·none-ne-some (x .grant) (sym (n .0) ∙ x .live))
-      go (inr g) = g .2 ∙ ap (λ (y : IoGrant). y .client) (Option·some-injective (g .0) (x .grant) (sym (g .1) ∙ x .live)) ∙ x .holder
+  holds-io : HoldsIo (a .facts) h → GrantHeldIn b h
+  holds-io x =
+      let l = in-sockets (a .formed .ios (x .socket) (x .grant) (x .live) .socket) in
+      (x .socket, l, inl (Of.said-grant (λ (g : IoGrant). g .client) (a .facts .io (x .socket)) (word b (ioPlace (x .socket))) h (Of.io-of b a (x .socket) l) (x .grant) (x .live) (x .holder)))
 
-  irq-holds : (s : ℕ) × (s < Table.mostSockets) × (word b (irqPlace s) ≡ h) → HoldsIrq (a .facts) h
-  irq-holds x = go (Of.irq-of b a (x .0) (x .1))
-    where
-      go : IrqOf b a (x .0) → HoldsIrq (a .facts) h
-      go (inl n) = absurd (omega (arith, positive, n .1, x .2))
-      go (inr g) = record { socket = x .0; grant = g .0; live = g .1; holder = sym (g .2) ∙ x .2 }
-
-  holds-irq : HoldsIrq (a .facts) h → (s : ℕ) × (s < Table.mostSockets) × (word b (irqPlace s) ≡ h)
-  holds-irq x = (x .socket, l, go (Of.irq-of b a (x .socket) l))
-    where
-      l : x .socket < 8
-      l = omega (arith, a .formed .irqs (x .socket) (x .grant) (x .live) .socket, a .formed .sockets-most)
-
-      go : IrqOf b a (x .socket) → word b (irqPlace (x .socket)) ≡ h
-      go (inl n) = absurd (Option·none-ne-some (x .grant) (sym (n .0) ∙ x .live))
-      go (inr g) = g .2 ∙ ap (λ (y : IrqGrant). y .client) (Option·some-injective (g .0) (x .grant) (sym (g .1) ∙ x .live)) ∙ x .holder
+  holds-irq : HoldsIrq (a .facts) h → GrantHeldIn b h
+  holds-irq x =
+      let l = in-sockets (a .formed .irqs (x .socket) (x .grant) (x .live) .socket) in
+      (x .socket, l, inr (Of.said-grant (λ (g : IrqGrant). g .client) (a .facts .irq (x .socket)) (word b (irqPlace (x .socket))) h (Of.irq-of b a (x .socket) l) (x .grant) (x .live) (x .holder)))
 
   mask-holds : MaskHeldIn b i → HoldsMask (a .facts) h
   mask-holds x =
@@ -176,13 +164,13 @@ module _ (b : List ℕ) (a : Accepted b) (i h : ℕ) (f : FirstAt b h i) where
   holds-all (inl x) = go (x .2)
     where
       go : GrantIn b h (x .0) → HoldsIo (a .facts) h ⊎ HoldsIrq (a .facts) h ⊎ HoldsMask (a .facts) h
-      go (inl e) = inl (io-holds (x .0, x .1, e))
-      go (inr e) = inr (inl (irq-holds (x .0, x .1, e)))
+      go (inl e) = inl (io-holds (x .0) (x .1) e)
+      go (inr e) = inr (inl (irq-holds (x .0) (x .1) e))
   holds-all (inr x) = inr (inr (mask-holds x))
 
   pub held-all : HoldsIo (a .facts) h ⊎ HoldsIrq (a .facts) h ⊎ HoldsMask (a .facts) h → HoldsSome b i h
-  held-all (inl x) = let g = holds-io x in inl (g .0, g .1, inl (g .2))
-  held-all (inr (inl x)) = let g = holds-irq x in inl (g .0, g .1, inr (g .2))
+  held-all (inl x) = inl (holds-io x)
+  held-all (inr (inl x)) = inl (holds-irq x)
   held-all (inr (inr x)) = inr (holds-mask x)
 
 module _ (b p : List ℕ) (a : Accepted b) (h : ℕ) where

@@ -10,7 +10,7 @@ use lib.Dec.{eqb}
 use borrow.Author.Tests.{eq-eqb, ne-eqb}
 use Rattle.facts.specs.declared.Code.the-variants.{Success, BadIrq}
 use Rattle.facts.specs.Table
-use Rattle.facts.specs.Table.{Facts}
+use Rattle.facts.specs.Table.{Facts, IrqGrant}
 use Rattle.facts.specs.Packets.{byte, word}
 use Rattle.facts.specs.Checks.{Outcome}
 use Rattle.facts.specs.Irq.{Sharers, sharer, sharersBelow}
@@ -19,7 +19,7 @@ use Rattle.layout.specs.Sound.{Accepted}
 use Rattle.layout.specs.Served.{Served}
 use Rattle.layout.proofs.RoundTrip.{zero-test, positive-test}
 use Rattle.layout.proofs.Of
-use Rattle.layout.proofs.Of.{IrqOf}
+use Rattle.layout.proofs.Of.{GrantOf}
 use Rattle.services.specs.Sharing.{sharerIn, sharersIn}
 use Rattle.services.proofs.Serve.{kept, refusal, success}
 
@@ -46,17 +46,15 @@ unfolding sharersIn
 sharers-more b l s n m e f = ap₂ (λ (x y : ℕ). x + y) e f ∙ ap (sharersIn b l) (sym (add-one s))
 
 module _ (b : List ℕ) (a : Accepted b) (l : ℕ) where
-  sharer-is : (s : ℕ) → s < 8 → sharerIn b l s ≡ sharer l (a .facts .irq s)
+  sharer-is : (s : ℕ) → s < Table.mostSockets → sharerIn b l s ≡ sharer l (a .facts .irq s)
   sharer-is s h = go (Of.irq-of b a s h)
     where
-      go : IrqOf b a s → sharerIn b l s ≡ sharer l (a .facts .irq s)
-      go (inl n) =
-          zero-test (word b (irqPlace s)) 0 (cond (eqb (byte b (irqPlace s + 2)) l) 1 0) (n .1) ∙ sym (ap (sharer l) (n .0))
+      go : GrantOf (λ (g : IrqGrant). g .client) (a .facts .irq s) (word b (irqPlace s)) → sharerIn b l s ≡ sharer l (a .facts .irq s)
+      go (inl n) = sym (sharer-none b l s (n .1)) ∙ sym (ap (sharer l) (n .0))
       go (inr g) =
-          positive-test (word b (irqPlace s)) 0 (cond (eqb (byte b (irqPlace s + 2)) l) 1 0) (omega (arith, g .2, g .3))
-          ∙ ap (λ (n : ℕ). cond (eqb n l) 1 0) (g .4) ∙ sym (ap (sharer l) (g .1))
+          used b l s (λ z. omega (arith, z, g .2, g .3)) ∙ ap (λ (n : ℕ). cond (eqb n l) 1 0) (Of.irq-level b a s (g .0) h (g .1)) ∙ sym (ap (sharer l) (g .1))
 
-  sharers-are : (n : ℕ) → n ≤ 8 → sharersIn b l n ≡ sharersBelow (a .facts) l n
+  sharers-are : (n : ℕ) → n ≤ Table.mostSockets → sharersIn b l n ≡ sharersBelow (a .facts) l n
   unfolding sharersIn
   sharers-are zero h = refl
   sharers-are (suc n) h = ap₂ (λ (x y : ℕ). x + y) (sharers-are n (omega arith)) (sharer-is n (omega arith))

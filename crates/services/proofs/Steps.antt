@@ -6,6 +6,7 @@ use Prim.Native.Nat.{ℕ, _+_, _-_, _≤_, _<_}
 use native.Mathlib.Omega.{arith}
 use lib.ListN.{length, set, length-set}
 use Rattle.facts.specs.Packets.{byte, withWord}
+use Rattle.facts.specs.Table
 use Rattle.layout.specs.Layout
 use Rattle.layout.specs.Reading.{clientsIn, clientPlace}
 use Rattle.layout.specs.Changed.{entered, lastClient, Withdrawn}
@@ -28,7 +29,7 @@ module _ (b b₁ b₂ b₃ b₄ : List ℕ) (n h attributes events : ℕ) (e₁ 
       length-set b₄ 1 (n + 1) ∙ ap length e₄ ∙ word-length b₃ 3 h ∙ ap length e₃ ∙ word-length b₂ (clientPlace n + 4) events
       ∙ ap length e₂ ∙ word-length b₁ (clientPlace n + 2) attributes ∙ ap length e₁ ∙ word-length b (clientPlace n) h
 
-module _ (b b₁ b₂ : List ℕ) (i n : ℕ) (size : length b ≡ Layout.tableSize) (listed : i < n) (most : n ≤ 16) (count : n ≡ clientsIn b)
+module _ (b b₁ b₂ : List ℕ) (i n : ℕ) (size : length b ≡ Layout.tableSize) (listed : i < n) (most : n ≤ Table.mostClients) (count : n ≡ clientsIn b)
     (m : Moved b b₁ (clientPlace i) lastClient Layout.clientSize) (z : Cleared b₁ b₂ lastClient Layout.rangesAt) where
   pub withdraws-length : length (set b₂ 1 (n - 1)) ≡ length b
   withdraws-length = length-set b₂ 1 (n - 1) ∙ z .size ∙ m .size

@@ -27,7 +27,7 @@ ghost use lib.ListN.{length};
 ghost use Rattle.facts.specs.Table;
 ghost use Rattle.facts.specs.Table.{Facts};
 ghost use Rattle.facts.specs.Says.{Says};
-ghost use Rattle.facts.specs.Clients.{Register, Deregister};
+ghost use Rattle.facts.specs.Clients.{Register, Deregister, registerSize};
 ghost use Rattle.layout.specs.Layout.{tableSize};
 ghost use Rattle.layout.specs.Reading.{clientsIn};
 ghost use Rattle.layout.specs.Sound.{Accepted};
@@ -54,7 +54,7 @@ pub enum Asked {
 }
 
 pub fn asks(p: &[u8]) -> Asked
-    requires { ⌜ length (now p) ≡ 14 ⌝ }
+    requires { ⌜ length (now p) ≡ registerSize ⌝ }
     ensures { λ r. ⌜ AsksFor (now (p .entry)) r ⌝ }
 {
     let attributes = scan::word(p, ATTRIBUTES_AT);
