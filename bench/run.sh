@@ -31,8 +31,11 @@ own_archive() {
     trap 'rm -rf "$links"' EXIT
     link_kit "$from" "$links"
     (export RATTLE_HOME="$links" && build_archive)
-    "$from/on/$machine/toolchain/bin/clang" --target="$machine-unknown-linux-gnu" -O3 -fPIC \
-        -Wno-override-module -c -x ir "$links/module.bc" -o $made/keeper.o
+    clang="$from/on/$machine/toolchain/bin/clang --target=$machine-unknown-linux-gnu -Wno-override-module -x ir"
+    # As text, so that the processor it was compiled for can be left out.
+    $clang -S -emit-llvm -Xclang -disable-llvm-passes "$links/module.bc" -o $made/keeper.ll
+    sed -i 's/"target-cpu"="[^"]*"//' $made/keeper.ll
+    $clang -O3 -fPIC -c $made/keeper.ll -o $made/keeper.o
 }
 
 need gcc build-essential

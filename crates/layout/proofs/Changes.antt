@@ -10,21 +10,21 @@ use native.Mathlib.Decide.{decLt, ℕ-discrete}
 use native.Mathlib.Omega.{arith}
 use lib.ListN.{length, getD, getElem?, length-append}
 use borrow.Author.Tests.{eq-eqb, ne-eqb}
+use Rattle.facts.specs.Table
 use Rattle.facts.specs.Table.{Facts, Client, fresh}
-use Rattle.facts.specs.Packets.{byte}
 use Rattle.facts.specs.Sets.{put}
+use Rattle.facts.specs.Packets.{byte}
 use Rattle.facts.specs.Clients.{registered, withClients, without}
 use Rattle.facts.specs.Sockets.{withCard}
+use Rattle.layout.specs.Layout
 use Rattle.layout.specs.Layout.{mark, two, maskBytes, clientBytes, levelBytes, head}
 use Rattle.layout.specs.Reading.{irqPlace, ioPlace, levelPlace, rangePlace, clientPlace}
+use Rattle.layout.specs.Changed.{lastClient}
 use Rattle.layout.proofs.Parts.{below-at}
 use Rattle.layout.proofs.Lists.{at-left, at-end, at-past}
 use Rattle.layout.proofs.RoundTrip.{mask-bytes}
 use Rattle.layout.proofs.Grants.{zeros}
 use Rattle.layout.proofs.Shows.{Shows}
-use Rattle.layout.specs.Layout
-use Rattle.facts.specs.Table
-use Rattle.layout.specs.Changed.{lastClient}
 
 -- what is put in its place, and what stays
 pub put-same : {A : Type 0} (f : ℕ → A) (k : ℕ) (x : A) → put f k x k ≡ x

@@ -1,25 +1,25 @@
 -- A table with a client more, or one less, is the image of the facts with that client more, or less. Assumes nothing.
 use mathlib.Core.Path.{_≡_, ap, sym, _∙_}
 use mathlib.Core.Logic.{_⊎_, inl, inr, _≢_}
-use mathlib.Core.List.{List}
+use mathlib.Core.List.{List, _++_}
 use Prim.Native.Nat.{ℕ, _+_, _/_, _%_, _≤_, _<_}
 use native.Mathlib.Nat.{add-zero, add-assoc}
 use native.Mathlib.Omega.{arith}
 use lib.ListN.{length, getD, length-set}
+use Rattle.facts.specs.Table
 use Rattle.facts.specs.Table.{Facts}
 use Rattle.facts.specs.Packets.{byte, withWord}
 use Rattle.facts.specs.Clients.{registered, withClients, without}
 use Rattle.layout.specs.Layout
-use Rattle.layout.specs.Layout.{image}
+use Rattle.layout.specs.Layout.{image, two}
 use Rattle.layout.specs.Reading.{clientsIn, handleIn, clientPlace}
 use Rattle.layout.specs.Sound.{Accepted}
 use Rattle.layout.specs.Changed.{entered, Withdrawn}
+use Rattle.layout.proofs.Of
 use Rattle.layout.proofs.Parts.{below-at}
 use Rattle.layout.proofs.Shows.{Shows, shows-image}
-use Rattle.layout.proofs.Of
 use Rattle.layout.proofs.Written.{byte-same, byte-other, word-length, word-low, word-high, word-other}
-use Rattle.layout.proofs.Changes.{newBytes, register-shown, deregister-shown}
-use Rattle.facts.specs.Table
+use Rattle.layout.proofs.Changes.{register-shown, deregister-shown}
 
 -- the bytes of a table with a new client
 module _ (b : List ℕ) (n h attributes events : ℕ) (size : length b ≡ Layout.tableSize) (room : n < Table.mostClients) (low : h < 65536) (lowa : attributes < 65536) (lowe : events < 65536) where
@@ -106,6 +106,13 @@ module _ (b : List ℕ) (n h attributes events : ℕ) (size : length b ≡ Layou
   unfolding w3
   at5 = ap (byte w3) (sym (add-assoc (clientPlace n) 4 1)) ∙ word-high w2 (clientPlace n + 4) events (omega (arith, size2)) ∙ omega arith
 
+  -- the new record's first six bytes
+  pub entered-six : (j : ℕ) → j < 6 → byte (entered b n h attributes events) (clientPlace n + j) ≡ getD (two h ++ two attributes ++ two events) j 0
+  entered-six j l =
+      behind (clientPlace n + j) (omega arith)
+      ∙ below-at 6 (λ j. byte w3 (clientPlace n + j) ≡ getD (two h ++ two attributes ++ two events) j 0)
+      ((((((tt, ap (byte w3) (add-zero (clientPlace n)) ∙ at0), at1), at2), at3), at4), at5) j l
+
   pub entered-other : (p : ℕ) → p ≢ 1 → p ≢ 3 → p ≢ 4 → (p < clientPlace n) ⊎ (clientPlace n + 6 ≤ p) → byte (entered b n h attributes events) p ≡ byte b p
   unfolding entered w1 w2 w3 w4
   entered-other p x y z o =
@@ -119,23 +126,15 @@ module _ (b : List ℕ) (n h attributes events : ℕ) (size : length b ≡ Layou
       apart j (inr l) h e = omega (arith, e)
 
 -- the facts with the new client
-pub entered-image : (F : Facts) (b : List ℕ) (attributes events : ℕ) → Shows F b → length (F .clients) < Table.mostClients → F .issued < Table.mostIssued → attributes < 65536 → events < 65536
+pub entered-image : (F : Facts) (b : List ℕ) (attributes events : ℕ) → Shows F b → length (F .clients) < Table.mostClients → F .issued < Table.mostIssued
+    → attributes < 65536
+    → events < 65536
     → image (registered F attributes events) ≡ entered b (length (F .clients)) (F .issued + 1) attributes events
 entered-image F b attributes events w room left lowa lowe =
     shows-image (registered F attributes events) (entered b n h attributes events)
     (register-shown F b (entered b n h attributes events) attributes events w room (entered-size b n h attributes events (w .size) room low lowa lowe)
     (entered-count b n h attributes events (w .size) room low lowa lowe) (entered-low b n h attributes events (w .size) room low lowa lowe)
-    (entered-high b n h attributes events (w .size) room low lowa lowe)
-    (below-at 6 (λ j. byte (entered b n h attributes events) (clientPlace n + j) ≡ getD (newBytes F attributes events) j 0) (
-      (
-        (
-          (((tt, first), six 1 (omega arith) ∙ at1 b n h attributes events (w .size) room low lowa lowe), six 2 (omega arith) ∙ at2 b n h attributes events (w .size) room low lowa lowe),
-          six 3 (omega arith) ∙ at3 b n h attributes events (w .size) room low lowa lowe,
-        ),
-        six 4 (omega arith) ∙ at4 b n h attributes events (w .size) room low lowa lowe,
-      ),
-      six 5 (omega arith) ∙ at5 b n h attributes events (w .size) room low lowa lowe,
-    ))
+    (entered-high b n h attributes events (w .size) room low lowa lowe) (entered-six b n h attributes events (w .size) room low lowa lowe)
     (λ p l. entered-other b n h attributes events (w .size) room low lowa lowe p (l .count) (l .low) (l .high) (l .place)))
   where
     n : ℕ
@@ -146,14 +145,6 @@ entered-image F b attributes events w room left lowa lowe =
 
     low : h < 65536
     low = omega arith
-
-    six : (j : ℕ) → j < 6 → byte (entered b n h attributes events) (clientPlace n + j) ≡ byte (w3 b n h attributes events (w .size) room low lowa lowe) (clientPlace n + j)
-    six j l = behind b n h attributes events (w .size) room low lowa lowe (clientPlace n + j) (omega arith)
-
-    first : byte (entered b n h attributes events) (clientPlace n + 0) ≡ h % 256
-    first =
-        ap (byte (entered b n h attributes events)) (add-zero (clientPlace n)) ∙ behind b n h attributes events (w .size) room low lowa lowe (clientPlace n) (omega arith)
-        ∙ at0 b n h attributes events (w .size) room low lowa lowe
 
 -- the facts without the client in the place i
 pub withdrawn-image : (b b′ : List ℕ) (a : Accepted b) (i h : ℕ) → i < clientsIn b → handleIn b i ≡ h → ((k : ℕ) → k < i → handleIn b k ≡ h → ⊥) → Withdrawn b b′ i

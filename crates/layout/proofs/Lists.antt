@@ -10,8 +10,8 @@ use native.Mathlib.Decide.{decLt}
 use native.Mathlib.Omega.{arith}
 use lib.ListN.{length, getElem?, length-append}
 use borrow.Author.Tests.{lt-ltb, le-ltb}
-use Rattle.facts.specs.Sets.{_∈_}
 use Rattle.facts.specs.Table.{Client, Range}
+use Rattle.facts.specs.Sets.{_∈_}
 use Rattle.facts.specs.WellFormed.{Rising, Apart}
 use Rattle.layout.specs.Reading.{upTo, below}
 use Rattle.layout.proofs.Parts.{last-or-below}

@@ -14,12 +14,12 @@ use Rattle.facts.specs.WellFormed.{Live}
 use Rattle.layout.specs.Layout
 use Rattle.layout.specs.Reading.{socketsIn, clientsIn, issuedIn, handleIn, maskOf, maskPlace, ioPlace, irqPlace, clientIn, ioIn, irqIn}
 use Rattle.layout.specs.Sound.{Accepted, LiveIn, Zero}
+use Rattle.layout.proofs.Sounds
 use Rattle.layout.proofs.Image.{image-length}
 use Rattle.layout.proofs.Lists.{below-in, at-below, at-in, rising-before}
 use Rattle.layout.proofs.RoundTrip.{client-is, live-positive}
 use Rattle.layout.proofs.Shows.{Shows, image-shows}
 use Rattle.layout.proofs.Grants.{no-client}
-use Rattle.layout.proofs.Sounds
 
 -- there is no grant, and its record says no client; or there is one, and its record says whose
 abbrev pub GrantOf : {G : Type 0} → (G → ℕ) → Option G → ℕ → Type 0
@@ -95,11 +95,18 @@ module _ (b : List ℕ) (a : Accepted b) where
     where
       go : (o : Option IoGrant) → a .facts .io s ≡ o → GrantOf (λ (g : IoGrant). g .client) (a .facts .io s) (word b (ioPlace s))
       go none e =
-          inl (e, no-client b (ioPlace s) Layout.ioSize (omega arith)
-          (subst (λ (x : List ℕ). Zero x (ioPlace s) (ioPlace s + Layout.ioSize)) (a .is) (Sounds.io-zero (a .facts) (a .formed) s l e)))
+          inl (
+            e,
+            no-client b (ioPlace s) Layout.ioSize (omega arith)
+                (subst (λ (x : List ℕ). Zero x (ioPlace s) (ioPlace s + Layout.ioSize)) (a .is) (Sounds.io-zero (a .facts) (a .formed) s l e)),
+          )
       go (some g) e =
-          inr (g, e, ap (λ (x : IoGrant). x .client) (subst (λ (x : List ℕ). ioIn x s ≡ g) (a .is) (Sounds.io-is (a .facts) (a .formed) s g l e .1)),
-          live-positive (a .formed) (a .formed .ios s g e .client))
+          inr (
+            g,
+            e,
+            ap (λ (x : IoGrant). x .client) (subst (λ (x : List ℕ). ioIn x s ≡ g) (a .is) (Sounds.io-is (a .facts) (a .formed) s g l e .1)),
+            live-positive (a .formed) (a .formed .ios s g e .client),
+          )
 
   irq-record : (s : ℕ) (g : IrqGrant) → s < Table.mostSockets → a .facts .irq s ≡ some g → irqIn b s ≡ g
   irq-record s g l e = subst (λ (x : List ℕ). irqIn x s ≡ g) (a .is) (Sounds.irq-is (a .facts) (a .formed) s g l e .1)
@@ -110,8 +117,11 @@ module _ (b : List ℕ) (a : Accepted b) where
     where
       go : (o : Option IrqGrant) → a .facts .irq s ≡ o → GrantOf (λ (g : IrqGrant). g .client) (a .facts .irq s) (word b (irqPlace s))
       go none e =
-          inl (e, no-client b (irqPlace s) Layout.irqSize (omega arith)
-          (subst (λ (x : List ℕ). Zero x (irqPlace s) (irqPlace s + Layout.irqSize)) (a .is) (Sounds.irq-zero (a .facts) (a .formed) s l e)))
+          inl (
+            e,
+            no-client b (irqPlace s) Layout.irqSize (omega arith)
+                (subst (λ (x : List ℕ). Zero x (irqPlace s) (irqPlace s + Layout.irqSize)) (a .is) (Sounds.irq-zero (a .facts) (a .formed) s l e)),
+          )
       go (some g) e =
           inr (g, e, ap (λ (x : IrqGrant). x .client) (irq-record s g l e), live-positive (a .formed) (a .formed .irqs s g e .client))
 

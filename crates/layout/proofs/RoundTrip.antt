@@ -19,8 +19,8 @@ use Rattle.facts.specs.WellFormed.{WellFormed, Live}
 use Rattle.layout.specs.Layout
 use Rattle.layout.specs.Layout.{each, mark, two, maskBytes, clientBytes, levelBytes, rangeBytes, ioBytes, irqBytes, mannerByte, cards, levels, ios, irqs, clients, ranges, head, image}
 use Rattle.layout.specs.Reading.{below, marked, maskOf, maskPlace, mannerOf, clientPlace, rangePlace, levelPlace, ioPlace, irqPlace, clientIn, rangeIn, levelIn, ioIn, irqIn, ioHere, irqHere, factsIn}
-use Rattle.layout.proofs.Parts.{skip, each-at}
 use Rattle.layout.proofs.Image
+use Rattle.layout.proofs.Parts.{skip, each-at}
 use Rattle.layout.proofs.Lists.{below-in, below-past, at-in, listed, rising-over}
 
 -- numbers of two and four bytes

@@ -12,8 +12,8 @@ use Rattle.facts.specs.Packets.{byte}
 use Rattle.layout.specs.Layout
 use Rattle.layout.specs.Layout.{each, mark, clientBytes, levelBytes, rangeBytes, ioBytes, irqBytes, cards, levels, ios, irqs, clients, ranges, head, rest, image}
 use Rattle.layout.specs.Reading.{clientPlace, rangePlace, levelPlace, ioPlace, irqPlace}
-use Rattle.layout.proofs.Parts.{below-at, join, each-parts, record-below}
 use Rattle.layout.proofs.Image
+use Rattle.layout.proofs.Parts.{below-at, join, each-parts, record-below}
 
 pub record Shows (F : Facts) (b : List ℕ) : Type 0 where
   pub size : length b ≡ Layout.tableSize

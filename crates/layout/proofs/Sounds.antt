@@ -9,6 +9,7 @@ use native.Mathlib.Omega.{arith}
 use lib.ListN.{length, getD, getElem?}
 use Rattle.facts.specs.declared.Manner.{Manner}
 use Rattle.facts.specs.declared.Manner.the-variants.{Exclusive, TimeMultiplexed, DynamicLevel, DynamicPulse}
+use Rattle.facts.specs.Table
 use Rattle.facts.specs.Table.{Facts, Client, Range, IoGrant, IrqGrant}
 use Rattle.facts.specs.Ports.{Managed}
 use Rattle.facts.specs.Packets.{byte, word}
@@ -17,12 +18,11 @@ use Rattle.layout.specs.Layout
 use Rattle.layout.specs.Layout.{mark, maskBytes, clientBytes, rangeBytes, levelBytes, ioBytes, irqBytes, mannerByte, head, image}
 use Rattle.layout.specs.Reading.{socketsIn, clientsIn, rangesIn, issuedIn, maskPlace, clientPlace, rangePlace, levelPlace, ioPlace, irqPlace, handleIn, clientIn, rangeIn, ioIn, irqIn, ioHere, irqHere}
 use Rattle.layout.specs.Sound.{Sound, Zero, CardSound, LevelSound, ClientSound, RangeSound, MaskSound, LiveIn, ManagedIn, IoUsed, IrqUsed, IoSound, IrqSound, IoPlaceSound, IrqPlaceSound, IoPairSound, IrqPairSound, handleBefore, endBefore, baseIn, countIn}
-use Rattle.layout.proofs.Parts.{below-at}
 use Rattle.layout.proofs.Image
+use Rattle.layout.proofs.Parts.{below-at}
 use Rattle.layout.proofs.Lists.{below-in, at-below, at-past, at-in, in-at, rising-over, rising-next, apart-port, apart-next}
 use Rattle.layout.proofs.RoundTrip.{two-back, mask-word, client-bytes, client-is, range-is, ios-back, irqs-back}
 use Rattle.layout.proofs.Grants.{zeros, nonzero, none-zero, placed, used}
-use Rattle.facts.specs.Table
 
 mark-most : (t : Bool) → mark t ≤ 1
 mark-most true = omega arith

@@ -12,8 +12,8 @@ use borrow.Author.Tests.{eq-eqb, ne-eqb}
 use Rattle.facts.specs.Table
 use Rattle.facts.specs.Table.{Facts, Client, Level, Range, IoGrant, IrqGrant, fresh}
 use Rattle.facts.specs.Sets.{_∈_, put}
-use Rattle.facts.specs.WellFormed.{WellFormed, ClientFits, IoFits, IrqFits, Live, Rising, AttributesAllowed, EventsAllowed}
 use Rattle.facts.specs.Packets.{word}
+use Rattle.facts.specs.WellFormed.{WellFormed, ClientFits, IoFits, IrqFits, Live, Rising, AttributesAllowed, EventsAllowed}
 use Rattle.facts.specs.Checks.{Outcome, Passed}
 use Rattle.facts.specs.Clients.{Register, Deregister, registerChecks, registered, withClients, without, HoldsIo, HoldsIrq}
 use Rattle.facts.specs.Sockets.{CardTo, withCard}

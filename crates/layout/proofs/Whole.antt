@@ -8,9 +8,11 @@ use Prim.Native.Nat.{ℕ, zero, suc, _+_, _*_, _-_, _/_, _%_, _≤_, _<_}
 use native.Mathlib.Nat.{add-assoc, add-zero}
 use native.Mathlib.Decide.{decLt}
 use native.Mathlib.Omega.{arith}
-use lib.ListN.{getD, getElem?}
-use Rattle.facts.specs.Table.{Client, Level, Range, IoGrant, IrqGrant}
+use lib.ListN.{getD, getElem?, replicate}
+use Rattle.facts.specs.Table
+use Rattle.facts.specs.Table.{Level, IoGrant, IrqGrant}
 use Rattle.facts.specs.Packets.{byte, word, long}
+use Rattle.layout.specs.Layout
 use Rattle.layout.specs.Layout.{mark, two, maskBytes, clientBytes, levelBytes, rangeBytes, ioBytes, irqBytes, mannerByte, head, image}
 use Rattle.layout.specs.Reading.{clientsIn, rangesIn, upTo, marked, maskOf, maskPlace, mannerOf, clientPlace, rangePlace, levelPlace, ioPlace, irqPlace, clientIn, rangeIn, levelIn, ioIn, irqIn, ioHere, irqHere, factsIn}
 use Rattle.layout.specs.Sound.{Sound, Zero, MaskSound}
@@ -19,8 +21,6 @@ use Rattle.layout.proofs.Grants.{zeros, read-bytes}
 use Rattle.layout.proofs.Shows.{shows-image}
 use Rattle.layout.proofs.Lists.{below-in, at-upTo, at-past, upTo-length}
 use Rattle.layout.proofs.RoundTrip.{zero-test, positive-test, mask-bytes}
-use Rattle.layout.specs.Layout
-use Rattle.facts.specs.Table
 
 -- every element is a byte
 abbrev pub Bytes : List ℕ → Type 0
@@ -38,6 +38,19 @@ mannerByte-of (suc zero) l = refl
 mannerByte-of (suc (suc zero)) l = refl
 mannerByte-of (suc (suc (suc zero))) l = refl
 mannerByte-of (suc (suc (suc (suc n)))) l = absurd (omega arith)
+
+-- byte j of the ith record of a list: of what is listed there, or zero past the end
+listed-bytes : {A : Type 0} (n : ℕ) (f : ℕ → A) (k : ℕ) (bytes : Option A → List ℕ) → bytes none ≡ replicate k 0 → (i j : ℕ) → j < k → (x : ℕ)
+    → (i < n → getD (bytes (some (f i))) j 0 ≡ x)
+    → (n ≤ i → x ≡ 0)
+    → getD (bytes (getElem? (upTo n f) i)) j 0 ≡ x
+listed-bytes {A} n f k bytes empty i j l x listed past = go (decLt i n)
+  where
+    go : Dec (i < n) → getD (bytes (getElem? (upTo n f) i)) j 0 ≡ x
+    go (yes h) = ap (λ (o : Option A). getD (bytes o) j 0) (at-upTo n f i h) ∙ listed h
+    go (no h) =
+        ap (λ (o : Option A). getD (bytes o) j 0) (at-past (upTo n f) i (omega (arith, upTo-length n f))) ∙ ap (λ (y : List ℕ). getD y j 0) empty
+        ∙ zeros k j l ∙ sym (past (omega arith))
 
 module _ (b : List ℕ) (bytes : Bytes b) where
   low : (o : ℕ) → word b o % 256 ≡ byte b o
@@ -139,17 +152,12 @@ module _ (b : List ℕ) (bytes : Bytes b) where
         c3 : long b (p + 2) / 16777216 ≡ byte b (p + 2 + 2 + 1)
         c3 = omega (arith, b0, b1, b2, b3)
 
-    range-bytes : (i j : ℕ) → i < Table.mostRanges → j < Layout.rangeSize → getD (rangeBytes (getElem? (factsIn b .ranges) i)) j 0 ≡ byte b (rangePlace i + j)
+    range-bytes : (i j : ℕ) → i < Table.mostRanges → j < Layout.rangeSize
+        → getD (rangeBytes (getElem? (factsIn b .ranges) i)) j 0 ≡ byte b (rangePlace i + j)
     unfolding factsIn
-    range-bytes i j l m = go (decLt i (rangesIn b))
-      where
-        go : Dec (i < rangesIn b) → getD (rangeBytes (getElem? (upTo (rangesIn b) (rangeIn b)) i)) j 0 ≡ byte b (rangePlace i + j)
-        go (yes h) =
-            ap (λ (o : Option Range). getD (rangeBytes o) j 0) (at-upTo (rangesIn b) (rangeIn b) i h) ∙ range-used i j m (s .ranges i h .mark)
-        go (no h) =
-            ap (λ (o : Option Range). getD (rangeBytes o) j 0)
-            (at-past (upTo (rangesIn b) (rangeIn b)) i (omega (arith, upTo-length (rangesIn b) (rangeIn b)))) ∙ zeros Layout.rangeSize j m
-            ∙ sym (s .ranges-end (rangePlace i + j) (omega arith) (omega arith))
+    range-bytes i j l m =
+        listed-bytes (rangesIn b) (rangeIn b) Layout.rangeSize rangeBytes refl i j m (byte b (rangePlace i + j))
+        (λ h. range-used i j m (s .ranges i h .mark)) (λ h. s .ranges-end (rangePlace i + j) (omega arith) (omega arith))
 
     mask-two : (i t r : ℕ) → t < Table.mostSockets → r < 2 → MaskSound b i t → getD (maskBytes (maskOf (word b (maskPlace i t)))) r 0 ≡ byte b (maskPlace i t + r)
     mask-two i t r l m (inl e) =
@@ -207,17 +215,12 @@ module _ (b : List ℕ) (bytes : Bytes b) where
             there : maskPlace i t + r ≡ clientPlace i + j
             there = omega arith
 
-    client-bytes : (i j : ℕ) → i < Table.mostClients → j < Layout.clientSize → getD (clientBytes (getElem? (factsIn b .clients) i)) j 0 ≡ byte b (clientPlace i + j)
+    client-bytes : (i j : ℕ) → i < Table.mostClients → j < Layout.clientSize
+        → getD (clientBytes (getElem? (factsIn b .clients) i)) j 0 ≡ byte b (clientPlace i + j)
     unfolding factsIn
-    client-bytes i j l m = go (decLt i (clientsIn b))
-      where
-        go : Dec (i < clientsIn b) → getD (clientBytes (getElem? (upTo (clientsIn b) (clientIn b)) i)) j 0 ≡ byte b (clientPlace i + j)
-        go (yes h) =
-            ap (λ (o : Option Client). getD (clientBytes o) j 0) (at-upTo (clientsIn b) (clientIn b) i h) ∙ client-used i j m (s .clients i h .masks)
-        go (no h) =
-            ap (λ (o : Option Client). getD (clientBytes o) j 0)
-            (at-past (upTo (clientsIn b) (clientIn b)) i (omega (arith, upTo-length (clientsIn b) (clientIn b)))) ∙ zeros Layout.clientSize j m
-            ∙ sym (s .clients-end (clientPlace i + j) (omega arith) (omega arith))
+    client-bytes i j l m =
+        listed-bytes (clientsIn b) (clientIn b) Layout.clientSize clientBytes refl i j m (byte b (clientPlace i + j))
+        (λ h. client-used i j m (s .clients i h .masks)) (λ h. s .clients-end (clientPlace i + j) (omega arith) (omega arith))
 
     -- the bytes are the image of the facts read off them
     pub whole : image (factsIn b) ≡ b
