@@ -28,6 +28,10 @@ allPorts = 65536
 abbrev pub mostLines : ℕ
 mostLines = 16
 
+-- event masks have bits 0 to 11
+abbrev pub allEvents : ℕ
+allEvents = 4096
+
 -- the port count of a request is one byte
 abbrev pub mostAsked : ℕ
 mostAsked = 255

@@ -35,7 +35,7 @@ pub record AttributesAllowed (a : ℕ) : Type 0 where
 
 -- event mask bits 12 to 15 are clear
 abbrev pub EventsAllowed : ℕ → Type 0
-EventsAllowed m = m < 4096
+EventsAllowed m = m < Table.allEvents
 
 -- "a client": its handle is issued, its attributes and masks are ones a request accepts, its masks' sockets are below the count
 pub record ClientFits (F : Facts) (c : Client) : Type 0 where

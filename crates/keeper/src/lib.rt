@@ -55,6 +55,7 @@ pub extern "C" fn cs_call(table: &mut [u8], service: u16, handle: u16, packet: &
     let Loaded::Formed = image::load(table) else {
         return unformed();
     };
+    // DeregisterClient, RegisterClient, and every other number.
     match service {
         0x02 => pack(services::clients::deregister(table, Handle(handle), packet)),
         0x10 => pack(services::clients::register(table, packet)),

@@ -59,10 +59,10 @@ module _ (b : List ℕ) (bytes : Bytes b) (s : Sound b) where
   unfolding clientIn
   mask-formed i t m l e =
       let f = found Table.mostSockets (λ t. maskOf (word b (maskPlace i t))) t m e in
-      let n = nonzero (word b (maskPlace i t)) (word b (maskPlace i t) - 4096) m (f .1) in
+      let n = nonzero (word b (maskPlace i t)) (word b (maskPlace i t) - Table.allEvents) m (f .1) in
       go (s .clients i l .masks t (f .0)) n
     where
-      go : MaskSound b i t → (0 < word b (maskPlace i t)) × (word b (maskPlace i t) - 4096 ≡ m) → (t < socketsIn b) × EventsAllowed m
+      go : MaskSound b i t → (0 < word b (maskPlace i t)) × (word b (maskPlace i t) - Table.allEvents ≡ m) → (t < socketsIn b) × EventsAllowed m
       go (inl z) n = absurd (omega (arith, z, n .0))
       go (inr u) n = (u .2, omega (arith, u .0, u .1, n .1))
 

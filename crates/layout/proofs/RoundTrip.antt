@@ -49,9 +49,9 @@ positive-test n x y l = ap (λ (t : Bool). cond t x y) (ne-eqb n 0 (λ e. omega 
 
 -- a mask's two bytes
 pub mask-back : (o : Option ℕ) (w : ℕ) → w ≡ getD (maskBytes o) 0 0 + 256 * getD (maskBytes o) 1 0 → maskOf w ≡ o
-mask-back none w e = zero-test w none (some (w - 4096)) e
+mask-back none w e = zero-test w none (some (w - Table.allEvents)) e
 mask-back (some m) w e =
-    positive-test w none (some (w - 4096)) (omega (arith, two-back (4096 + m))) ∙ ap {B = Option ℕ} some (omega (arith, two-back (4096 + m)))
+    positive-test w none (some (w - Table.allEvents)) (omega (arith, two-back (Table.allEvents + m))) ∙ ap {B = Option ℕ} some (omega (arith, two-back (Table.allEvents + m)))
 
 -- the bytes of a client's masks
 pub mask-bytes : (c : Client) (s r : ℕ) → s < Table.mostSockets → r < 2 → getD (clientBytes (some c)) (6 + (s * Layout.maskSize + r)) 0 ≡ getD (maskBytes (c .mask s)) r 0

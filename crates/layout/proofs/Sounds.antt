@@ -89,7 +89,7 @@ module _ (F : Facts) (w : WellFormed F) where
       go : (o : Option ℕ) → c .mask s ≡ o → MaskSound (image F) i s
       go none q = inl (is ∙ ap (λ (o : Option ℕ). getD (maskBytes o) 0 0 + 256 * getD (maskBytes o) 1 0) q)
       go (some m) q =
-          let n = is ∙ ap (λ (o : Option ℕ). getD (maskBytes o) 0 0 + 256 * getD (maskBytes o) 1 0) q ∙ two-back (4096 + m) in
+          let n = is ∙ ap (λ (o : Option ℕ). getD (maskBytes o) 0 0 + 256 * getD (maskBytes o) 1 0) q ∙ two-back (Table.allEvents + m) in
           let f = w .clients c (at-in (F .clients) i e) .mask s m q in
           inr (omega (arith, n), omega (arith, n, f .1), omega (arith, sockets-is, f .0))
 

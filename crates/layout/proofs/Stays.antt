@@ -243,7 +243,7 @@ register-stays F h p o w (inl r) = subst WellFormed (sym (r .1 .facts)) w
 register-stays F h p o w (inr r) =
     let passed = r .0 in
     subst WellFormed (sym (r .1 .1 .facts))
-    (register-formed F (word p 0) (word p 2) w (room passed) (left passed) (told (attributes-told (word p 0)) (passed .1 .0)) (told (decLt (word p 2) 4096) (passed .1 .1 .0)))
+    (register-formed F (word p 0) (word p 2) w (room passed) (left passed) (told (attributes-told (word p 0)) (passed .1 .0)) (told (decLt (word p 2) Table.allEvents) (passed .1 .1 .0)))
   where
     room : Passed (registerChecks F p) → length (F .clients) < Table.mostClients
     room x = told (decLt (length (F .clients)) Table.mostClients) (λ d. x .1 .1 .1 .0 (inl (omega arith)))

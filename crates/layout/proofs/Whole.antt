@@ -161,14 +161,14 @@ module _ (b : List ℕ) (bytes : Bytes b) where
 
     mask-two : (i t r : ℕ) → t < Table.mostSockets → r < 2 → MaskSound b i t → getD (maskBytes (maskOf (word b (maskPlace i t)))) r 0 ≡ byte b (maskPlace i t + r)
     mask-two i t r l m (inl e) =
-        ap (λ (o : Option ℕ). getD (maskBytes o) r 0) (zero-test w none (some (w - 4096)) e)
+        ap (λ (o : Option ℕ). getD (maskBytes o) r 0) (zero-test w none (some (w - Table.allEvents)) e)
         ∙ below-at 2 (λ r. getD (maskBytes none) r 0 ≡ byte b (maskPlace i t + r))
         ((tt, omega (arith, e) ∙ ap (byte b) (sym (add-zero (maskPlace i t)))), omega (arith, e)) r m
       where
         w : ℕ
         w = word b (maskPlace i t)
     mask-two i t r l m (inr u) =
-        ap (λ (o : Option ℕ). getD (maskBytes o) r 0) (positive-test w none (some (w - 4096)) (omega (arith, u .0)))
+        ap (λ (o : Option ℕ). getD (maskBytes o) r 0) (positive-test w none (some (w - Table.allEvents)) (omega (arith, u .0)))
         ∙ ap (λ (n : ℕ). getD (two n) r 0) back
         ∙ below-at 2 (λ r. getD (two w) r 0 ≡ byte b (maskPlace i t + r))
         ((tt, low (maskPlace i t) ∙ ap (byte b) (sym (add-zero (maskPlace i t)))), high (maskPlace i t)) r m
@@ -176,7 +176,7 @@ module _ (b : List ℕ) (bytes : Bytes b) where
         w : ℕ
         w = word b (maskPlace i t)
 
-        back : 4096 + (w - 4096) ≡ w
+        back : Table.allEvents + (w - Table.allEvents) ≡ w
         back = omega (arith, u .0)
 
     client-used : (i j : ℕ) → j < Layout.clientSize → ((t : ℕ) → t < Table.mostSockets → MaskSound b i t) → getD (clientBytes (some (clientIn b i))) j 0 ≡ byte b (clientPlace i + j)

@@ -73,10 +73,10 @@ unfoldable pub each : ℕ → (ℕ → List ℕ) → List ℕ
 each zero f = []
 each (suc n) f = each n f ++ f n
 
--- no mask is 0, a mask is 4096 and itself
+-- no mask is 0, a mask is 4,096 and itself
 abbrev pub maskBytes : Option ℕ → List ℕ
 maskBytes none = two 0
-maskBytes (some m) = two (4096 + m)
+maskBytes (some m) = two (Table.allEvents + m)
 
 -- handle, attributes, event mask, and a mask for each socket; a record that is not used is zero
 abbrev pub clientBytes : Option Client → List ℕ

@@ -59,7 +59,7 @@ abbrev pub maskPlace : ℕ → ℕ → ℕ
 maskPlace i s = clientPlace i + 6 + s * Layout.maskSize
 
 abbrev pub maskOf : ℕ → Option ℕ
-maskOf w = cond (eqb w 0) none (some (w - 4096))
+maskOf w = cond (eqb w 0) none (some (w - Table.allEvents))
 
 unfoldable pub clientIn : List ℕ → ℕ → Client
 clientIn b i =

@@ -36,7 +36,7 @@ handleBefore b zero = 0
 handleBefore b (suc i) = handleIn b i
 
 abbrev pub MaskSound : List ℕ → ℕ → ℕ → Type 0
-MaskSound b i s = (word b (maskPlace i s) ≡ 0) ⊎ ((4096 ≤ word b (maskPlace i s)) × (word b (maskPlace i s) < 8192) × (s < socketsIn b))
+MaskSound b i s = (word b (maskPlace i s) ≡ 0) ⊎ ((Table.allEvents ≤ word b (maskPlace i s)) × (word b (maskPlace i s) < Table.allEvents + Table.allEvents) × (s < socketsIn b))
 
 -- the ith client's record, whose handle is over low
 pub record ClientSound (b : List ℕ) (low i : ℕ) : Type 0 where

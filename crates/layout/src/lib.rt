@@ -9,6 +9,8 @@ pub const MOST_ISSUED: usize = 65535;
 
 pub const ALL_LEVELS: usize = 16;
 
+pub const ALL_EVENTS: usize = 4096;
+
 pub const MOST_RANGES: usize = 32;
 
 pub const ALL_PORTS: usize = 65536;

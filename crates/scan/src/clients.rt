@@ -3,6 +3,7 @@ use crate::Found;
 use crate::attributes_allowed;
 use crate::byte;
 use crate::word;
+use layout::ALL_EVENTS;
 use layout::CLIENT_ATTRIBUTES;
 use layout::CLIENT_EVENTS;
 use layout::CLIENT_MASKS;
@@ -24,10 +25,8 @@ ghost use Rattle.layout.specs.Sound.{MaskSound, ClientSound};
 ghost use Rattle.scan.specs.Parts.{MasksSound, ClientsSound};
 ghost use Rattle.scan.specs.Finding.{Finds};
 
-// An event mask is below 4096; a socket's mask is 0, or 4096 and itself.
-const ALL_EVENTS: usize = 4096;
-
-const ALL_MASKS: usize = 8192;
+// A socket's mask is 0, or 4,096 and itself.
+const ALL_MASKS: usize = ALL_EVENTS + ALL_EVENTS;
 
 // A client's mask at the socket `s`: none, or one at a socket below the count.
 fn mask_sound(t: &[u8], i: usize, s: usize) -> bool

@@ -120,13 +120,13 @@ module _ (b : List ℕ) (a : Accepted b) (i h : ℕ) (f : FirstAt b h i) where
   mask-holds x =
       let c = Of.client-of b a i (f .listed) in (
         x .0,
-        word b (maskPlace i (x .0)) - 4096,
+        word b (maskPlace i (x .0)) - Table.allEvents,
         record {
           client = c .0;
           listed = at-in (a .facts .clients) i (c .1);
           handle = sym (Of.handle-of b a i (c .0) (c .1) (f .listed)) ∙ f .handle;
           mask = sym (Of.mask-of b a i (x .0) (c .0) (c .1) (f .listed) (x .1))
-              ∙ positive-test (word b (maskPlace i (x .0))) none (some (word b (maskPlace i (x .0)) - 4096)) (omega (arith, x .2));
+              ∙ positive-test (word b (maskPlace i (x .0))) none (some (word b (maskPlace i (x .0)) - Table.allEvents)) (omega (arith, x .2));
         },
       )
 
@@ -157,7 +157,7 @@ module _ (b : List ℕ) (a : Accepted b) (i h : ℕ) (f : FirstAt b h i) where
       used : word b (maskPlace i (x .0)) ≢ 0
       used e =
           Option·none-ne-some (x .1)
-          (sym (zero-test (word b (maskPlace i (x .0))) none (some (word b (maskPlace i (x .0)) - 4096)) e)
+          (sym (zero-test (word b (maskPlace i (x .0))) none (some (word b (maskPlace i (x .0)) - Table.allEvents)) e)
           ∙ Of.mask-of b a i (x .0) (m .client) at (f .listed) l ∙ m .mask)
 
   pub holds-all : HoldsSome b i h → HoldsIo (a .facts) h ⊎ HoldsIrq (a .facts) h ⊎ HoldsMask (a .facts) h

@@ -4,6 +4,7 @@ use crate::Size;
 use crate::sized;
 use facts::Code;
 use facts::Handle;
+use layout::ALL_EVENTS;
 use layout::CLIENT_ATTRIBUTES;
 use layout::CLIENT_EVENTS;
 use layout::CLIENT_MASKS;
@@ -45,15 +46,13 @@ const ATTRIBUTES_AT: usize = 0;
 
 const EVENTS_AT: usize = 2;
 
-const ALL_EVENTS: usize = 4096;
-
 // The attributes and the event mask that a registration asks for.
 pub enum Asked {
     Client(usize, usize),
     Bad,
 }
 
-pub fn asks(p: &[u8]) -> Asked
+fn asks(p: &[u8]) -> Asked
     requires { ⌜ length (now p) ≡ registerSize ⌝ }
     ensures { λ r. ⌜ AsksFor (now (p .entry)) r ⌝ }
 {
@@ -74,7 +73,7 @@ pub enum Room {
     Full,
 }
 
-pub fn next_place(t: &[u8]) -> Room
+fn next_place(t: &[u8]) -> Room
     requires { ⌜ length (now t) ≡ tableSize ⌝ }
     ensures { λ r. ⌜ RoomIs (now (t .entry)) r ⌝ }
 {
@@ -90,7 +89,7 @@ pub fn next_place(t: &[u8]) -> Room
 }
 
 // The new client's record, the handles issued and the number of clients.
-pub fn enter(t: &mut [u8], n: usize, h: usize, attributes: usize, events: usize)
+fn enter(t: &mut [u8], n: usize, h: usize, attributes: usize, events: usize)
     requires { ⌜ (length (now t) ≡ tableSize) × (n < Table.mostClients) ⌝ }
     ensures { λ _. ⌜ now (t .exit) ≡ entered (now (t .entry)) n h attributes events ⌝ }
 {
@@ -125,7 +124,7 @@ pub enum Held {
     Something,
 }
 
-pub fn grant_held(t: &[u8], h: usize) -> bool
+fn grant_held(t: &[u8], h: usize) -> bool
     requires { ⌜ length (now t) ≡ tableSize ⌝ }
     ensures { λ r. ⌜ Says r (GrantHeldIn (now (t .entry)) h) ⌝ }
 {
@@ -142,7 +141,7 @@ pub fn grant_held(t: &[u8], h: usize) -> bool
     false
 }
 
-pub fn mask_held(t: &[u8], i: usize) -> bool
+fn mask_held(t: &[u8], i: usize) -> bool
     requires { ⌜ (length (now t) ≡ tableSize) × (i < Table.mostClients) ⌝ }
     ensures { λ r. ⌜ Says r (MaskHeldIn (now (t .entry)) i) ⌝ }
 {
@@ -157,7 +156,7 @@ pub fn mask_held(t: &[u8], i: usize) -> bool
     false
 }
 
-pub fn holds(t: &[u8], i: usize, h: usize) -> Held
+fn holds(t: &[u8], i: usize, h: usize) -> Held
     requires { ⌜ (length (now t) ≡ tableSize) × (i < Table.mostClients) ⌝ }
     ensures { λ r. ⌜ HeldIs (now (t .entry)) i h r ⌝ }
 {
@@ -171,7 +170,7 @@ pub fn holds(t: &[u8], i: usize, h: usize) -> Held
 }
 
 // The client listed in the place i is taken out: those after it move one place down.
-pub fn withdraw(t: &mut [u8], i: usize)
+fn withdraw(t: &mut [u8], i: usize)
     requires { ⌜ (length (now t) ≡ tableSize) × (i < clientsIn (now t)) × (clientsIn (now t) ≤ Table.mostClients) ⌝ }
     ensures { λ _. ⌜ Withdrawn (now (t .entry)) (now (t .exit)) i ⌝ }
 {

@@ -22,7 +22,7 @@ ghost use Rattle.services.specs.Answers.{codeOf, handleOf};
 ghost use Rattle.services.specs.Sharing.{sharerIn, sharersIn};
 
 // One for a grant of the socket s on the level, else none.
-pub fn sharer(t: &[u8], level: usize, s: usize) -> usize
+fn sharer(t: &[u8], level: usize, s: usize) -> usize
     requires { ⌜ (length (now t) ≡ tableSize) × (s < Table.mostSockets) ⌝ }
     ensures { λ r. ⌜ (r ≡ sharerIn (now (t .entry)) level s) × (r ≤ 1) ⌝ }
 {
@@ -37,7 +37,7 @@ pub fn sharer(t: &[u8], level: usize, s: usize) -> usize
 }
 
 // The number of grants of the level on the sockets below the count.
-pub fn count(t: &[u8], level: usize) -> usize
+fn count(t: &[u8], level: usize) -> usize
     requires { ⌜ (length (now t) ≡ tableSize) × (socketsIn (now t) ≤ Table.mostSockets) ⌝ }
     ensures { λ r. ⌜ (r ≡ sharersIn (now (t .entry)) level (socketsIn (now (t .entry)))) × (r ≤ Table.mostSockets) ⌝ }
 {

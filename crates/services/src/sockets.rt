@@ -22,7 +22,7 @@ pub enum Counted {
     Past,
 }
 
-pub fn below_count(t: &[u8], socket: Socket) -> Counted
+fn below_count(t: &[u8], socket: Socket) -> Counted
     requires { ⌜ length (now t) ≡ tableSize ⌝ }
     ensures { λ r. ⌜ CountedIs (now (t .entry)) (socket .0) r ⌝ }
 {
