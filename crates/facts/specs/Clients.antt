@@ -27,6 +27,7 @@ nextHandle F = F .issued + 1
 abbrev pub registerSize : ℕ
 registerSize = 14
 
+-- the new client stands last, its handle the next one; it holds no socket mask yet
 abbrev pub registered : Facts → ℕ → ℕ → Facts
 registered F attributes events =
     record {

@@ -57,6 +57,7 @@ pub record IoFits (F : Facts) (s : ℕ) (g : IoGrant) : Type 0 where
   pub decoded : g .ports .count ≤ 2 ^ g .ports .lines
   pub managed : AllManaged F (g .ports .base) (g .ports .count)
 
+-- "every grant has a live client and a socket below the count; granted levels are managed"
 pub record IrqFits (F : Facts) (s : ℕ) (g : IrqGrant) : Type 0 where
   pub client : Live F (g .client)
   pub socket : s < F .sockets
@@ -70,19 +71,27 @@ abbrev pub IrqCompany : IrqGrant → IrqGrant → Type 0
 IrqCompany g g′ = g .level ≡ g′ .level → Together (g .manner) (g′ .manner)
 
 pub record WellFormed (F : Facts) : Type 0 where
+  -- "socket count 1 to 8; a card present or not in each"
   pub sockets-least : 1 ≤ F .sockets
   pub sockets-most : F .sockets ≤ Table.mostSockets
   pub cards : (s : ℕ) → F .card s ≡ true → s < F .sockets
+  -- "up to 16 live clients (handle, attributes, event mask); handles issued so far, up to 65,535"
   pub issued : F .issued ≤ Table.mostIssued
   pub clients-most : length (F .clients) ≤ Table.mostClients
+  -- "live handles differ, aren't 0 and aren't over the number issued"; "attributes and masks are ones a request accepts"; "every .. mask has .. a socket
+  -- below the count"
   pub handles : Rising 0 (F .clients)
   pub clients : (c : Client) → c ∈ F .clients → ClientFits F c
+  -- "IRQ levels 0 to 15, each managed or not and reserved or not"; "an unmanaged level isn't reserved"
   pub levels : (l : ℕ) → F .level l .managed ≡ true → l < Table.allLevels
   pub reserved : (l : ℕ) → F .level l .reserved ≡ true → F .level l .managed ≡ true
+  -- "up to 32 managed I/O ranges"; "ranges have a port and don't overlap or pass FFFF"
   pub ranges-most : length (F .ranges) ≤ Table.mostRanges
   pub apart : Apart 0 (F .ranges)
   pub ranges : (r : Range) → r ∈ F .ranges → r .base + r .count ≤ Table.allPorts
+  -- "every grant .. has a live client and a socket below the count; granted levels and ports are managed"
   pub ios : (s : ℕ) (g : IoGrant) → F .io s ≡ some g → IoFits F s g
   pub irqs : (s : ℕ) (g : IrqGrant) → F .irq s ≡ some g → IrqFits F s g
+  -- "grants meet only as demand 3 allows"
   pub io-company : (s t : ℕ) (g g′ : IoGrant) → s ≢ t → F .io s ≡ some g → F .io t ≡ some g′ → IoCompany g g′
   pub irq-company : (s t : ℕ) (g g′ : IrqGrant) → s ≢ t → F .irq s ≡ some g → F .irq t ≡ some g′ → IrqCompany g g′
