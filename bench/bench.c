@@ -3,7 +3,7 @@
  *
  * Times, in one run and interleaved, the median of many repetitions of each
  * call on three tables, beside memcmp of as many bytes and beside model_read,
- * the same check of the table in plain C. Then the stack that a call takes.
+ * the same check of the table in plain C.
  */
 #define _XOPEN_SOURCE 700
 
@@ -11,7 +11,6 @@
 #include <stdlib.h>
 #include <string.h>
 #include <time.h>
-#include <ucontext.h>
 
 #include "layout.h"
 #include "sets.h"
@@ -177,58 +176,10 @@ static void print_times(void)
     }
 }
 
-/* ---- Stack: a call on a painted one ---- */
-
-static uint8_t stack[1 << 18];
-static ucontext_t outside, inside;
-
-static void nothing(void)
-{
-    answered = 0;
-}
-
-static size_t touched(void (*once)(void), int paint)
-{
-    size_t clean = 0;
-    memset(stack, paint, sizeof stack);
-    getcontext(&inside);
-    inside.uc_stack.ss_sp = stack;
-    inside.uc_stack.ss_size = sizeof stack;
-    inside.uc_link = &outside;
-    makecontext(&inside, once, 0);
-    swapcontext(&outside, &inside);
-    while (clean < sizeof stack && stack[clean] == (uint8_t)paint)
-        clean++;
-    return sizeof stack - clean;
-}
-
-/* With two paints, as a call may write the bytes of one. */
-static size_t stack_of(void (*once)(void))
-{
-    size_t first = touched(once, 0xA5), second = touched(once, 0x3C);
-    return first > second ? first : second;
-}
-
-static void print_stack(void)
-{
-    size_t base = stack_of(nothing), largest = 0;
-    for (unsigned which = 0; which < TABLES; which++)
-        for (unsigned i = 0; i < CALLS; i++) {
-            lay_out(which, &calls[i]);
-            size_t taken = stack_of(calls[i].once) - base;
-            if (calls[i].once != plain_c && taken > largest)
-                largest = taken;
-        }
-    printf("largest stack use of a call: %lu bytes\n", (unsigned long)largest);
-    lay_out(FULL, &calls[CALLS - 1]);
-    printf("stack use of plain C:        %lu bytes\n", (unsigned long)(stack_of(plain_c) - base));
-}
-
 int main(void)
 {
     make_tables();
     take_samples();
     print_times();
-    print_stack();
     return 0;
 }

@@ -1,7 +1,8 @@
 #!/bin/sh
-# run.sh: the benchmark, on this machine's own processor.
+# run.sh: the benchmark: time on this machine's own processor, stack on x86-64.
 # The archive that ships is for x86-64. On another processor the module that the
-# kit's compiler made of the proved crate is compiled once more, for that one.
+# kit's compiler made of the proved crate is compiled once more, for that one, and
+# timed; the stack is that of the archive that ships, under the kit's emulator.
 set -eu
 # shellcheck source=tests/toolchain.sh
 . "$(dirname "$0")/../tests/toolchain.sh"
@@ -51,3 +52,7 @@ fi
 gcc -std=c99 $warnings -O2 -Iinclude -Itests bench/bench.c tests/model.c tests/layout.c \
     tests/sets.c "$keeper" -o $made/bench
 $made/bench
+
+install_compilers
+build stack bench/stack.c tests/model.c tests/layout.c tests/sets.c "$archive"
+run stack

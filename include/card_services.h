@@ -4,14 +4,13 @@
  * The keeper answers Card Services requests (PC Card Standard 7.0, volume 5,
  * DOS real mode binding) over one table of CS_TABLE_SIZE bytes that the
  * caller lends it. All that the keeper knows is in that table: it has no
- * state of its own, allocates nothing and calls nobody. The table may be
- * kept, copied and loaded again as it stands.
+ * state of its own and allocates nothing. Numbers such as 5.37 are sections
+ * of the volume, numbers such as 10H its services.
  *
  * Calling
  * -------
  *  - Every entry but cs_fresh looks at the whole table before anything else.
- *    Bytes that are not the image of a well-formed set, or a length other than
- *    CS_TABLE_SIZE, are refused with CS_GENERAL_FAILURE.
+ *    One that is not well formed is refused with CS_GENERAL_FAILURE.
  *  - Checks run in the order in which they are listed here, and the code of
  *    the first that applies is the answer.
  *  - A refusal (any code but CS_SUCCESS) changes no byte of the table or of
@@ -23,6 +22,80 @@
  *  - Two calls on one table must not run at the same time, also not one from
  *    an interrupt handler within another. Calls on different tables may.
  *  - Numbers in table and packet are little-endian on every machine.
+ *  - A number of sockets, a socket and a level are 32 bits wide, and any may
+ *    be passed: 257 sockets are refused and do not become 1. A service and a
+ *    handle have 16 bits in the volume: of a wider number C hands on the low
+ *    16 bits, before the keeper sees it.
+ *
+ * The table
+ * ---------
+ * A table is well formed if cs_fresh made it and only the keeper changed it
+ * since. It may be copied, saved and loaded again as it stands: the copy is
+ * as good. In full, a table is refused if its length is not CS_TABLE_SIZE or
+ * if one of these does not hold:
+ *  - it has 1 to CS_SOCKETS sockets, and cards, grants and masks at no other;
+ *  - at most CS_CLIENTS clients are live, with handles that differ, are not 0
+ *    and are not over the number issued;
+ *  - a client's attributes and event mask are ones that RegisterClient
+ *    accepts, and its socket masks have none of the bits 12 to 15;
+ *  - an IRQ level that is reserved is managed;
+ *  - at most 32 I/O ranges are managed; each has a port, none passes port
+ *    FFFF, no two overlap;
+ *  - the client of a grant is live, and its level, or each of its ports, is
+ *    managed;
+ *  - an I/O grant has base 1 or more, 1 to 16 decoded lines, and 1 to 255
+ *    ports but not over two to the lines;
+ *  - two I/O grants both share if a port of one equals a port of the other in
+ *    the lines that both decode; two IRQ grants on one level have the same
+ *    manner, and not the exclusive one;
+ *  - every byte is the one that docs/LAYOUT.md has for all this: clients and
+ *    ranges in order, each mark 0 or 1, and 0 wherever nothing is said.
+ *
+ * These are rules of what a table says, and no checksum: a damaged byte can
+ * make another table that keeps them all.
+ *
+ * CS_GENERAL_FAILURE means that the table is not to be trusted (of cs_fresh:
+ * that the length or the number of sockets is wrong). Nothing was changed,
+ * and every further call but cs_fresh is refused too. Load a saved table or
+ * make a fresh one, and tell it which cards are in. Every handle of the lost
+ * table is then void: a fresh table issues 1, 2, 3 and on anew; a saved one
+ * has the clients that were live when it was saved, and issues again what
+ * was issued since. cs_sharers(table, len, 0) changes nothing and answers
+ * CS_GENERAL_FAILURE exactly if the table is not well formed.
+ *
+ * Linking
+ * -------
+ * `rt staticlib keeper` writes target/staticlib/libkeeper.a, for x86-64 with
+ * the System V calling convention:
+ *
+ *   gcc -Iinclude firmware.c target/staticlib/libkeeper.a
+ *
+ * It is freestanding: no start-up code, no heap, no state, no thread-local
+ * storage. It calls memset, which the program has to have; compilers ask
+ * every freestanding program for memcpy, memmove, memset and memcmp, and the
+ * keeper needs nothing beside those four. It uses SSE2, which has to be on,
+ * and the 128 bytes below the stack pointer that System V leaves to it (the
+ * red zone): an interrupt during a call has to keep the SSE registers and
+ * needs a stack of its own.
+ *
+ * A call takes less than 400 bytes of stack, its return address and the red
+ * zone among them. bench/run.sh measures it, on tables from fresh to full:
+ * it is a measurement and no proof.
+ *
+ * Not built
+ * ---------
+ *  - Callbacks. Nobody is called when an event happens: event masks are
+ *    checked and kept, and the keeper does nothing else with them.
+ *  - Services that cs_call answers with CS_UNSUPPORTED_SERVICE, although the
+ *    keeper is to have them:
+ *      AdjustResourceInfo  35H
+ *      RequestIRQ          20H
+ *      ReleaseIRQ          1CH
+ *      RequestIO           1FH
+ *      ReleaseIO           1BH
+ *      RequestSocketMask   22H
+ *      ReleaseSocketMask   2FH
+ *  - cs_boot, to load a boot list of resources: there is no such entry.
  *
  * Example
  * -------
@@ -33,6 +106,7 @@
  *   int main(void)
  *   {
  *       uint8_t packet[CS_REGISTER_CLIENT_LENGTH] = {0};
+ *       uint16_t events = CS_EVENT_CARD_DETECT_CHANGE | CS_EVENT_RESET;
  *       uint32_t answer;
  *       uint16_t client;
  *
@@ -42,7 +116,8 @@
  *           return 1;
  *
  *       packet[0] = CS_IO_CLIENT;
- *       packet[2] = 0x80; // events: Card Detect Change
+ *       packet[2] = (uint8_t)events;
+ *       packet[3] = (uint8_t)(events >> 8);
  *       answer = cs_call(table, sizeof table, CS_REGISTER_CLIENT, 0,
  *                        packet, sizeof packet);
  *       if (CS_CODE(answer) != CS_SUCCESS)
@@ -105,7 +180,7 @@ extern "C" {
 /* Service or resource type not built. */
 #define CS_UNSUPPORTED_SERVICE 0x15
 
-/* Table not well formed. */
+/* Table not well formed. What to do then: see The table, above. */
 #define CS_GENERAL_FAILURE 0x19
 
 /* Packet length, or a broken boot record. */
@@ -132,6 +207,21 @@ extern "C" {
 #define CS_HANDLE(answer) ((uint16_t)((uint32_t)(answer) >> 16))
 #define CS_COUNT(answer) ((uint16_t)((uint32_t)(answer) >> 16))
 
+/* ---- Events: the bits of an event mask, by their names in 5.37 ---- */
+
+#define CS_EVENT_WRITE_PROTECT_CHANGE 0x0001
+#define CS_EVENT_CARD_LOCK_CHANGE 0x0002
+#define CS_EVENT_EJECTION_REQUEST 0x0004
+#define CS_EVENT_INSERTION_REQUEST 0x0008
+#define CS_EVENT_BATTERY_DEAD 0x0010
+#define CS_EVENT_BATTERY_LOW 0x0020
+#define CS_EVENT_READY_CHANGE 0x0040
+#define CS_EVENT_CARD_DETECT_CHANGE 0x0080
+#define CS_EVENT_POWER_MANAGEMENT_CHANGE 0x0100
+#define CS_EVENT_RESET 0x0200
+#define CS_EVENT_SOCKET_SERVICES_UPDATED 0x0400
+#define CS_EVENT_EXTENDED_STATUS_CHANGE 0x0800
+
 /* ---- The table ---- */
 
 /*
@@ -148,7 +238,7 @@ extern "C" {
  *
  * Answers the code.
  */
-uint32_t cs_fresh(uint8_t *table, size_t len, uint8_t sockets);
+uint32_t cs_fresh(uint8_t *table, size_t len, uint32_t sockets);
 
 /*
  * cs_card_in, cs_card_out: tell that a socket now has, or has not, a card
@@ -162,8 +252,8 @@ uint32_t cs_fresh(uint8_t *table, size_t len, uint8_t sockets);
  *
  * Answers the code.
  */
-uint32_t cs_card_in(uint8_t *table, size_t len, uint16_t socket);
-uint32_t cs_card_out(uint8_t *table, size_t len, uint16_t socket);
+uint32_t cs_card_in(uint8_t *table, size_t len, uint32_t socket);
+uint32_t cs_card_out(uint8_t *table, size_t len, uint32_t socket);
 
 /*
  * cs_sharers: ask the number of sharers of an IRQ level
@@ -177,7 +267,7 @@ uint32_t cs_card_out(uint8_t *table, size_t len, uint16_t socket);
  * Answers the code and the number of live IRQ grants of the level, never over
  * CS_SOCKETS: CS_CODE(answer) and CS_COUNT(answer).
  */
-uint32_t cs_sharers(const uint8_t *table, size_t len, uint16_t level);
+uint32_t cs_sharers(const uint8_t *table, size_t len, uint32_t level);
 
 /* ---- Services ---- */
 
@@ -210,7 +300,9 @@ uint32_t cs_call(uint8_t *table, size_t len, uint16_t service, uint16_t handle,
  *        bit 3  CS_INSERTION_SHARABLE        any of these two
  *        bit 4  CS_INSERTION_EXCLUSIVE
  *        bits 5 to 15 reserved
- *   2  event mask, 2 bytes: bits 0 to 11 as in 5.37, bits 12 to 15 reserved
+ *   2  event mask, 2 bytes
+ *        bits 0 to 11  any of CS_EVENT_...
+ *        bits 12 to 15 reserved
  *   4  the rest is ignored
  *
  * The handle given is not looked at. Checks:

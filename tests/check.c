@@ -71,12 +71,12 @@ bool service_built(uint16_t service)
 
 void run_group(const char *name, void (*group)(void), unsigned long least)
 {
-    unsigned long before = checks;
+    unsigned long checks_before = checks, differ_before = differ;
     running = name;
     memset(seen, 0, sizeof seen);
     group();
-    unsigned long made = checks - before;
-    printf("compare: %s: %lu checks\n", name, made);
+    unsigned long made = checks - checks_before;
+    printf("compare: %s: %lu checks, %lu differ\n", name, made, differ - differ_before);
     if (made < least && reports())
         printf("compare: %s: at least %lu checks were to be made\n", name, least);
 }
@@ -171,7 +171,7 @@ const struct model *lent_facts(void)
 
 struct question {
     const char *entry, *argument_is;
-    unsigned argument;
+    uint32_t argument;
     bool accepted;
     unsigned sockets, clients, issued;
     unsigned service; /* this and the packet: of cs_call alone */
@@ -180,7 +180,7 @@ struct question {
 };
 
 /* The table is told as it was before the answer. */
-static struct question question(const char *entry, const char *argument_is, unsigned argument)
+static struct question question(const char *entry, const char *argument_is, uint32_t argument)
 {
     return (struct question){
         .entry = entry,
@@ -202,7 +202,8 @@ static void print_packet(const struct question *q)
 
 static void print_question(const struct question *q)
 {
-    printf("compare: %s: %s differs: %s %u", running, q->entry, q->argument_is, q->argument);
+    printf("compare: %s: %s differs: %s %lu", running, q->entry, q->argument_is,
+           (unsigned long)q->argument);
     if (q->packet != NULL)
         print_packet(q);
     printf("\n  table of %lu bytes", (unsigned long)table.len);
@@ -246,7 +247,7 @@ static uint32_t image_after(uint32_t answer)
     return answer;
 }
 
-uint32_t ask_fresh(uint8_t sockets)
+uint32_t ask_fresh(uint32_t sockets)
 {
     struct question q = question("cs_fresh", "sockets", sockets);
     uint32_t expected = CS_GENERAL_FAILURE;
@@ -256,21 +257,21 @@ uint32_t ask_fresh(uint8_t sockets)
     return compare(&q, expected, cs_fresh(table.is + GUARD, table.len, sockets));
 }
 
-uint32_t ask_card_in(uint16_t socket)
+uint32_t ask_card_in(uint32_t socket)
 {
     struct question q = question("cs_card_in", "socket", socket);
     uint32_t expected = accepted ? image_after(model_card_in(&facts, socket)) : CS_GENERAL_FAILURE;
     return compare(&q, expected, cs_card_in(table.is + GUARD, table.len, socket));
 }
 
-uint32_t ask_card_out(uint16_t socket)
+uint32_t ask_card_out(uint32_t socket)
 {
     struct question q = question("cs_card_out", "socket", socket);
     uint32_t expected = accepted ? image_after(model_card_out(&facts, socket)) : CS_GENERAL_FAILURE;
     return compare(&q, expected, cs_card_out(table.is + GUARD, table.len, socket));
 }
 
-uint32_t ask_sharers(uint16_t level)
+uint32_t ask_sharers(uint32_t level)
 {
     struct question q = question("cs_sharers", "level", level);
     uint32_t expected = accepted ? model_sharers(&facts, level) : CS_GENERAL_FAILURE;

@@ -25,10 +25,10 @@ void describe(const char *format, ...);
 bool lent_accepted(void);
 const struct model *lent_facts(void);
 
-uint32_t ask_fresh(uint8_t sockets);
-uint32_t ask_card_in(uint16_t socket);
-uint32_t ask_card_out(uint16_t socket);
-uint32_t ask_sharers(uint16_t level);
+uint32_t ask_fresh(uint32_t sockets);
+uint32_t ask_card_in(uint32_t socket);
+uint32_t ask_card_out(uint32_t socket);
+uint32_t ask_sharers(uint32_t level);
 
 /* A packet of NULL is passed on as NULL. */
 uint32_t ask_call(uint16_t service, uint16_t handle, const uint8_t *packet, size_t len);

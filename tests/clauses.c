@@ -184,7 +184,7 @@ static bool range_past_ffff(struct chance *c, struct model *m)
     return highest != NULL;
 }
 
-/* The set's only I/O grant: one managed port from 1 on, lines 16. */
+/* The set's only I/O grant: one managed port from 1 on, all lines. */
 static struct io_grant *only_io_grant(struct chance *c, struct model *m)
 {
     struct range *r = some_range(c, m);
@@ -194,7 +194,7 @@ static struct io_grant *only_io_grant(struct chance *c, struct model *m)
         return NULL;
     uint32_t base = r->base + pick(c, r->count);
     m->io[socket] = (struct io_grant){
-        true, some_client(c, m)->handle, (uint16_t)(base == 0 ? 1 : base), 1, 16, one_in(c, 2)};
+        true, some_client(c, m)->handle, (uint16_t)(base == 0 ? 1 : base), 1, LINES, one_in(c, 2)};
     return &m->io[socket];
 }
 

@@ -1,7 +1,7 @@
 /*
  * compare.c: the archive and the model, question by question
  *
- * Ends with "compare: N checks, 0 differ" and status 0, or with status 1.
+ * Ends with 'compare: N checks, 0 differ' and status 0, or with status 1.
  */
 #include "check.h"
 #include "compare.h"
@@ -18,6 +18,7 @@ int main(void)
     run_group("DeregisterClient of a holder", deregister_in_use, 100);
     run_group("card in, card out", cards, 500);
     run_group("sharers", sharers_counted, 300);
+    run_group("wide numbers", wide_numbers, 7000);
     run_group("every service number", every_service, 65536);
     run_group("every service number, broken table", every_service_broken, 65536);
     run_group("a broken table comes first", broken_before_anything, 100);

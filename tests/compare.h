@@ -13,6 +13,7 @@ void last_handles(void);
 void deregister_in_use(void);
 void cards(void);
 void sharers_counted(void);
+void wide_numbers(void);
 void every_service(void);
 void every_service_broken(void);
 void broken_before_anything(void);

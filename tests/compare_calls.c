@@ -17,7 +17,7 @@ static uint32_t register_with(uint16_t attributes, uint16_t events)
 
 static uint32_t register_one(void)
 {
-    return register_with(CS_IO_CLIENT, 0x080);
+    return register_with(CS_IO_CLIENT, CS_EVENT_CARD_DETECT_CHANGE);
 }
 
 static uint32_t deregister(uint16_t handle)
@@ -26,7 +26,7 @@ static uint32_t deregister(uint16_t handle)
     return ask_call(CS_DEREGISTER_CLIENT, handle, empty, 0);
 }
 
-static void lend_fresh(uint8_t sockets)
+static void lend_fresh(uint32_t sockets)
 {
     struct model m;
     model_fresh(&m, sockets);
@@ -48,21 +48,21 @@ static void fill(struct chance *c, unsigned how)
 }
 
 /* "Fresh: a count of 1 to 8 and a buffer of 8,192 bytes, else GENERAL_FAILURE
-   and no byte changed. The old bytes don't matter." */
+   and no byte changed. .. The old bytes don't matter." */
 void fresh_tables(void)
 {
     struct chance c = {1};
     for (unsigned how = 0; how < 3; how++) {
         fill(&c, how);
         for (unsigned l = 0; l < LENGTHS; l++)
-            for (unsigned sockets = 0; sockets <= 255; sockets += sockets < 12 ? 1 : 27) {
-                bool good = lengths[l] == CS_TABLE_SIZE && sockets >= 1 && sockets <= 8;
+            for (uint32_t sockets = 0; sockets <= 255; sockets += sockets < 12 ? 1 : 27) {
+                bool good = lengths[l] == CS_TABLE_SIZE && sockets >= 1 && sockets <= CS_SOCKETS;
                 lend_bytes(some_bytes, lengths[l]);
-                must_be(ask_fresh((uint8_t)sockets), good ? CS_SUCCESS : CS_GENERAL_FAILURE, 0);
+                must_be(ask_fresh(sockets), good ? CS_SUCCESS : CS_GENERAL_FAILURE, 0);
             }
-        for (unsigned sockets = 0; sockets <= 255; sockets++) {
+        for (uint32_t sockets = 0; sockets <= 600; sockets++) {
             lend_bytes(some_bytes, CS_TABLE_SIZE);
-            ask_fresh((uint8_t)sockets);
+            ask_fresh(sockets);
         }
     }
 }
@@ -80,9 +80,9 @@ void table_lengths(void)
             bool good = lengths[l] == CS_TABLE_SIZE;
             uint32_t code = good ? CS_SUCCESS : CS_GENERAL_FAILURE;
             lend_bytes(bytes, lengths[l]);
-            must_be(ask_sharers(15), code, 0);
-            must_be(ask_card_out(7), code, 0);
-            must_be(ask_card_in(7), code, 0);
+            must_be(ask_sharers(CS_LEVELS - 1), code, 0);
+            must_be(ask_card_out(CS_SOCKETS - 1), code, 0);
+            must_be(ask_card_in(CS_SOCKETS - 1), code, 0);
             must_be(register_one(), code, good ? CS_CLIENTS : 0);
             must_be(ask_call(0x7777, 0, NULL, 0),
                     good ? CS_UNSUPPORTED_SERVICE : CS_GENERAL_FAILURE, 0);
@@ -128,11 +128,13 @@ void register_attributes(void)
    mask are ignored"; the packet stays. */
 void register_packets(void)
 {
-    static const size_t tried[] = {0, 1, 2, 3, 4, 12, 13, 14, 15, 16, 28, 14 + 256, 14 + 65536};
-    static uint8_t bytes[14 + 65536] = {CS_IO_CLIENT, 0, 0xFF, 0x0F};
+    enum { RIGHT = CS_REGISTER_CLIENT_LENGTH };
+    static const size_t tried[] = {0,     1,         2,  3,  4,           12,           RIGHT - 1,
+                                   RIGHT, RIGHT + 1, 16, 28, RIGHT + 256, RIGHT + 65536};
+    static uint8_t bytes[RIGHT + 65536] = {CS_IO_CLIENT, 0, 0xFF, 0x0F};
     struct chance c = {2};
     for (size_t i = 0; i < sizeof tried / sizeof *tried; i++) {
-        bool good = tried[i] == 14;
+        bool good = tried[i] == RIGHT;
         lend_fresh(2);
         must_be(ask_call(CS_REGISTER_CLIENT, 9, bytes, tried[i]),
                 good ? CS_SUCCESS : CS_BAD_ARG_LENGTH, good ? 1 : 0);
@@ -141,16 +143,16 @@ void register_packets(void)
     }
     lend_fresh(2);
     for (uint16_t i = 0; i < CS_CLIENTS; i++) {
-        for (size_t at = 4; at < 14; at++)
+        for (size_t at = 4; at < RIGHT; at++)
             bytes[at] = (uint8_t)pick(&c, 256);
-        must_be(ask_call(CS_REGISTER_CLIENT, (uint16_t)pick(&c, 65536), bytes, 14), CS_SUCCESS,
+        must_be(ask_call(CS_REGISTER_CLIENT, (uint16_t)pick(&c, 65536), bytes, RIGHT), CS_SUCCESS,
                 (uint16_t)(i + 1));
     }
     must_be(ask_call(CS_DEREGISTER_CLIENT, 3, NULL, 0), CS_SUCCESS, 3);
     must_be(ask_call(CS_REGISTER_CLIENT, 3, NULL, 0), CS_BAD_ARG_LENGTH, 0);
 }
 
-/* "OUT_OF_RESOURCE exactly if 16 are live." */
+/* "OUT_OF_RESOURCE exactly if 16 are live .." */
 void client_limit(void)
 {
     lend_fresh(8);
@@ -170,7 +172,7 @@ void client_limit(void)
 
 /* ---- Handles ---- */
 
-/* "Each issued once in a table's life": clients come and go by chance. */
+/* "each issued once in a table's life": clients come and go by chance. */
 static void no_handle_twice(void)
 {
     struct chance c = {3};
@@ -178,10 +180,12 @@ static void no_handle_twice(void)
     uint16_t last = 0;
     for (unsigned i = 0; i < 600; i++) {
         const struct model *m = lent_facts();
-        if (m->clients == 0 || (m->clients < CS_CLIENTS && one_in(&c, 2)))
+        if (m->clients == 0 || (m->clients < CS_CLIENTS && one_in(&c, 2))) {
             must_be(register_one(), CS_SUCCESS, ++last);
-        else
-            deregister(m->client[pick(&c, m->clients)].handle);
+        } else {
+            uint16_t leaving = m->client[pick(&c, m->clients)].handle;
+            must_be(deregister(leaving), CS_SUCCESS, leaving);
+        }
     }
 }
 
@@ -206,7 +210,7 @@ void handles(void)
     no_handle_twice();
 }
 
-/* "OUT_OF_RESOURCE exactly if 65,535 were issued", with no client live too. */
+/* "OUT_OF_RESOURCE exactly if .. 65,535 were issued", with no client live too. */
 void last_handles(void)
 {
     struct model m;
@@ -220,7 +224,7 @@ void last_handles(void)
     must_be(register_one(), CS_OUT_OF_RESOURCE, 0);
     must_be(deregister(CS_HANDLES), CS_SUCCESS, CS_HANDLES);
     must_be(register_one(), CS_OUT_OF_RESOURCE, 0);
-    must_be(register_with(3, 0), CS_BAD_ATTRIBUTE, 0);
+    must_be(register_with(CS_MEMORY_CLIENT | CS_IO_CLIENT, 0), CS_BAD_ATTRIBUTE, 0);
     must_be(deregister(CS_HANDLES), CS_BAD_HANDLE, 0);
     m.issued = 255;
     lend_set(&m);
@@ -236,7 +240,7 @@ enum holding { AN_IO_GRANT, AN_IRQ_GRANT, A_MASK, NOTHING, HOLDINGS };
 static void hold(struct model *m, enum holding what, uint16_t client, unsigned socket)
 {
     if (what == AN_IO_GRANT)
-        m->io[socket] = (struct io_grant){true, client, 0x300, 8, 16, false};
+        m->io[socket] = (struct io_grant){true, client, 0x300, 8, LINES, false};
     if (what == AN_IRQ_GRANT)
         m->irq[socket] = (struct irq_grant){true, client, 3, EXCLUSIVE};
     if (what == A_MASK)
@@ -267,7 +271,7 @@ void deregister_in_use(void)
 
 /* ---- Host calls ---- */
 
-static void both_card_calls(uint16_t socket, uint32_t code)
+static void both_card_calls(uint32_t socket, uint32_t code)
 {
     must_be(ask_card_in(socket), code, 0);
     must_be(ask_card_in(socket), code, 0);
@@ -279,10 +283,10 @@ static void both_card_calls(uint16_t socket, uint32_t code)
    mask away." */
 void cards(void)
 {
-    static const uint16_t far[] = {9, 15, 16, 127, 128, 255, 256, 257, 263, 32768, 65535};
-    for (unsigned sockets = 1; sockets <= CS_SOCKETS; sockets++) {
-        lend_fresh((uint8_t)sockets);
-        for (uint16_t socket = 0; socket <= CS_SOCKETS; socket++)
+    static const uint32_t far[] = {9, 15, 16, 127, 128, 255, 256, 257, 263, 32768, 65535};
+    for (uint32_t sockets = 1; sockets <= CS_SOCKETS; sockets++) {
+        lend_fresh(sockets);
+        for (uint32_t socket = 0; socket <= CS_SOCKETS; socket++)
             both_card_calls(socket, socket < sockets ? CS_SUCCESS : CS_BAD_SOCKET);
         for (size_t i = 0; i < sizeof far / sizeof *far; i++)
             both_card_calls(far[i], CS_BAD_SOCKET);
@@ -290,15 +294,16 @@ void cards(void)
     struct model m;
     full_set(&m, CS_CLIENTS);
     lend_set(&m);
-    for (uint16_t socket = 0; socket < CS_SOCKETS; socket++)
+    for (uint32_t socket = 0; socket < CS_SOCKETS; socket++)
         must_be(ask_card_out(socket), CS_SUCCESS, 0);
     must_be(ask_sharers(3), CS_SUCCESS, 2);
 }
 
-/* "A level over 15 is BAD_IRQ; else the number of live grants." */
+/* "a level over 15 is BAD_IRQ; a refusal's count is 0; else the number of live
+   grants, never over 8." */
 void sharers_counted(void)
 {
-    static const uint16_t far[] = {16, 17, 31, 32, 255, 256, 259, 32771, 65535};
+    static const uint32_t far[] = {16, 17, 31, 32, 255, 256, 259, 32771, 65535};
     for (uint16_t many = 0; many <= CS_SOCKETS; many++) {
         struct model m;
         uint8_t shared = (uint8_t)(2 * many % CS_LEVELS);
@@ -308,16 +313,51 @@ void sharers_counted(void)
             m.irq[s].level = shared;
         }
         lend_set(&m);
-        for (uint16_t level = 0; level < CS_LEVELS; level++)
+        for (uint32_t level = 0; level < CS_LEVELS; level++)
             must_be(ask_sharers(level), CS_SUCCESS, level == shared ? many : 0);
         for (size_t i = 0; i < sizeof far / sizeof *far; i++)
             must_be(ask_sharers(far[i]), CS_BAD_IRQ, 0);
     }
 }
 
+/* Numbers over every count, socket and level; the low 8, 16 or 24 bits of most
+   are one. */
+static const uint32_t wide[] = {
+    256,        257,        256 + 8,    256 + 15,   65535,      65536,      65537,      65536 + 3,
+    65536 + 15, 0x01000000, 0x01000001, 0x80000001, 0xFFFF0003, 0xFFFFFF01, 0xFFFFFFF8, 0xFFFFFFFF};
+enum { WIDE = sizeof wide / sizeof *wide };
+
+static void no_entry_takes(uint32_t number)
+{
+    must_be(ask_fresh(number), CS_GENERAL_FAILURE, 0);
+    must_be(ask_card_in(number), CS_BAD_SOCKET, 0);
+    must_be(ask_card_out(number), CS_BAD_SOCKET, 0);
+    must_be(ask_sharers(number), CS_BAD_IRQ, 0);
+}
+
+static void no_entry_takes_wide_numbers(void)
+{
+    for (size_t i = 0; i < WIDE; i++)
+        no_entry_takes(wide[i]);
+    for (uint32_t bit = CS_LEVELS; bit != 0; bit <<= 1)
+        for (uint32_t low = 0; low < CS_LEVELS; low++)
+            no_entry_takes(bit | low);
+}
+
+/* Of the fresh table a card in would change a byte, of the full one a card out. */
+void wide_numbers(void)
+{
+    struct model m;
+    lend_fresh(CS_SOCKETS);
+    no_entry_takes_wide_numbers();
+    full_set(&m, CS_CLIENTS);
+    lend_set(&m);
+    no_entry_takes_wide_numbers();
+}
+
 /* ---- Service numbers and broken tables ---- */
 
-/* A packet of 14 bytes, which RegisterClient accepts. */
+/* With a packet that RegisterClient accepts. */
 static void ask_every_service(void)
 {
     static const uint8_t packet[CS_REGISTER_CLIENT_LENGTH] = {CS_IO_CLIENT};
@@ -370,12 +410,15 @@ void broken_before_anything(void)
         must_be(deregister(0), CS_GENERAL_FAILURE, 0);
         must_be(ask_call(0xFFFF, 0, NULL, 0), CS_GENERAL_FAILURE, 0);
         must_be(ask_card_in(0), CS_GENERAL_FAILURE, 0);
-        must_be(ask_card_in(8), CS_GENERAL_FAILURE, 0);
+        must_be(ask_card_in(CS_SOCKETS), CS_GENERAL_FAILURE, 0);
         must_be(ask_card_out(0), CS_GENERAL_FAILURE, 0);
         must_be(ask_card_out(65535), CS_GENERAL_FAILURE, 0);
+        must_be(ask_card_out(65536), CS_GENERAL_FAILURE, 0);
         must_be(ask_sharers(0), CS_GENERAL_FAILURE, 0);
-        must_be(ask_sharers(16), CS_GENERAL_FAILURE, 0);
+        must_be(ask_sharers(CS_LEVELS), CS_GENERAL_FAILURE, 0);
+        must_be(ask_sharers(65536), CS_GENERAL_FAILURE, 0);
         must_be(ask_fresh(0), CS_GENERAL_FAILURE, 0);
+        must_be(ask_fresh(257), CS_GENERAL_FAILURE, 0);
         must_be(ask_fresh(3), CS_SUCCESS, 0);
         must_be(ask_card_in(2), CS_SUCCESS, 0);
     }
@@ -400,18 +443,24 @@ static void ask_request(struct chance *c, bool growing)
     ask_call(r.service, r.handle, r.packet, r.len);
 }
 
+/* Mostly near the limit; else the same with one of the bits 8 to 31. */
+static uint32_t some_number(struct chance *c, uint32_t limit)
+{
+    uint32_t near = pick(c, limit + 2);
+    return one_in(c, 16) ? near | (uint32_t)1 << (8 + pick(c, 24)) : near;
+}
+
 static void random_question(struct chance *c, bool growing)
 {
-    uint16_t near = (uint16_t)pick(c, CS_SOCKETS + 2);
     switch (pick(c, 12)) {
     case 0:
-        ask_card_in(near);
+        ask_card_in(some_number(c, CS_SOCKETS));
         break;
     case 1:
-        ask_card_out(near);
+        ask_card_out(some_number(c, CS_SOCKETS));
         break;
     case 2:
-        ask_sharers((uint16_t)pick(c, CS_LEVELS + 2));
+        ask_sharers(some_number(c, CS_LEVELS));
         break;
     default:
         ask_request(c, growing);
@@ -433,9 +482,9 @@ void runs_from_fresh(void)
 {
     for (uint64_t seed = 1; seed <= 30; seed++) {
         struct chance c = {seed};
-        lend_fresh((uint8_t)(1 + seed % CS_SOCKETS));
+        lend_fresh((uint32_t)(1 + seed % CS_SOCKETS));
         run_on(&c, 400);
-        ask_fresh((uint8_t)pick(&c, CS_SOCKETS + 2));
+        ask_fresh(some_number(&c, CS_SOCKETS));
     }
     saw_enough(CS_SUCCESS, 2000);
     saw_enough(CS_BAD_ATTRIBUTE, 100);

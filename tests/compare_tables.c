@@ -56,7 +56,7 @@ static void limits_by_hand(void)
     for (unsigned sockets = 0; sockets <= 255; sockets += sockets < 10 ? 1 : 49) {
         model_fresh(&m, 1);
         m.sockets = sockets;
-        set_is(&m, sockets >= 1 && sockets <= 8);
+        set_is(&m, sockets >= 1 && sockets <= CS_SOCKETS);
     }
     full_set(&m, CS_CLIENTS);
     set_is(&m, true);
@@ -247,7 +247,7 @@ void random_sets(void)
     for (unsigned i = 0; i < 500; i++) {
         random_set(&c, &m);
         set_is(&m, true);
-        ask_sharers((uint16_t)pick(&c, CS_LEVELS));
+        ask_sharers(pick(&c, CS_LEVELS));
     }
 }
 
@@ -293,12 +293,12 @@ void meeting_grants(void)
     must_hold("some were refused", answered(CS_GENERAL_FAILURE) >= 500);
 }
 
-/* "Only equal ones, and never exclusive", on each level and pair of sockets. */
+/* "only equal ones, and never exclusive", on each level and pair of sockets. */
 void manners_on_a_level(void)
 {
     struct model m;
     for (unsigned pair = 0; pair < MANNERS * MANNERS; pair++)
-        for (unsigned s = 1; s < CS_SOCKETS; s++) {
+        for (uint32_t s = 1; s < CS_SOCKETS; s++) {
             uint8_t a = (uint8_t)(pair / MANNERS), b = (uint8_t)(pair % MANNERS);
             full_set(&m, CS_CLIENTS);
             memset(m.irq, 0, sizeof m.irq);
@@ -306,7 +306,7 @@ void manners_on_a_level(void)
             m.irq[s] = (struct irq_grant){true, 2, (uint8_t)(2 * s), b};
             bool together = a == b && a != EXCLUSIVE;
             set_is(&m, together);
-            must_be(ask_sharers((uint16_t)(2 * s)), together ? CS_SUCCESS : CS_GENERAL_FAILURE,
+            must_be(ask_sharers(2 * s), together ? CS_SUCCESS : CS_GENERAL_FAILURE,
                     together ? 2 : 0);
             m.irq[s].level ^= 1;
             set_is(&m, true);

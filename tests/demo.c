@@ -23,7 +23,7 @@ static void tell(const char *call, uint32_t answer)
 
 static uint32_t register_client(uint8_t attributes)
 {
-    uint8_t packet[CS_REGISTER_CLIENT_LENGTH] = {attributes, 0, 0x80, 0};
+    uint8_t packet[CS_REGISTER_CLIENT_LENGTH] = {attributes, 0, CS_EVENT_CARD_DETECT_CHANGE, 0};
     return cs_call(table, sizeof table, CS_REGISTER_CLIENT, 0, packet, sizeof packet);
 }
 

@@ -5,6 +5,7 @@ static uint8_t table[CS_TABLE_SIZE];
 int main(void)
 {
     uint8_t packet[CS_REGISTER_CLIENT_LENGTH] = {0};
+    uint16_t events = CS_EVENT_CARD_DETECT_CHANGE | CS_EVENT_RESET;
     uint32_t answer;
     uint16_t client;
 
@@ -14,7 +15,8 @@ int main(void)
         return 1;
 
     packet[0] = CS_IO_CLIENT;
-    packet[2] = 0x80; // events: Card Detect Change
+    packet[2] = (uint8_t)events;
+    packet[3] = (uint8_t)(events >> 8);
     answer = cs_call(table, sizeof table, CS_REGISTER_CLIENT, 0,
                      packet, sizeof packet);
     if (CS_CODE(answer) != CS_SUCCESS)

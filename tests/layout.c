@@ -69,7 +69,7 @@ static void put_range(uint8_t *at, const struct range *r)
     at[RANGE_RESERVED] = r->reserved;
 }
 
-/* "In order of handle": how many clients come before this one. */
+/* LAYOUT.md's "clients in order of handle": how many come before this one. */
 static unsigned client_place(const struct model *m, unsigned i)
 {
     unsigned place = 0;
@@ -79,7 +79,7 @@ static unsigned client_place(const struct model *m, unsigned i)
     return place;
 }
 
-/* "In order of base": how many ranges come before this one. */
+/* LAYOUT.md's "ranges in order of base": how many come before this one. */
 static unsigned range_place(const struct model *m, unsigned i)
 {
     unsigned place = 0;

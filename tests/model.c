@@ -52,7 +52,7 @@ static bool attributes_allowed(uint16_t attributes)
 /* "Event mask bits 12 to 15 set: BAD_ATTRIBUTE." */
 static bool events_allowed(uint16_t events)
 {
-    return events >> 12 == 0;
+    return events < EVENT_MASKS;
 }
 
 static uint32_t register_client(struct model *m, struct call *call)
@@ -70,7 +70,7 @@ static uint32_t register_client(struct model *m, struct call *call)
     return CS_SUCCESS;
 }
 
-/* "While the client holds an I/O grant, an IRQ grant or a socket mask." */
+/* "while the client holds an I/O grant, an IRQ grant or a socket mask." */
 static bool holds_something(const struct model *m, const struct client *client)
 {
     for (unsigned s = 0; s < CS_SOCKETS; s++) {
@@ -147,8 +147,8 @@ static bool lines_allowed(unsigned lines)
     return lines >= 1 && lines <= LINES;
 }
 
-/* "It meets a live grant, and First Shared is set or the two don't both share."
-   A candidate for base 0 has to be alone as with First Shared. */
+/* "It meets a live grant, and First Shared is set or the two don't both share:
+   IN_USE." A candidate for base 0 has to be alone as with First Shared. */
 static bool in_the_way(const struct model *m, const struct io_grant *wish, bool alone)
 {
     for (unsigned s = 0; s < CS_SOCKETS; s++) {
@@ -159,9 +159,10 @@ static bool in_the_way(const struct model *m, const struct io_grant *wish, bool 
     return false;
 }
 
-/* "Candidates are the positive multiples of the smallest power of two not
-   below the count, all ports managed, none past FFFF, meeting no live grant.
-   Candidates wholly in unreserved ranges come first, then the lowest." */
+/* "Base 0: candidates are the positive multiples of the smallest power of two
+   not below the count, all ports managed, none past FFFF, meeting no live grant.
+   Candidates wholly in unreserved ranges come first, then the lowest; none:
+   IN_USE." The answer is then 0. */
 static uint32_t choose_base(const struct model *m, struct io_grant *wish)
 {
     uint32_t step = 1, lowest_reserved = 0;
@@ -186,8 +187,8 @@ static uint32_t choose_base(const struct model *m, struct io_grant *wish)
 enum { IO_BASE = 2, IO_PORTS = 4, IO_ATTRIBUTES = 5, IO_PORTS_2 = 8, IO_LINES = 10 };
 enum { IO_SHARED = 1, IO_FIRST_SHARED = 2, IO_LISTED = 0x0F };
 
-/* "Attribute bits outside section 5.52's list, First Shared without Shared, or
-   lines outside 1 to 16." */
+/* "attribute bits outside section 5.52's list, First Shared without Shared, or
+   lines outside 1 to 16, BAD_ATTRIBUTE" */
 static bool io_attributes_allowed(uint8_t attributes, uint8_t lines)
 {
     if ((attributes & ~IO_LISTED) != 0)
@@ -266,7 +267,7 @@ enum {
 };
 enum { TYPE_EXCLUSIVE, TYPE_TIME_MULTIPLEXED, TYPE_DYNAMIC, TYPE_RESERVED };
 
-/* "Only equal ones, and never exclusive." */
+/* "only equal ones, and never exclusive." */
 bool go_together(uint8_t a, uint8_t b)
 {
     return a == b && a != EXCLUSIVE;
@@ -321,14 +322,14 @@ static unsigned levels_named(unsigned info_1, unsigned info_2)
     return (info_1 & INFO_MASK) != 0 ? info_2 : 1u << (info_1 & INFO_LEVEL_NUMBER);
 }
 
-static bool holds_level(const struct irq_grant *g, unsigned level)
+static bool holds_level(const struct irq_grant *g, uint32_t level)
 {
     return g->live && g->level == level;
 }
 
-static unsigned sharers(const struct model *m, unsigned level)
+static uint32_t sharers(const struct model *m, uint32_t level)
 {
-    unsigned count = 0;
+    uint32_t count = 0;
     for (unsigned s = 0; s < CS_SOCKETS; s++)
         count += holds_level(&m->irq[s], level);
     return count;
@@ -425,7 +426,7 @@ static uint32_t request_socket_mask(struct model *m, struct call *call)
     return CS_SUCCESS;
 }
 
-/* "Nothing held: BAD_SOCKET." */
+/* "nothing held: BAD_SOCKET." */
 static uint32_t release_socket_mask(struct model *m, struct call *call)
 {
     struct mask *mask = asked_mask(m, call);
@@ -437,9 +438,8 @@ static uint32_t release_socket_mask(struct model *m, struct call *call)
 
 /* ---- Managed resources ---- */
 
-enum action { REMOVE, ADD, FIRST, NEXT, ACTIONS };
-enum { RESOURCE_IO = 1, RESOURCE_IRQ = 2, RESOURCES = 5 };
-enum { RESERVE = 0x40, ALLOCATED = 0x80, SHARED = 0x01 };
+/* Attribute bits that First and Next show. */
+enum { ALLOCATED = 0x80, SHARED = 0x01 };
 
 /* "Resource 0, 3, 4: UNSUPPORTED_SERVICE; over 4: BAD_ARGS." */
 static uint32_t resource_code(unsigned resource)
@@ -449,7 +449,7 @@ static uint32_t resource_code(unsigned resource)
     return resource < RESOURCES ? CS_UNSUPPORTED_SERVICE : CS_BAD_ARGS;
 }
 
-/* "Add (1) allows only bit 6, reserve; Remove (0) no bit." */
+/* "Add (1) allows only bit 6, reserve; Remove (0) no bit" */
 static bool adjust_attributes_allowed(unsigned action, unsigned attributes)
 {
     return (attributes & ~(action == ADD ? RESERVE : 0u)) == 0;
@@ -485,8 +485,8 @@ struct io_fields {
     unsigned attributes, lines;
 };
 
-/* "Both need lines of 16 for I/O; else BAD_ATTRIBUTE. I/O then: ports 0 or over
-   65,536 BAD_SIZE; a port past FFFF BAD_BASE." */
+/* "both need lines of 16 for I/O; else BAD_ATTRIBUTE. .. I/O then: ports 0 or
+   over 65,536 BAD_SIZE; a port past FFFF BAD_BASE." */
 static uint32_t io_fields_code(unsigned action, const struct io_fields *f)
 {
     if (!adjust_attributes_allowed(action, f->attributes) || f->lines != LINES)
@@ -547,15 +547,15 @@ static uint32_t remove_range(struct model *m, const struct io_fields *f)
     return CS_SUCCESS;
 }
 
-/* "The handle answered is then the lowest of the holders' handles, else 0." */
+/* "the handle answered is then the lowest of the holders' handles, else 0." */
 static void note_holder(uint16_t *lowest, uint16_t holder)
 {
     if (*lowest == 0 || holder < *lowest)
         *lowest = holder;
 }
 
-/* "Bit 7 is set exactly if a live grant holds the level. Bits 0 to 1 are the
-   holders' type, or 0. Other bits are 0." */
+/* "Bit 7 is set exactly if a live grant holds the level .. For IRQ, bits 0 to 1
+   are the holders' type, or 0. Other bits are 0." */
 static uint8_t level_attributes(const struct model *m, unsigned level, uint16_t *holder)
 {
     unsigned attributes = 0;
@@ -569,8 +569,9 @@ static uint8_t level_attributes(const struct model *m, unsigned level, uint16_t 
     return (uint8_t)attributes;
 }
 
-/* "Bit 7 is set exactly if a live grant holds a port of the range. Bit 0 is set
-   if there are holders and all of them share. Other bits are 0." */
+/* "Bit 7 is set exactly if a live grant holds .. a port of the range .. For I/O,
+   bit 0 is set if there are holders and all of them share. .. Other bits are
+   0." */
 static uint8_t range_attributes(const struct model *m, const struct range *r, uint16_t *holder)
 {
     bool all_share = true;
@@ -586,7 +587,8 @@ static uint8_t range_attributes(const struct model *m, const struct range *r, ui
     return all_share ? ALLOCATED | SHARED : ALLOCATED;
 }
 
-/* "First (2) gives the lowest level; Next (3) the lowest above the packet's." */
+/* "First (2) gives the lowest base or level; Next (3) the lowest above the
+   packet's; none: NO_MORE_ITEMS." */
 static uint32_t show_level(const struct model *m, struct call *call)
 {
     uint8_t *packet = call->packet;
@@ -612,16 +614,17 @@ static uint32_t adjust_level(struct model *m, struct call *call)
     }
 }
 
-/* "Short: base 2 bytes at 2, ports 1 at 4, attributes at 5, lines at 6. Long:
-   base 4 at 2, ports 4 at 6, attributes at 10, lines at 11." */
+/* "I/O fields, short: base 2 bytes at 2, ports 1 at 4, attributes at 5, lines at
+   6. Long: base 4 at 2, ports 4 at 6, attributes at 10, lines at 11." */
 struct form {
     size_t length, base_size, ports_at, ports_size, attributes_at, lines_at;
     uint32_t most_ports;
 };
-static const struct form short_form = {7, 2, 4, 1, 5, 6, 255};
-static const struct form long_form = {12, 4, 6, 4, 10, 11, PORTS};
+static const struct form short_form = {CS_ADJUST_IO_SHORT_LENGTH, 2, 4, 1, 5, 6, 255};
+static const struct form long_form = {CS_ADJUST_IO_LONG_LENGTH, 4, 6, 4, 10, 11, PORTS};
 
-/* "First (2) gives the lowest base; Next (3) the lowest above the packet's." */
+/* "First (2) gives the lowest base or level; Next (3) the lowest above the
+   packet's" */
 static const struct range *lowest_range(const struct model *m, unsigned action, uint32_t base)
 {
     const struct range *lowest = NULL;
@@ -668,7 +671,7 @@ static uint32_t adjust_range(struct model *m, struct call *call, const struct fo
     }
 }
 
-/* "Length under 2: BAD_ARG_LENGTH. Then Action over 3: BAD_ARGS. Then the
+/* "Length under 2: BAD_ARG_LENGTH. Then Action over 3: BAD_ARGS. .. Then the
    length: IRQ 4; I/O 7 or 12." */
 static uint32_t adjust_resource_info(struct model *m, struct call *call)
 {
@@ -682,7 +685,7 @@ static uint32_t adjust_resource_info(struct model *m, struct call *call)
     if (code != CS_SUCCESS)
         return code;
     if (packet[1] == RESOURCE_IRQ)
-        return len == 4 ? adjust_level(m, call) : CS_BAD_ARG_LENGTH;
+        return len == CS_ADJUST_IRQ_LENGTH ? adjust_level(m, call) : CS_BAD_ARG_LENGTH;
     if (len == short_form.length)
         return adjust_range(m, call, &short_form);
     if (len == long_form.length)
@@ -690,7 +693,7 @@ static uint32_t adjust_resource_info(struct model *m, struct call *call)
     return CS_BAD_ARG_LENGTH;
 }
 
-/* "It gets the code that Add's rules give those values, I/O in the long form
+/* "it gets the code that Add's rules give those values, I/O in the long form
    with lines 16, IRQ without the count." */
 static uint32_t boot_record(struct model *m, const uint8_t *record)
 {
@@ -730,15 +733,16 @@ static const struct service services[] = {
     {CS_REGISTER_CLIENT, LENGTH, CS_REGISTER_CLIENT_LENGTH, register_client},
     {CS_DEREGISTER_CLIENT, HANDLE, CS_DEREGISTER_CLIENT_LENGTH, deregister_client},
     {CS_ADJUST_RESOURCE_INFO, NONE, 0, adjust_resource_info},
-    {CS_REQUEST_IRQ, CARD, 8, request_irq},
-    {CS_RELEASE_IRQ, SOCKET, 5, release_irq},
-    {CS_REQUEST_IO, CARD, 11, request_io},
-    {CS_RELEASE_IO, SOCKET, 11, release_io},
-    {CS_REQUEST_SOCKET_MASK, CARD, 4, request_socket_mask},
-    {CS_RELEASE_SOCKET_MASK, SOCKET, 2, release_socket_mask},
+    {CS_REQUEST_IRQ, CARD, CS_REQUEST_IRQ_LENGTH, request_irq},
+    {CS_RELEASE_IRQ, SOCKET, CS_RELEASE_IRQ_LENGTH, release_irq},
+    {CS_REQUEST_IO, CARD, CS_REQUEST_IO_LENGTH, request_io},
+    {CS_RELEASE_IO, SOCKET, CS_RELEASE_IO_LENGTH, release_io},
+    {CS_REQUEST_SOCKET_MASK, CARD, CS_REQUEST_SOCKET_MASK_LENGTH, request_socket_mask},
+    {CS_RELEASE_SOCKET_MASK, SOCKET, CS_RELEASE_SOCKET_MASK_LENGTH, release_socket_mask},
 };
 
-/* "Table, service, length, handle, socket, card." */
+/* "table, service, length, handle, socket, card", of which the first two are
+   behind. */
 static uint32_t shared_checks(const struct model *m, const struct service *service,
                               const struct call *call)
 {
@@ -762,8 +766,8 @@ static const struct service *find_service(uint16_t number)
     return NULL;
 }
 
-/* "The handle answered is the one given, save where a rule says otherwise; a
-   refusal answers 0." */
+/* "The handle answered is the one given, save where a rule below says otherwise;
+   a refusal answers 0." */
 uint32_t model_call(struct model *m, uint16_t service, uint16_t handle, uint8_t *packet,
                     size_t packet_len)
 {
@@ -779,8 +783,8 @@ uint32_t model_call(struct model *m, uint16_t service, uint16_t handle, uint8_t 
 
 /* ---- Host calls ---- */
 
-/* "Fresh: a count of 1 to 8. Nothing is managed, no card in, none issued." */
-uint32_t model_fresh(struct model *m, uint8_t sockets)
+/* "Fresh: a count of 1 to 8 .. Nothing is managed, no card in, none issued." */
+uint32_t model_fresh(struct model *m, uint32_t sockets)
 {
     if (sockets < 1 || sockets > CS_SOCKETS)
         return CS_GENERAL_FAILURE;
@@ -790,7 +794,7 @@ uint32_t model_fresh(struct model *m, uint8_t sockets)
 }
 
 /* "Card in and out: BAD_SOCKET or done, also when nothing changes." */
-static uint32_t set_card(struct model *m, uint16_t socket, bool card)
+static uint32_t set_card(struct model *m, uint32_t socket, bool card)
 {
     if (socket >= m->sockets)
         return CS_BAD_SOCKET;
@@ -798,34 +802,34 @@ static uint32_t set_card(struct model *m, uint16_t socket, bool card)
     return CS_SUCCESS;
 }
 
-uint32_t model_card_in(struct model *m, uint16_t socket)
+uint32_t model_card_in(struct model *m, uint32_t socket)
 {
     return set_card(m, socket, true);
 }
 
-uint32_t model_card_out(struct model *m, uint16_t socket)
+uint32_t model_card_out(struct model *m, uint32_t socket)
 {
     return set_card(m, socket, false);
 }
 
-/* "A level over 15 is BAD_IRQ; a refusal's count is 0; else the number of live
-   grants." */
-uint32_t model_sharers(const struct model *m, uint16_t level)
+/* "a level over 15 is BAD_IRQ; a refusal's count is 0; else the number of live
+   grants, never over 8." */
+uint32_t model_sharers(const struct model *m, uint32_t level)
 {
-    return level >= CS_LEVELS ? CS_BAD_IRQ : (uint32_t)sharers(m, level) << 16;
+    return level >= CS_LEVELS ? CS_BAD_IRQ : sharers(m, level) << 16;
 }
 
 /* ---- Well-formed sets ---- */
 
-/* "Socket count 1 to 8; up to 16 live clients; handles issued so far, up to
-   65,535; up to 32 managed I/O ranges." */
+/* "socket count 1 to 8; .. up to 16 live clients .. handles issued so far, up to
+   65,535; .. up to 32 managed I/O ranges" */
 static bool keeps_limits(const struct model *m)
 {
     return m->sockets >= 1 && m->sockets <= CS_SOCKETS && m->clients <= CS_CLIENTS &&
            m->issued <= CS_HANDLES && m->ranges <= RANGES;
 }
 
-/* "A card present or not in each": only a socket below the count has a card. */
+/* "a card present or not in each": only a socket below the count has a card. */
 static bool cards_good(const struct model *m)
 {
     for (unsigned s = m->sockets; s < CS_SOCKETS; s++)
@@ -834,7 +838,8 @@ static bool cards_good(const struct model *m)
     return true;
 }
 
-/* "Every mask has a socket below the count"; "masks are ones a request accepts". */
+/* "every grant and mask has .. a socket below the count"; "masks are ones a
+   request accepts". */
 static bool masks_good(const struct model *m, const struct client *client)
 {
     for (unsigned s = 0; s < CS_SOCKETS; s++)
@@ -851,8 +856,8 @@ static bool handle_repeated(const struct model *m, unsigned i)
     return false;
 }
 
-/* "Live handles differ, aren't 0 and aren't over the number issued; attributes
-   and masks are ones a request accepts." */
+/* "live handles differ, aren't 0 and aren't over the number issued; .. attributes
+   and masks are ones a request accepts" */
 static bool clients_good(const struct model *m)
 {
     for (unsigned i = 0; i < m->clients; i++) {
@@ -867,7 +872,7 @@ static bool clients_good(const struct model *m)
     return true;
 }
 
-/* "An unmanaged level isn't reserved." */
+/* "an unmanaged level isn't reserved" */
 static bool levels_good(const struct model *m)
 {
     for (unsigned level = 0; level < CS_LEVELS; level++)
@@ -876,7 +881,7 @@ static bool levels_good(const struct model *m)
     return true;
 }
 
-/* "Ranges have a port and don't overlap or pass FFFF." */
+/* "ranges have a port and don't overlap or pass FFFF" */
 static bool ranges_good(const struct model *m)
 {
     for (unsigned i = 0; i < m->ranges; i++) {
@@ -890,9 +895,9 @@ static bool ranges_good(const struct model *m)
     return true;
 }
 
-/* "Every grant has a live client and a socket below the count; granted ports
-   are managed; an I/O grant has base 1 or more, lines 1 to 16 and a count
-   RequestIO allows." */
+/* "every grant and mask has a live client and a socket below the count; granted
+   levels and ports are managed; an I/O grant has base 1 or more, lines 1 to 16
+   and a count RequestIO allows" */
 static bool io_grant_good(const struct model *m, unsigned socket)
 {
     const struct io_grant *g = &m->io[socket];
@@ -901,7 +906,7 @@ static bool io_grant_good(const struct model *m, unsigned socket)
            ports_managed(m, g->base, g->count, false);
 }
 
-/* "Grants meet only as demand 3 allows": both share. */
+/* "grants meet only as demand 3 allows": both share. */
 static bool io_grants_good(const struct model *m)
 {
     for (unsigned s = 0; s < CS_SOCKETS; s++) {
@@ -917,8 +922,8 @@ static bool io_grants_good(const struct model *m)
     return true;
 }
 
-/* "Every grant has a live client and a socket below the count; granted levels
-   are managed." */
+/* "every grant and mask has a live client and a socket below the count; granted
+   levels and ports are managed" */
 static bool irq_grant_good(const struct model *m, unsigned socket)
 {
     const struct irq_grant *g = &m->irq[socket];
@@ -926,7 +931,7 @@ static bool irq_grant_good(const struct model *m, unsigned socket)
            m->level[g->level].managed && g->manner < MANNERS;
 }
 
-/* "Grants meet only as demand 3 allows": on one level in one sharing manner. */
+/* "grants meet only as demand 3 allows": on one level in one sharing manner. */
 static bool irq_grants_good(const struct model *m)
 {
     for (unsigned s = 0; s < CS_SOCKETS; s++) {

@@ -16,17 +16,34 @@
 
 /* The services of document 01 that card_services.h does not have yet. */
 #define CS_ADJUST_RESOURCE_INFO 0x35
+#define CS_ADJUST_IRQ_LENGTH 4
+#define CS_ADJUST_IO_SHORT_LENGTH 7
+#define CS_ADJUST_IO_LONG_LENGTH 12
 #define CS_REQUEST_IRQ 0x20
+#define CS_REQUEST_IRQ_LENGTH 8
 #define CS_RELEASE_IRQ 0x1C
+#define CS_RELEASE_IRQ_LENGTH 5
 #define CS_REQUEST_IO 0x1F
+#define CS_REQUEST_IO_LENGTH 11
 #define CS_RELEASE_IO 0x1B
+#define CS_RELEASE_IO_LENGTH 11
 #define CS_REQUEST_SOCKET_MASK 0x22
+#define CS_REQUEST_SOCKET_MASK_LENGTH 4
 #define CS_RELEASE_SOCKET_MASK 0x2F
+#define CS_RELEASE_SOCKET_MASK_LENGTH 2
 
-/* "Up to 32 managed I/O ranges", ports 0 to FFFF, lines 1 to 16. */
+/* AdjustResourceInfo's actions, resources and reserve bit. */
+enum action { REMOVE, ADD, FIRST, NEXT, ACTIONS };
+enum resource { RESOURCE_IO = 1, RESOURCE_IRQ = 2, RESOURCES = 5 };
+#define RESERVE 0x40
+
+/* "up to 32 managed I/O ranges", ports 0 to FFFF, lines 1 to 16. */
 #define RANGES 32
 #define PORTS 65536
 #define LINES 16
+
+/* Event masks are below this: bits 12 to 15 are refused. */
+#define EVENT_MASKS 0x1000
 
 /* "Four manners: exclusive, time-multiplexed, dynamic level, dynamic pulse." */
 enum manner { EXCLUSIVE, TIME_MULTIPLEXED, DYNAMIC_LEVEL, DYNAMIC_PULSE, MANNERS };
@@ -90,10 +107,10 @@ bool go_together(uint8_t a, uint8_t b);
 bool well_formed(const struct model *m);
 
 /* The entries, over a well-formed set; packed as in card_services.h. */
-uint32_t model_fresh(struct model *m, uint8_t sockets);
-uint32_t model_card_in(struct model *m, uint16_t socket);
-uint32_t model_card_out(struct model *m, uint16_t socket);
-uint32_t model_sharers(const struct model *m, uint16_t level);
+uint32_t model_fresh(struct model *m, uint32_t sockets);
+uint32_t model_card_in(struct model *m, uint32_t socket);
+uint32_t model_card_out(struct model *m, uint32_t socket);
+uint32_t model_sharers(const struct model *m, uint32_t level);
 uint32_t model_call(struct model *m, uint16_t service, uint16_t handle, uint8_t *packet,
                     size_t packet_len);
 

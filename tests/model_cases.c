@@ -30,44 +30,105 @@ static void expect_code(const char *what, uint32_t answer, uint32_t code)
     }
 }
 
-/* ---- Short ways to ask ---- */
+/* ---- The header's numbers ---- */
 
-enum { RESERVE = 0x40 };
+/* Document 01's table of codes. */
+static void codes(void)
+{
+    static const struct {
+        uint32_t code;
+        const char *name;
+    } table[] = {
+        {0x00, "SUCCESS"},         {0x02, "BAD_ATTRIBUTE"},
+        {0x03, "BAD_BASE"},        {0x06, "BAD_IRQ"},
+        {0x0A, "BAD_SIZE"},        {0x0B, "BAD_SOCKET"},
+        {0x14, "NO_CARD"},         {0x15, "UNSUPPORTED_SERVICE"},
+        {0x19, "GENERAL_FAILURE"}, {0x1B, "BAD_ARG_LENGTH"},
+        {0x1C, "BAD_ARGS"},        {0x1E, "IN_USE"},
+        {0x1F, "NO_MORE_ITEMS"},   {0x20, "OUT_OF_RESOURCE"},
+        {0x21, "BAD_HANDLE"},
+    };
+    for (size_t i = 0; i < sizeof table / sizeof *table; i++)
+        expect(table[i].name, strcmp(code_name(table[i].code), table[i].name) == 0);
+}
+
+static const uint16_t services[] = {
+    CS_REGISTER_CLIENT, CS_DEREGISTER_CLIENT,   CS_ADJUST_RESOURCE_INFO,
+    CS_REQUEST_IRQ,     CS_RELEASE_IRQ,         CS_REQUEST_IO,
+    CS_RELEASE_IO,      CS_REQUEST_SOCKET_MASK, CS_RELEASE_SOCKET_MASK};
+enum { SERVICES = sizeof services / sizeof *services };
+
+/* Document 01's numbers, in its order. */
+static void service_numbers(void)
+{
+    static const uint16_t numbers[SERVICES] = {0x10, 0x02, 0x35, 0x20, 0x1C,
+                                               0x1F, 0x1B, 0x22, 0x2F};
+    for (unsigned i = 0; i < SERVICES; i++)
+        expect("a service's number", services[i] == numbers[i]);
+}
+
+/* 5.37's, from bit 0 on. */
+static void event_bits(void)
+{
+    static const uint16_t events[] = {CS_EVENT_WRITE_PROTECT_CHANGE,
+                                      CS_EVENT_CARD_LOCK_CHANGE,
+                                      CS_EVENT_EJECTION_REQUEST,
+                                      CS_EVENT_INSERTION_REQUEST,
+                                      CS_EVENT_BATTERY_DEAD,
+                                      CS_EVENT_BATTERY_LOW,
+                                      CS_EVENT_READY_CHANGE,
+                                      CS_EVENT_CARD_DETECT_CHANGE,
+                                      CS_EVENT_POWER_MANAGEMENT_CHANGE,
+                                      CS_EVENT_RESET,
+                                      CS_EVENT_SOCKET_SERVICES_UPDATED,
+                                      CS_EVENT_EXTENDED_STATUS_CHANGE};
+    for (unsigned bit = 0; bit < sizeof events / sizeof *events; bit++)
+        expect("an event's bit", events[bit] == 1u << bit);
+}
+
+/* ---- Short ways to ask ---- */
 
 static uint32_t adjust(struct model *m, const uint8_t *packet, size_t len)
 {
-    uint8_t copy[12] = {0};
+    uint8_t copy[CS_ADJUST_IO_LONG_LENGTH] = {0};
     memcpy(copy, packet, len);
     return model_call(m, CS_ADJUST_RESOURCE_INFO, 0, copy, len);
 }
 
 static uint32_t add_irq(struct model *m, uint8_t level, uint8_t attributes)
 {
-    return adjust(m, (uint8_t[]){1, 2, attributes, level}, 4);
+    return adjust(m, (uint8_t[]){ADD, RESOURCE_IRQ, attributes, level}, CS_ADJUST_IRQ_LENGTH);
 }
 
-/* Action 0 or 1 over an I/O range, in the short and in the long form. */
+static uint32_t remove_irq(struct model *m, uint8_t level)
+{
+    return adjust(m, (uint8_t[]){REMOVE, RESOURCE_IRQ, 0, level}, CS_ADJUST_IRQ_LENGTH);
+}
+
+/* Add or Remove of an I/O range, in the short and in the long form. */
 static uint32_t short_io(struct model *m, uint8_t action, uint16_t base, uint8_t ports,
                          uint8_t attributes)
 {
-    return adjust(
-        m, (uint8_t[]){action, 1, (uint8_t)base, (uint8_t)(base >> 8), ports, attributes, 16}, 7);
+    return adjust(m,
+                  (uint8_t[]){action, RESOURCE_IO, (uint8_t)base, (uint8_t)(base >> 8), ports,
+                              attributes, LINES},
+                  CS_ADJUST_IO_SHORT_LENGTH);
 }
 
 static uint32_t long_io(struct model *m, uint8_t action, uint32_t base, uint32_t ports)
 {
-    uint8_t packet[12] = {action, 1};
+    uint8_t packet[CS_ADJUST_IO_LONG_LENGTH] = {action, RESOURCE_IO};
     for (unsigned i = 0; i < 4; i++) {
         packet[2 + i] = (uint8_t)(base >> 8 * i);
         packet[6 + i] = (uint8_t)(ports >> 8 * i);
     }
-    packet[11] = 16;
+    packet[11] = LINES;
     return adjust(m, packet, sizeof packet);
 }
 
 static uint32_t add_io(struct model *m, uint16_t base, uint8_t ports)
 {
-    return short_io(m, 1, base, ports, 0);
+    return short_io(m, ADD, base, ports, 0);
 }
 
 static uint32_t register_io_client(struct model *m)
@@ -136,18 +197,34 @@ static uint32_t release_io(struct model *m, uint8_t socket, uint16_t handle, uin
 static void ready(struct model *m)
 {
     model_fresh(m, CS_SOCKETS);
-    for (uint16_t s = 0; s < CS_SOCKETS; s++)
+    for (uint32_t s = 0; s < CS_SOCKETS; s++)
         model_card_in(m, s);
     register_io_client(m);
     register_io_client(m);
 }
 
-/* "Levels 3 and 5 managed, 5 reserved." */
+/* N6: "levels 3 and 5 managed, 5 reserved". */
 static void ready_n6(struct model *m)
 {
     ready(m);
     add_irq(m, 3, 0);
     add_irq(m, 5, RESERVE);
+}
+
+/* Host numbers are looked at whole. */
+static void host_numbers(void)
+{
+    static const uint32_t wide[] = {256, 257, 65536, 65537, 0x01000001, 0x80000001, 0xFFFFFFFF};
+    struct model m;
+    ready(&m);
+    for (size_t i = 0; i < sizeof wide / sizeof *wide; i++) {
+        expect_code("a wide count", model_fresh(&m, wide[i]), CS_GENERAL_FAILURE);
+        expect_code("card in at a wide socket", model_card_in(&m, wide[i]), CS_BAD_SOCKET);
+        expect_code("card out at a wide socket", model_card_out(&m, wide[i]), CS_BAD_SOCKET);
+        expect_code("a wide level", model_sharers(&m, wide[i]), CS_BAD_IRQ);
+    }
+    for (uint32_t s = 0; s < CS_SOCKETS; s++)
+        expect("the cards stay", m.card[s]);
 }
 
 /* ---- N1 to N12 ---- */
@@ -268,13 +345,16 @@ static bool meet_by_letter(const struct io_grant *a, const struct io_grant *b)
 static void meeting(void)
 {
     struct chance c = {1};
-    for (unsigned i = 0; i < 3000; i++) {
+    unsigned met = 0, tried = 3000;
+    for (unsigned i = 0; i < tried; i++) {
         struct io_grant a = ports((uint16_t)pick(&c, PORTS), (uint8_t)(1 + pick(&c, 20)),
                                   (uint8_t)(1 + pick(&c, LINES)));
         struct io_grant b = ports((uint16_t)(a.base + (1u << a.lines) + pick(&c, 64) - 32),
                                   (uint8_t)(1 + pick(&c, 20)), (uint8_t)(1 + pick(&c, LINES)));
         expect("meeting by its letter", meet(&a, &b) == meet_by_letter(&a, &b));
+        met += meet_by_letter(&a, &b);
     }
+    expect("some met, some didn't", met >= tried / 10 && met <= tried - tried / 10);
 }
 
 static void manners(void)
@@ -359,11 +439,11 @@ static void irq_release(void)
     expect_code("level before type", release_irq(&m, 0, 1, 1, 5), CS_BAD_IRQ);
     expect_code("no client 3", release_irq(&m, 9, 3, 2, 3), CS_BAD_HANDLE);
     expect_code("no socket 9", release_irq(&m, 9, 1, 2, 3), CS_BAD_SOCKET);
-    expect_code("remove a held level", adjust(&m, (uint8_t[]){0, 2, 0, 3}, 4), CS_IN_USE);
+    expect_code("remove a held level", remove_irq(&m, 3), CS_IN_USE);
     expect_code("deregister a holder", deregister(&m, 1), CS_IN_USE);
     expect_code("released without a card", release_irq(&m, 0, 1, 2, 3), CS_SUCCESS);
-    expect_code("remove it then", adjust(&m, (uint8_t[]){0, 2, 0, 3}, 4), CS_SUCCESS);
-    expect_code("remove it again", adjust(&m, (uint8_t[]){0, 2, 0, 3}, 4), CS_BAD_IRQ);
+    expect_code("remove it then", remove_irq(&m, 3), CS_SUCCESS);
+    expect_code("remove it again", remove_irq(&m, 3), CS_BAD_IRQ);
 }
 
 static void request_io_codes(void)
@@ -427,9 +507,9 @@ static void io_choice(void)
     struct model m;
     uint16_t given;
     ready(&m);
-    short_io(&m, 1, 0x200, 16, RESERVE);
-    short_io(&m, 1, 0x300, 4, 0);
-    short_io(&m, 1, 0x304, 4, RESERVE);
+    short_io(&m, ADD, 0x200, 16, RESERVE);
+    short_io(&m, ADD, 0x300, 4, 0);
+    short_io(&m, ADD, 0x304, 4, RESERVE);
     request_io(&m, 0, 0, 8, 0, 16, &given);
     expect("half reserved is not wholly unreserved", given == 0x200);
     request_io(&m, 1, 0, 4, 0, 16, &given);
@@ -437,7 +517,7 @@ static void io_choice(void)
     request_io(&m, 2, 0, 4, 0, 16, &given);
     expect("then the lowest reserved", given == 0x208);
     ready(&m);
-    long_io(&m, 1, 0, PORTS);
+    long_io(&m, ADD, 0, PORTS);
     request_io(&m, 0, 0, 255, 0, 16, &given);
     expect("a positive multiple", given == 256);
 }
@@ -454,12 +534,12 @@ static void io_release(void)
     expect_code("another count", release_io(&m, 0, 1, 0x300, 7, 0), CS_BAD_BASE);
     expect_code("another socket", release_io(&m, 1, 1, 0x300, 8, 0), CS_BAD_BASE);
     expect_code("NumPorts2 before that", release_io(&m, 1, 1, 0x300, 8, 1), CS_BAD_SIZE);
-    expect_code("remove a held range", short_io(&m, 0, 0x300, 16, 0), CS_IN_USE);
-    expect_code("remove a part", short_io(&m, 0, 0x308, 8, 0), CS_BAD_BASE);
+    expect_code("remove a held range", short_io(&m, REMOVE, 0x300, 16, 0), CS_IN_USE);
+    expect_code("remove a part", short_io(&m, REMOVE, 0x308, 8, 0), CS_BAD_BASE);
     expect_code("deregister a holder", deregister(&m, 1), CS_IN_USE);
     expect_code("released without a card", release_io(&m, 0, 1, 0x300, 8, 0), CS_SUCCESS);
     expect_code("released again", release_io(&m, 0, 1, 0x300, 8, 0), CS_BAD_BASE);
-    expect_code("remove it then", short_io(&m, 0, 0x300, 16, 0), CS_SUCCESS);
+    expect_code("remove it then", short_io(&m, REMOVE, 0x300, 16, 0), CS_SUCCESS);
 }
 
 static void adjust_codes(void)
@@ -512,7 +592,7 @@ static void shown(void)
     struct model m;
     uint8_t level[4] = {2, 2, 0xFF, 0xFF}, range[12] = {3, 1, 0xFF, 2};
     ready_n6(&m);
-    long_io(&m, 1, 0x300, 256);
+    long_io(&m, ADD, 0x300, 256);
     add_io(&m, 0x100, 255);
     request_irq_code(&m, 0, 6, 0xC3, 0);
     request_io_code(&m, 0, 0x308, 8, 1, 16);
@@ -616,6 +696,9 @@ static void range_limit(void)
 /* ---- Runs: every set reached is well formed, a refusal changes nothing, and
    the image says the set ---- */
 
+/* How often a service was answered SUCCESS, and how often not, by its number. */
+static unsigned done[65536], refused[65536];
+
 static void step(struct chance *c, struct model *m)
 {
     static uint8_t before[CS_TABLE_SIZE], after[CS_TABLE_SIZE];
@@ -627,6 +710,7 @@ static void step(struct chance *c, struct model *m)
     uint32_t answer = model_call(m, r.service, r.handle, r.packet, r.len);
     model_image(m, after);
     expect("the set reached is well formed", model_read(after, sizeof after, &read));
+    (CS_CODE(answer) == CS_SUCCESS ? done : refused)[r.service]++;
     if (CS_CODE(answer) == CS_SUCCESS)
         return;
     expect("a refusal keeps the set", memcmp(before, after, sizeof after) == 0);
@@ -643,10 +727,18 @@ static void runs(void)
         for (unsigned i = 0; i < 60; i++)
             step(&c, &m);
     }
+    for (unsigned i = 0; i < SERVICES; i++) {
+        expect("runs do each service", done[services[i]] >= 5);
+        expect("runs refuse each service", refused[services[i]] >= 50);
+    }
 }
 
 int main(void)
 {
+    codes();
+    service_numbers();
+    event_bits();
+    host_numbers();
     n1_to_n4();
     n5();
     n6();

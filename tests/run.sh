@@ -1,6 +1,7 @@
 #!/bin/sh
-# run.sh: builds the archive and the C side, and runs the header's example, the
-# model's own cases, the comparison and the demo. Ends at the first failure.
+# run.sh: builds the archive and the C side, tries what types must refuse, looks
+# at what the archive needs, and runs the header's example, the model's own
+# cases, the comparison and the demo. Ends at the first failure.
 set -eu
 # shellcheck source=tests/toolchain.sh
 . "$(dirname "$0")/toolchain.sh"
@@ -14,6 +15,8 @@ quoted_example() {
 install_compilers
 build_archive
 
+sh tests/types.sh
+
 echo "run: the header as C99 and as C++"
 compile_c -fsyntax-only tests/header.c
 for standard in c++98 c++17; do
@@ -25,6 +28,11 @@ echo "run: the header's example"
 quoted_example | cmp - tests/example.c
 build example tests/example.c "$archive"
 run example
+
+echo "run: the archive needs no symbol but those that the header names"
+$c_compiler -r -nostdlib -Wl,--whole-archive "$archive" -o "$programs/keeper.o"
+"$($c_compiler -print-prog-name=nm)" -u "$programs/keeper.o" >"$programs/undefined"
+if grep -vE ' U mem(cpy|move|set|cmp)$' "$programs/undefined"; then exit 1; fi
 
 model='tests/model.c tests/layout.c tests/sets.c tests/names.c'
 # shellcheck disable=SC2086

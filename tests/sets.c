@@ -37,9 +37,10 @@ void full_set(struct model *m, unsigned clients)
     for (unsigned i = 0; i < clients; i++) {
         m->client[i].handle = (uint16_t)(i + 1);
         m->client[i].attributes = CS_IO_CLIENT | CS_INSERTION_SHARABLE;
-        m->client[i].event_mask = 0x0FFF;
+        m->client[i].event_mask = EVENT_MASKS - 1;
         for (unsigned s = 0; s < CS_SOCKETS; s++)
-            m->client[i].masks[s] = (struct mask){true, (uint16_t)(0x080 + s)};
+            m->client[i].masks[s] =
+                (struct mask){true, (uint16_t)(CS_EVENT_CARD_DETECT_CHANGE + s)};
     }
     for (unsigned level = 0; level < CS_LEVELS; level++)
         m->level[level] = (struct level){true, level % 2 == 1};
@@ -49,7 +50,7 @@ void full_set(struct model *m, unsigned clients)
     for (unsigned s = 0; s < CS_SOCKETS; s++) {
         uint16_t client = (uint16_t)(s + 1), base = (uint16_t)(0x100 + 0x40 * (s / 2));
         m->card[s] = true;
-        m->io[s] = (struct io_grant){true, client, base, 8, 16, true};
+        m->io[s] = (struct io_grant){true, client, base, 8, LINES, true};
         m->irq[s] = (struct irq_grant){true, client, (uint8_t)(s / 2), DYNAMIC_LEVEL};
     }
 }
@@ -64,10 +65,10 @@ static void random_client(struct chance *c, struct model *m)
     struct client *new_one = &m->client[m->clients++];
     new_one->handle = (uint16_t)(1 + pick(c, m->issued));
     new_one->attributes = allowed_attributes(c);
-    new_one->event_mask = (uint16_t)pick(c, 0x1000);
+    new_one->event_mask = (uint16_t)pick(c, EVENT_MASKS);
     for (unsigned s = 0; s < m->sockets; s++)
         if (one_in(c, 3))
-            new_one->masks[s] = (struct mask){true, (uint16_t)pick(c, 0x1000)};
+            new_one->masks[s] = (struct mask){true, (uint16_t)pick(c, EVENT_MASKS)};
     if (!well_formed(m))
         memset(&m->client[--m->clients], 0, sizeof *new_one);
 }
@@ -144,7 +145,7 @@ static void random_grants(struct chance *c, struct model *m, unsigned socket)
 
 void random_set(struct chance *c, struct model *m)
 {
-    model_fresh(m, (uint8_t)(1 + pick(c, CS_SOCKETS)));
+    model_fresh(m, 1 + pick(c, CS_SOCKETS));
     m->issued = one_in(c, 4) ? 1 + pick(c, CS_HANDLES) : pick(c, 40);
     for (unsigned s = 0; s < m->sockets; s++)
         m->card[s] = !one_in(c, 3);
@@ -180,7 +181,7 @@ static void register_packet(struct chance *c, const struct model *m, struct requ
 {
     (void)m;
     put(r, 0, 2, one_in(c, 8) ? pick(c, 65536) : allowed_attributes(c));
-    put(r, 2, 2, one_in(c, 8) ? pick(c, 65536) : pick(c, 0x1000));
+    put(r, 2, 2, one_in(c, 8) ? pick(c, 65536) : pick(c, EVENT_MASKS));
 }
 
 static void any_packet(struct chance *c, const struct model *m, struct request *r)
@@ -194,16 +195,16 @@ static void adjust_packet(struct chance *c, const struct model *m, struct reques
     const struct range *range = &m->range[known ? pick(c, m->ranges) : 0];
     uint32_t base = known ? range->base : some_port(c),
              count = known ? range->count : some_count(c);
-    uint8_t attributes = one_in(c, 16) ? byte(c) : reserve ? 0x40 : 0;
+    uint8_t attributes = one_in(c, 16) ? byte(c) : reserve ? RESERVE : 0;
     uint8_t lines = one_in(c, 16) ? byte(c) : LINES;
-    r->packet[0] = one_in(c, 32) ? byte(c) : (uint8_t)pick(c, 4);
-    r->packet[1] = one_in(c, 16) ? (uint8_t)pick(c, 6) : (uint8_t)(1 + pick(c, 2));
-    if (r->packet[1] == 2) {
-        r->len = 4;
+    r->packet[0] = one_in(c, 32) ? byte(c) : (uint8_t)pick(c, ACTIONS);
+    r->packet[1] = (uint8_t)(one_in(c, 16) ? pick(c, RESOURCES + 1) : RESOURCE_IO + pick(c, 2));
+    if (r->packet[1] == RESOURCE_IRQ) {
+        r->len = CS_ADJUST_IRQ_LENGTH;
         r->packet[2] = attributes;
         r->packet[3] = (uint8_t)pick(c, CS_LEVELS + 1);
     } else if (one_in(c, 2)) {
-        r->len = 7;
+        r->len = CS_ADJUST_IO_SHORT_LENGTH;
         put(r, 2, 2, base);
         put(r, 4, 1, count);
         put(r, 5, 2, attributes | (uint32_t)lines << 8);
@@ -253,7 +254,7 @@ static void release_io_packet(struct chance *c, const struct model *m, struct re
 static void request_mask_packet(struct chance *c, const struct model *m, struct request *r)
 {
     put_socket(c, m, r);
-    put(r, 2, 2, one_in(c, 8) ? pick(c, 65536) : pick(c, 0x1000));
+    put(r, 2, 2, one_in(c, 8) ? pick(c, 65536) : pick(c, EVENT_MASKS));
 }
 
 static const struct {
@@ -261,11 +262,15 @@ static const struct {
     size_t len;
     void (*packet)(struct chance *c, const struct model *m, struct request *r);
 } kinds[] = {
-    {CS_REGISTER_CLIENT, 14, register_packet},    {CS_DEREGISTER_CLIENT, 0, any_packet},
-    {CS_ADJUST_RESOURCE_INFO, 12, adjust_packet}, {CS_REQUEST_IRQ, 8, request_irq_packet},
-    {CS_RELEASE_IRQ, 5, release_irq_packet},      {CS_REQUEST_IO, 11, request_io_packet},
-    {CS_RELEASE_IO, 11, release_io_packet},       {CS_REQUEST_SOCKET_MASK, 4, request_mask_packet},
-    {CS_RELEASE_SOCKET_MASK, 2, put_socket},
+    {CS_REGISTER_CLIENT, CS_REGISTER_CLIENT_LENGTH, register_packet},
+    {CS_DEREGISTER_CLIENT, CS_DEREGISTER_CLIENT_LENGTH, any_packet},
+    {CS_ADJUST_RESOURCE_INFO, CS_ADJUST_IO_LONG_LENGTH, adjust_packet},
+    {CS_REQUEST_IRQ, CS_REQUEST_IRQ_LENGTH, request_irq_packet},
+    {CS_RELEASE_IRQ, CS_RELEASE_IRQ_LENGTH, release_irq_packet},
+    {CS_REQUEST_IO, CS_REQUEST_IO_LENGTH, request_io_packet},
+    {CS_RELEASE_IO, CS_RELEASE_IO_LENGTH, release_io_packet},
+    {CS_REQUEST_SOCKET_MASK, CS_REQUEST_SOCKET_MASK_LENGTH, request_mask_packet},
+    {CS_RELEASE_SOCKET_MASK, CS_RELEASE_SOCKET_MASK_LENGTH, put_socket},
 };
 
 static uint16_t some_handle(struct chance *c, const struct model *m)

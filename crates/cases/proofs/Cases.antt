@@ -2,7 +2,6 @@
 use mathlib.Core.Path.{refl, ap}
 use mathlib.Core.Logic.{inl, inr}
 use mathlib.Core.List.{List, [], _∷_}
-use mathlib.Core.Bool.{false}
 use mathlib.Core.Option.{Option·none-ne-some}
 use Prim.Native.Nat.{ℕ, _+_, _≤_, _<_}
 use native.Mathlib.Omega.{arith}
@@ -14,10 +13,11 @@ use Rattle.facts.specs.WellFormed.{Apart}
 use Rattle.facts.specs.Levels.{typeOf}
 use Rattle.facts.specs.Checks.{Outcome}
 use Rattle.facts.specs.Clients.{Register, Deregister, nextHandle, registered}
-use Rattle.facts.specs.Resources.{AdjustResourceInfo, AdjustIo, Follows, RangeHeld, RangeNext, RangeShown, first, short, shown}
-use Rattle.cases.specs.Cases.{Cases, Exactly, done, refused, range, managing, ready, levels, threeHeld, bothHeld, oneSharer, twoSharers, halfHeld, unheld, oneClient, noClient, clientPacket, addPacket, firstPacket}
+use Rattle.facts.specs.Resources.{AdjustResourceInfo, AdjustIo, Follows, RangeHeld, RangeNext, unheld, first, short, mostShown, showingRange}
+use Rattle.cases.specs.Cases.{Cases, Exactly, done, refused, range, managing, ready, twoLevels, threeHeld, bothHeld, oneSharer, twoSharers}
+use Rattle.cases.specs.Cases.{halfHeld, unheldRange, oneClient, noClient, clientPacket, addPacket, firstPacket}
 use Rattle.facts.proofs.Unique.{register-unique, deregister-unique, sharers-unique, adjust-unique}
-use Rattle.cases.proofs.Permitted.{exactly, as-done, as-kept, _then_, _nor_, listed-alone}
+use Rattle.cases.proofs.Permitted.{exactly, as-left, as-kept, _then_, _nor_, listed-alone}
 use Rattle.cases.proofs.Ports.{meet-equal, gives-308, half-meets-none, half-leaves-308}
 use Rattle.cases.proofs.Levels.{bits-B0, bits-D0, bits-A3, gives-3, gives-5, gives-none, held-fits-not, level-fits, only-grant}
 
@@ -30,7 +30,8 @@ module _ (F : Facts) (apart : Apart 0 (F .ranges)) (a b c d e f : ℕ) (action :
   adjusts r =
       exactly (adjust-unique F 1 shortPacket apart)
       (inr (
-        (omega arith) then (omega arith) then (omega arith nor omega arith nor omega arith) then (omega arith) then (omega arith nor omega arith) then tt,
+        (omega arith) then (omega arith) then (omega arith nor omega arith nor omega arith) then (omega arith) then
+            (omega arith nor omega arith) then tt,
         inr (refl, short, refl, r),
       ))
 
@@ -42,8 +43,9 @@ adds low upto =
     (inl (
       refl,
       inr (
-        ((λ e. e (inl refl)) nor omega arith) then (omega arith nor omega arith) then (omega arith) then (λ e. e .2 .listed) then (omega arith) then tt,
-        (refl, as-done _),
+        ((λ e. e (inl refl)) nor omega arith) then (omega arith nor omega arith) then (omega arith) then (λ e. e .2 .listed) then
+            (omega arith) then tt,
+        (refl, as-left _),
       ),
     ))
 
@@ -52,32 +54,35 @@ adds-not low past =
     adjusts (fresh 2) tt 0x01 low 0xFF 8 0x00 16 (omega arith)
     (inl (
       refl,
-      inl (inr ((λ e. e (inl refl)) nor omega arith, inr (omega arith nor omega arith, inl (omega arith, refl))), as-kept BadBase (addPacket low) (fresh 2)),
+      inl (
+        inr ((λ e. e (inl refl)) nor omega arith, inr (omega arith nor omega arith, inl (omega arith, refl))),
+        as-kept BadBase (addPacket low) (fresh 2),
+      ),
     ))
-
--- of a range that isn't held, no bit is shown and no handle
-unheld-shown : {F : Facts} {r : Range} → (RangeHeld F r → ⊥) → RangeShown F r 0 0
-unheld-shown free =
-    record {
-      free = λ _. (refl, refl);
-      held = λ h. absurd (free h);
-      one-alone = λ h k. absurd (free (record { client = h; shares = false; holder = k }));
-      all-share = λ h _. absurd (free h);
-    }
 
 -- First, where one range is managed and not held
 only-next : (r : Range) (F : Facts) (action given : ℕ) → Follows action given (r .base) → RangeNext (managing r F) action given r
 only-next r F action given f =
     (inl refl, record { fits = (r, inl refl, refl, f); least = λ b g. omega (arith, g .2, ap (λ (x : Range). x .base) (listed-alone (g .1))) })
 
-first-shows : (r : Range) (F : Facts) → r .count ≤ 255 → (RangeHeld (managing r F) r → ⊥)
-    → AdjustIo short (managing r F) 1 firstPacket (done 0 (shown short firstPacket r 0) (managing r F))
+first-shows : (r : Range) (F : Facts) → r .count ≤ mostShown → (RangeHeld (managing r F) r → ⊥)
+    → AdjustIo short (managing r F) 1 firstPacket (done 0 (showingRange short firstPacket r 0) (managing r F))
 first-shows r F fits free =
     inr (inr (
       inl refl,
       inr (
         (λ e. e r (inl refl) (inl refl)) then (λ e. omega (arith, e .2, ap (λ (x : Range). x .count) (listed-alone (e .1 .0)))) then tt,
-        (refl, (r, 0, 0, only-next r F first 0 (inl refl), unheld-shown free, as-done _)),
+        (
+          refl,
+          record {
+            range = r;
+            attributes = 0;
+            handle = 0;
+            next-is = only-next r F first 0 (inl refl);
+            shown = unheld free refl refl;
+            leaves = as-left _;
+          },
+        ),
       ),
     ))
 
@@ -92,7 +97,7 @@ registers F room =
           then (λ e. e (omega arith))
           then ((λ e. omega arith) nor (λ e. omega arith))
           then tt,
-      (refl, as-done _),
+      (refl, as-left _),
     ))
 
 deregisters : Exactly (Deregister oneClient 1 []) (done 1 [] noClient)
@@ -104,7 +109,7 @@ deregisters =
           then ((λ h. Option·none-ne-some _ (h .live)) nor (λ h. Option·none-ne-some _ (h .live))
           nor (λ h. Option·none-ne-some _ (rw (listed-alone (h .2 .listed)) at (h .2 .mask))))
           then tt,
-      (refl, as-done _),
+      (refl, as-left _),
     ))
 
 pub cases : Cases
@@ -116,7 +121,7 @@ cases =
       n4 = record { one = 0x100; other = 0x200; one-in = omega arith; other-in = omega arith; equal = refl };
       n5 = (adds 0xF8 (omega arith), adds-not 0xF9 (omega arith));
       n6 = (
-        gives-3 (levels .irq) 0 0x00 bits-B0 (omega arith) refl refl (level-fits (inl (refl, refl)) refl),
+        gives-3 (twoLevels .irq) 0 0x00 bits-B0 (omega arith) refl refl (level-fits (inl (refl, refl)) refl),
         gives-5 (threeHeld .irq) 1 0x00 bits-B0 (omega arith) refl refl (held-fits-not 0 refl refl (λ t. t .shares refl))
             (record {
               named = inl (refl, refl);
@@ -127,16 +132,20 @@ cases =
             (held-fits-not 1 refl refl (λ t. t .shares refl)),
       );
       n7 = (
-        gives-3 (levels .irq) 0 0x02 bits-A3 (omega arith) refl refl (level-fits (inr (omega arith, refl)) refl),
+        gives-3 (twoLevels .irq) 0 0x02 bits-A3 (omega arith) refl refl (level-fits (inr (omega arith, refl)) refl),
         gives-none (oneSharer .irq) 1 0x01 bits-A3 (omega arith) refl refl (held-fits-not 0 refl refl (λ t. omega (arith, ap typeOf (t .equal))))
             (λ f. (omega arith nor omega arith) (f .named)),
         gives-3 (oneSharer .irq) 1 0x02 bits-A3 (omega arith) refl refl
             (record {
               named = inr (omega arith, refl);
               managed = refl;
-              free = inr (omega arith, λ s g h. rw (only-grant 3 DynamicLevel 3 s g h) (record { equal = refl; shares = λ e. omega (arith, ap typeOf e) }));
+              free =
+                  inr (
+                    omega arith,
+                    λ s g h. rw (only-grant 3 DynamicLevel 3 s g h) (record { equal = refl; shares = λ e. omega (arith, ap typeOf e) }),
+                  );
             }),
-        exactly (sharers-unique twoSharers 3) (inr (omega arith, (refl, as-done _))),
+        exactly (sharers-unique twoSharers 3) (inr (omega arith, (refl, refl))),
       );
       n8 = gives-308 (halfHeld .io) (range 0x300 16) 8 (omega arith) refl (omega arith) half-meets-none half-leaves-308;
       n9 =
@@ -144,10 +153,10 @@ cases =
           (λ b t e inside meets-none. omega arith);
       n10 = (registers (fresh 2) (omega arith), deregisters, registers noClient (omega arith));
       n11 = (
-        gives-3 (levels .irq) 0 0x02 bits-B0 (omega arith) refl refl (level-fits (inl (refl, refl)) refl),
-        gives-3 (levels .irq) 0 0x02 bits-D0 (omega arith) refl refl (level-fits (inl (refl, refl)) refl),
+        gives-3 (twoLevels .irq) 0 0x02 bits-B0 (omega arith) refl refl (level-fits (inl (refl, refl)) refl),
+        gives-3 (twoLevels .irq) 0 0x02 bits-D0 (omega arith) refl refl (level-fits (inl (refl, refl)) refl),
       );
       n12 =
-          adjusts unheld (omega arith) 0x02 0x00 0x00 0x00 0x00 0x00 (omega arith)
+          adjusts unheldRange (omega arith) 0x02 0x00 0x00 0x00 0x00 0x00 (omega arith)
           (first-shows (range 0x300 16) (fresh 2) (omega arith) (λ h. Option·none-ne-some _ (h .holder .live)));
     }

@@ -2,43 +2,44 @@
 use mathlib.Core.Path.{_≡_, refl, sym, ap, _∙_}
 use mathlib.Core.Logic.{_⊎_, inl, inr, ⊎-elim, Iff·rfl}
 use mathlib.Core.List.{List, []}
-use mathlib.Core.Bool.{true, false≢true}
+use mathlib.Core.Bool.{true, false≢true, true≢false}
 use mathlib.Core.Option.{Option, none, some, Option·none-ne-some, Option·some-injective}
-use Prim.Native.Nat.{ℕ, _/_, _%_, _<_}
+use Prim.Native.Nat.{ℕ, _<_}
 use native.Mathlib.Nat.{le-refl}
 use native.Mathlib.Omega.{arith}
 use lib.Dec.{eqb}
-use lib.ListN.{set}
 use Rattle.facts.specs.declared.Code.the-variants.{BadIrq}
 use Rattle.facts.specs.declared.Manner.{Manner}
 use Rattle.facts.specs.Table.{Facts, Level, IrqGrant}
+use Rattle.facts.specs.Packets.{bit}
 use Rattle.facts.specs.Levels.{Together, Holds}
 use Rattle.facts.specs.Checks.{_gives_, Outcome, Passed}
 use Rattle.facts.specs.Sockets.{socketOf}
 use Rattle.facts.specs.Resources.{levelAdded, reserveBit}
-use Rattle.facts.specs.Irq.{Fits, Named, LevelTaken, RequestIrq, IrqInfoBad, irqAheadChecks, mannerAsked, pulseShown, withIrq}
-use Rattle.cases.specs.Cases.{Exactly, done, refused, ready, levels, grantingIrq, irqPacket}
+use Rattle.facts.specs.Irq.{Fits, Named, NoLevelFits, LevelTaken, RequestIrq, IrqInfoBad, irqAheadChecks, irqGrant, mannerAsked, assigning, withIrq}
+use Rattle.cases.specs.Cases.{Exactly, done, refused, ready, twoLevels, grantingIrq, irqPacket}
+use Rattle.facts.proofs.Sets.{put-is}
 use Rattle.facts.proofs.Unique.{request-irq-unique}
-use Rattle.cases.proofs.Permitted.{exactly, as-done, as-kept, _then_, _nor_, last-passed, last-refused, put-is, alone-chosen}
+use Rattle.cases.proofs.Permitted.{exactly, as-left, as-kept, _then_, _nor_, last-passed, last-refused, alone-chosen}
 
 -- what is done where the level l is taken
 abbrev pub granted : Facts → ℕ → List ℕ → ℕ → Outcome
 granted F h p l =
-    done h (set (pulseShown (mannerAsked p) p) 4 l) (withIrq F (socketOf p) (some (record { client = h; level = l; manner = mannerAsked p })))
+    done h (assigning p l) (withIrq F (socketOf p) (some (irqGrant h p l)))
 
 module _ (F : Facts) (h : ℕ) (p : List ℕ) (ahead : Passed (irqAheadChecks F h p [])) where
   irq-done : (l : ℕ) → LevelTaken F p l → Exactly (RequestIrq F h p) (granted F h p l)
   irq-done l taken =
       exactly (request-irq-unique F h p)
       (inr (
-        last-passed (irqAheadChecks F h p []) (((l : ℕ) → Fits F p l → ⊥) gives BadIrq) ahead (λ none-fits. none-fits l (taken .fits)),
-        (refl, (l, taken, as-done _)),
+        last-passed (irqAheadChecks F h p []) (NoLevelFits F p gives BadIrq) ahead (λ none-fits. none-fits l (taken .fits)),
+        (refl, record { level = l; taken = taken; leaves = as-left _ }),
       ))
 
-  irq-refused : ((l : ℕ) → Fits F p l → ⊥) → Exactly (RequestIrq F h p) (refused BadIrq p F)
+  irq-refused : NoLevelFits F p → Exactly (RequestIrq F h p) (refused BadIrq p F)
   irq-refused none-fits =
       exactly (request-irq-unique F h p)
-      (inl (last-refused (irqAheadChecks F h p []) (((l : ℕ) → Fits F p l → ⊥) gives BadIrq) ahead none-fits, as-kept BadIrq p F))
+      (inl (last-refused (irqAheadChecks F h p []) (NoLevelFits F p gives BadIrq) ahead none-fits, as-kept BadIrq p F))
 
 -- a held level doesn't fit a manner that its grant's doesn't go together with
 pub held-fits-not : {F : Facts} {p : List ℕ} {l : ℕ} {g : IrqGrant} (s : ℕ) → F .irq s ≡ some g → g .level ≡ l
@@ -50,26 +51,26 @@ held-fits-not {g = g} s live at apart f =
 -- a level that is managed was added, or was managed before
 added-managed : (F : Facts) (k a l : ℕ) → levelAdded F k a .level l .managed ≡ true → (l ≡ k) ⊎ (F .level l .managed ≡ true)
 added-managed F k a l m =
-    ⊎-elim (λ e. inl (e .0)) (λ e. inr (sym (ap (λ (v : Level). v .managed) e) ∙ m))
+    ⊎-elim (λ e. inl (e .0)) (λ e. inr (sym (ap (λ (v : Level). v .managed) (e .1)) ∙ m))
     (put-is (F .level) k (record { managed = true; reserved = eqb a reserveBit }) l)
 
 -- N6's table, with the IRQ grants irq
 abbrev pub irqTable : (ℕ → Option IrqGrant) → Facts
 irqTable irq =
     record {
-      sockets = levels .sockets;
-      card = levels .card;
-      issued = levels .issued;
-      clients = levels .clients;
-      level = levels .level;
-      ranges = levels .ranges;
-      io = levels .io;
+      sockets = twoLevels .sockets;
+      card = twoLevels .card;
+      issued = twoLevels .issued;
+      clients = twoLevels .clients;
+      level = twoLevels .level;
+      ranges = twoLevels .ranges;
+      io = twoLevels .io;
       irq = irq;
     }
 
 -- IRQInfo1 and the low byte of IRQInfo2, of a card that can share
 pub record CardBits (i m : ℕ) : Type 0 where
-  pub share : i / 128 % 2 ≡ 1
+  pub share : bit i 7 ≡ 1
   pub good : (s t : ℕ) → IrqInfoBad (irqPacket s t 0 i m) → ⊥
 
 pub bits-B0 : CardBits 0xB0 0x28
@@ -88,7 +89,7 @@ fits-are irq p l f =
     (added-managed (levelAdded ready 3 0) 5 reserveBit l (f .managed))
 
 -- a request of the socket s, with the attributes t: 3 if it fits, else 5 if it fits, else BAD_IRQ
-module _ (irq : ℕ → Option IrqGrant) (s t : ℕ) {i m : ℕ} (bits : CardBits i m) (small : (s < 3) × (t < 3)) (card : levels .card s ≡ true)
+module _ (irq : ℕ → Option IrqGrant) (s t : ℕ) {i m : ℕ} (bits : CardBits i m) (small : (s < 3) × (t < 3)) (card : twoLevels .card s ≡ true)
     (free : irq s ≡ none) where
   ahead : Passed (irqAheadChecks (irqTable irq) 1 (irqPacket s t 0 i m) [])
   ahead =
@@ -105,7 +106,7 @@ module _ (irq : ℕ → Option IrqGrant) (s t : ℕ) {i m : ℕ} (bits : CardBit
       → Exactly (RequestIrq (irqTable irq) 1 (irqPacket s t 0 i m)) (granted (irqTable irq) 1 (irqPacket s t 0 i m) 3)
   gives-3 fits =
       irq-done _ _ _ ahead 3
-      (record { fits = fits; first = λ y f. ⊎-elim (λ e. rw e (inr (Iff·rfl, le-refl 3))) (λ e. rw e (inl (false≢true, refl))) (fits-are _ _ y f) })
+      (record { fits = fits; first = λ y f. ⊎-elim (λ e. rw e (inr (Iff·rfl, le-refl 3))) (λ e. rw e (inl (refl, true≢false))) (fits-are _ _ y f) })
 
   module _ (not-3 : Fits (irqTable irq) (irqPacket s t 0 i m) 3 → ⊥) where
     pub gives-5 : Fits (irqTable irq) (irqPacket s t 0 i m) 5
@@ -117,13 +118,14 @@ module _ (irq : ℕ → Option IrqGrant) (s t : ℕ) {i m : ℕ} (bits : CardBit
     gives-none not-5 = irq-refused _ _ _ ahead (λ l f. ⊎-elim (λ e. not-3 (rw e at f)) (λ e. not-5 (rw e at f)) (fits-are _ _ l f))
 
 -- before its grants, a level that is named and managed fits; after one on the socket 0, that grant is the only one
-free : (l s : ℕ) (g : IrqGrant) → Holds levels l s g → ⊥
+free : (l s : ℕ) (g : IrqGrant) → Holds twoLevels l s g → ⊥
 free l s g h = Option·none-ne-some g (h .live)
 
-pub level-fits : {p : List ℕ} {l : ℕ} → Named p l → levels .level l .managed ≡ true → Fits levels p l
+pub level-fits : {p : List ℕ} {l : ℕ} → Named p l → twoLevels .level l .managed ≡ true → Fits twoLevels p l
 level-fits {l = l} named managed = record { named = named; managed = managed; free = inl (free l) }
 
-pub only-grant : (k : ℕ) (m : Manner) (l s : ℕ) (g : IrqGrant) → Holds (grantingIrq 0 k m levels) l s g → g ≡ record { client = 1; level = k; manner = m }
+pub only-grant : (k : ℕ) (m : Manner) (l s : ℕ) (g : IrqGrant) → Holds (grantingIrq 0 k m twoLevels) l s g
+    → g ≡ record { client = 1; level = k; manner = m }
 only-grant k m l s g h =
-    ⊎-elim (λ e. Option·some-injective g _ (sym (h .live) ∙ e .1)) (λ e. absurd (Option·none-ne-some g (sym e ∙ h .live)))
-    (put-is (levels .irq) 0 (some (record { client = 1; level = k; manner = m })) s)
+    ⊎-elim (λ e. Option·some-injective g _ (sym (h .live) ∙ e .1)) (λ e. absurd (Option·none-ne-some g (sym (e .1) ∙ h .live)))
+    (put-is (twoLevels .irq) 0 (some (record { client = 1; level = k; manner = m })) s)

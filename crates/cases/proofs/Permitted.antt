@@ -1,28 +1,26 @@
--- What is permitted: laws of checks that pass, of facts put in their place, and of a choice alone. Assumes nothing.
+-- What is permitted: laws of checks that pass, and of a choice alone. Assumes nothing.
 use mathlib.Core.Path.{_≡_, refl}
 use mathlib.Core.Logic.{_⊎_, inl, inr, ⊎-elim, Iff·rfl}
 use mathlib.Core.List.{List, [], _∷_, _++_}
-use mathlib.Core.Bool.{Bool, true, false, cond}
 use Prim.Native.Nat.{ℕ}
 use native.Mathlib.Nat.{le-refl}
-use lib.Dec.{T, eqb, eqb→eq}
 use Rattle.facts.specs.declared.Code.{Code}
 use Rattle.facts.specs.Table.{Facts}
-use Rattle.facts.specs.Sets.{_∈_, put}
-use Rattle.facts.specs.Checks.{Check, Outcome, Refused, Passed, Kept, Done}
+use Rattle.facts.specs.Sets.{_∈_}
+use Rattle.facts.specs.Checks.{Check, Outcome, FirstGiven, Passed, Kept, Leaves}
 use Rattle.facts.specs.Choice.{Chosen}
 use Rattle.cases.specs.Cases.{Exactly, refused}
-use Rattle.facts.proofs.Unique.{Coincide}
+use Rattle.facts.specs.Laws.{Coincide}
 
 infixr 3 _nor_
 infixr 2 _then_
 -- a permitted outcome, where any two coincide
-pub exactly : {R : Outcome → Type 0} {o : Outcome} → Coincide R → R o → Exactly R o
+pub exactly : {O : Type 0} {R : O → Type 0} {o : O} → Coincide R → R o → Exactly R o
 exactly {o = o} u r = record { permitted = r; only = λ o′ r′. u o′ o r′ r }
 
 -- what is done, and what is kept, is as said
-pub as-done : (o : Outcome) → Done (o .handle) (o .packet) (o .facts) o
-as-done o = record { handle = refl; packet = refl; facts = refl }
+pub as-left : (o : Outcome) → Leaves (o .handle) (o .packet) (o .facts) o
+as-left o = record { handle = refl; packet = refl; facts = refl }
 
 pub as-kept : (k : Code) (p : List ℕ) (F : Facts) → Kept F p (refused k p F)
 as-kept k p F = record { handle = refl; packet = refl; facts = refl }
@@ -39,22 +37,14 @@ pub last-passed : (cs : List Check) (c : Check) → Passed cs → (c .when → �
 last-passed [] c p f = (f, tt)
 last-passed (x ∷ cs) c p f = (p .0, last-passed cs c (p .1) f)
 
-pub last-refused : (cs : List Check) (c : Check) → Passed cs → c .when → Refused (cs ++ (c ∷ [])) (c .code)
+pub last-refused : (cs : List Check) (c : Check) → Passed cs → c .when → FirstGiven (cs ++ (c ∷ [])) (c .code)
 last-refused [] c p w = inl (w, refl)
 last-refused (x ∷ cs) c p w = inr (p .0, last-refused cs c (p .1) w)
-
--- a fact put in its place stands there, and the others stand
-pub put-is : {A : Type 0} (f : ℕ → A) (k : ℕ) (x : A) (j : ℕ) → ((j ≡ k) × (put f k x j ≡ x)) ⊎ (put f k x j ≡ f j)
-put-is f k x j = go (eqb j k) (eqb→eq j k)
-  where
-    go : (b : Bool) → (T b → j ≡ k) → ((j ≡ k) × (cond b x (f j) ≡ x)) ⊎ (cond b x (f j) ≡ f j)
-    go true e = inl (e tt, refl)
-    go false e = inr refl
 
 -- what is in a list of one is that one
 pub listed-alone : {A : Type 0} {x y : A} → x ∈ (y ∷ []) → x ≡ y
 listed-alone = ⊎-elim (λ e. e) absurd
 
 -- one that fits alone is chosen
-pub alone-chosen : {Fit Late : ℕ → Type 0} {x : ℕ} → Fit x → ((y : ℕ) → Fit y → y ≡ x) → Chosen Fit Late x
+pub alone-chosen : {Fit Early : ℕ → Type 0} {x : ℕ} → Fit x → ((y : ℕ) → Fit y → y ≡ x) → Chosen Fit Early x
 alone-chosen {x = x} fits only = record { fits = fits; first = λ y f. rw (only y f) (inr (Iff·rfl, le-refl x)) }

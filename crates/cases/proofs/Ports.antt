@@ -13,8 +13,9 @@ use Rattle.facts.specs.Table.{Facts, Range, Ports, IoGrant}
 use Rattle.facts.specs.Ports.{Meet, Has, Managed}
 use Rattle.facts.specs.Io.{Candidate, SmallestPower, RequestIo}
 use Rattle.cases.specs.Cases.{Exactly, done, ports, ready, grantingIo, halfHeld, ioPacket}
+use Rattle.facts.proofs.Sets.{put-is}
 use Rattle.facts.proofs.Unique.{request-io-unique}
-use Rattle.cases.proofs.Permitted.{exactly, as-done, _then_, _nor_, put-is, listed-alone, alone-chosen}
+use Rattle.cases.proofs.Permitted.{exactly, as-left, _then_, _nor_, listed-alone, alone-chosen}
 
 -- ranges that lie below two to the smaller count of lines meet only in an equal port
 pub meet-equal : {a b : Ports} → a .base + a .count ≤ 2 ^ min (a .lines) (b .lines) → b .base + b .count ≤ 2 ^ min (a .lines) (b .lines)
@@ -98,11 +99,11 @@ module _ (io : ℕ → Option IoGrant) (r : Range) (n : ℕ) (sized : (4 < n) ×
             then tt,
         (
           refl,
-          (
-            0x308,
-            inr (refl, alone-chosen c (λ b c′. only b (c′ .times) (candidate-multiple b c′) (candidate-in b c′) (c′ .meets-none))),
-            as-done _,
-          ),
+          record {
+            base = 0x308;
+            taken = inr (refl, alone-chosen c (λ b c′. only b (c′ .times) (candidate-multiple b c′) (candidate-in b c′) (c′ .meets-none)));
+            leaves = as-left _;
+          },
         ),
       ))
 
@@ -111,7 +112,7 @@ pub half-meets-none : MeetsNone (halfHeld .io) (ports 0x308 8 16)
 half-meets-none s g live m =
     ⊎-elim
     (λ e. let m′ = rw (← (Option·some-injective _ g (sym (e .1) ∙ live))) at m in omega (arith, meet-equal (omega arith) (omega arith) m′))
-    (λ e. Option·none-ne-some g (sym e ∙ live)) (put-is (ready .io) 0 (halfHeld .io 0) s)
+    (λ e. Option·none-ne-some g (sym (e .1) ∙ live)) (put-is (ready .io) 0 (halfHeld .io 0) s)
 
 pub half-leaves-308 : (b t : ℕ) → b ≡ t * 8 → (0x300 ≤ b) × (b + 8 ≤ 0x310) → MeetsNone (halfHeld .io) (ports b 8 16) → b ≡ 0x308
 half-leaves-308 b t e inside meets-none = omega (arith, not-300)

@@ -18,9 +18,9 @@ use Rattle.facts.specs.Irq.{RequestIrq, Sharers, withIrq}
 use Rattle.facts.specs.Io.{RequestIo, withIo}
 
 -- the rule permits the outcome, and no other
-pub record Exactly (R : Outcome → Type 0) (o : Outcome) : Type 0 where
+pub record Exactly {O : Type 0} (R : O → Type 0) (o : O) : Type 0 where
   pub permitted : R o
-  pub only : (o′ : Outcome) → R o′ → o′ ≡ o
+  pub only : (o′ : O) → R o′ → o′ ≡ o
 
 -- SUCCESS, with the handle answered, the packet and the facts that it leaves
 abbrev pub done : ℕ → List ℕ → Facts → Outcome
@@ -47,8 +47,8 @@ abbrev pub ready : Facts
 ready = registered (withCard (withCard (withCard (fresh 3) 0 true) 1 true) 2 true) 4 0
 
 -- "levels 3 and 5 managed, 5 reserved"
-abbrev pub levels : Facts
-levels = levelAdded (levelAdded ready 3 0) 5 reserveBit
+abbrev pub twoLevels : Facts
+twoLevels = levelAdded (levelAdded ready 3 0) 5 reserveBit
 
 -- the socket s then has an IRQ grant of the client 1
 abbrev pub grantingIrq : ℕ → ℕ → Manner → Facts → Facts
@@ -60,14 +60,14 @@ grantingIo s a F = withIo F s (some (record { client = 1; ports = a; shared = fa
 
 -- N6's table after its first grant, and after its second
 abbrev pub threeHeld : Facts
-threeHeld = grantingIrq 0 3 Exclusive levels
+threeHeld = grantingIrq 0 3 Exclusive twoLevels
 
 abbrev pub bothHeld : Facts
 bothHeld = grantingIrq 1 5 Exclusive threeHeld
 
 -- the same for N7
 abbrev pub oneSharer : Facts
-oneSharer = grantingIrq 0 3 DynamicLevel levels
+oneSharer = grantingIrq 0 3 DynamicLevel twoLevels
 
 abbrev pub twoSharers : Facts
 twoSharers = grantingIrq 1 3 DynamicLevel oneSharer
@@ -81,8 +81,8 @@ abbrev pub elevenManaged : Facts
 elevenManaged = managing (range 0x302 11) ready
 
 -- "300, 16 managed and unheld"
-abbrev pub unheld : Facts
-unheld = managing (range 0x300 16) (fresh 2)
+abbrev pub unheldRange : Facts
+unheldRange = managing (range 0x300 16) (fresh 2)
 
 -- a fresh table after "register", and after "register, deregister"
 abbrev pub oneClient : Facts
@@ -134,27 +134,28 @@ pub record Cases : Type 0 where
   pub n5 : Exactly (AdjustResourceInfo (fresh 2) 1 (addPacket 0xF8)) (done 1 (addPacket 0xF8) (managing (range 0xFFF8 8) (fresh 2)))
       × Exactly (AdjustResourceInfo (fresh 2) 1 (addPacket 0xF9)) (refused BadBase (addPacket 0xF9) (fresh 2))
   -- "N6 levels 3 and 5 managed, 5 reserved; exclusive, mask 0028H from three sockets: 3, 5, BAD_IRQ."
-  pub n6 : Exactly (RequestIrq levels 1 (exclusive 0 0)) (done 1 (exclusive 0 3) threeHeld)
+  pub n6 : Exactly (RequestIrq twoLevels 1 (exclusive 0 0)) (done 1 (exclusive 0 3) threeHeld)
       × Exactly (RequestIrq threeHeld 1 (exclusive 1 0)) (done 1 (exclusive 1 5) bothHeld)
       × Exactly (RequestIrq bothHeld 1 (exclusive 2 0)) (refused BadIrq (exclusive 2 0) bothHeld)
   -- "N7 only 3 named: dynamic level, then from another socket time-multiplexed BAD_IRQ, then from it dynamic level: two sharers."
-  pub n7 : Exactly (RequestIrq levels 1 (dynamic 0 0)) (done 1 (dynamic 0 3) oneSharer)
+  pub n7 : Exactly (RequestIrq twoLevels 1 (dynamic 0 0)) (done 1 (dynamic 0 3) oneSharer)
       × Exactly (RequestIrq oneSharer 1 (timeMultiplexed 1 0)) (refused BadIrq (timeMultiplexed 1 0) oneSharer)
       × Exactly (RequestIrq oneSharer 1 (dynamic 1 0)) (done 1 (dynamic 1 3) twoSharers)
-      × Exactly (Sharers twoSharers 3) (done 2 [] twoSharers)
+      × Exactly (Sharers twoSharers 3) (record { code = Success; count = 2 })
   -- "N8 300, 16 managed, 300 to 307 held: base 0, 8 ports, all at 16 lines, gives 308."
   pub n8 : Exactly (RequestIo halfHeld 1 (ioPacket 1 0x00 0x00 8)) (done 1 (ioPacket 1 0x08 0x03 8) (grantingIo 1 (ports 0x308 8 16) halfHeld))
   -- "N9 302 to 30C managed: base 0, 5 ports, 16 lines gives 308."
-  pub n9 : Exactly (RequestIo elevenManaged 1 (ioPacket 1 0x00 0x00 5)) (done 1 (ioPacket 1 0x08 0x03 5) (grantingIo 1 (ports 0x308 5 16) elevenManaged))
+  pub n9 : Exactly (RequestIo elevenManaged 1 (ioPacket 1 0x00 0x00 5))
+      (done 1 (ioPacket 1 0x08 0x03 5) (grantingIo 1 (ports 0x308 5 16) elevenManaged))
   -- "N10 register, deregister, register: handle 2."
   pub n10 : Exactly (Register (fresh 2) 0 clientPacket) (done 1 clientPacket oneClient)
       × Exactly (Deregister oneClient 1 []) (done 1 [] noClient)
       × Exactly (Register noClient 0 clientPacket) (done 2 clientPacket (registered noClient 4 0))
   -- "N11 N6's table before its grants, socket 0 with a card, packet 00 00 02 00 00 B0 28 00 becomes 00 00 02 00 03 B0 28 00; with D0 for B0,
   -- 00 00 02 01 03 D0 28 00."
-  pub n11 : Exactly (RequestIrq levels 1 (0x00 ∷ 0x00 ∷ 0x02 ∷ 0x00 ∷ 0x00 ∷ 0xB0 ∷ 0x28 ∷ 0x00 ∷ []))
-      (done 1 (0x00 ∷ 0x00 ∷ 0x02 ∷ 0x00 ∷ 0x03 ∷ 0xB0 ∷ 0x28 ∷ 0x00 ∷ []) (grantingIrq 0 3 DynamicLevel levels))
-      × Exactly (RequestIrq levels 1 (0x00 ∷ 0x00 ∷ 0x02 ∷ 0x00 ∷ 0x00 ∷ 0xD0 ∷ 0x28 ∷ 0x00 ∷ []))
-      (done 1 (0x00 ∷ 0x00 ∷ 0x02 ∷ 0x01 ∷ 0x03 ∷ 0xD0 ∷ 0x28 ∷ 0x00 ∷ []) (grantingIrq 0 3 DynamicPulse levels))
+  pub n11 : Exactly (RequestIrq twoLevels 1 (0x00 ∷ 0x00 ∷ 0x02 ∷ 0x00 ∷ 0x00 ∷ 0xB0 ∷ 0x28 ∷ 0x00 ∷ []))
+      (done 1 (0x00 ∷ 0x00 ∷ 0x02 ∷ 0x00 ∷ 0x03 ∷ 0xB0 ∷ 0x28 ∷ 0x00 ∷ []) (grantingIrq 0 3 DynamicLevel twoLevels))
+      × Exactly (RequestIrq twoLevels 1 (0x00 ∷ 0x00 ∷ 0x02 ∷ 0x00 ∷ 0x00 ∷ 0xD0 ∷ 0x28 ∷ 0x00 ∷ []))
+      (done 1 (0x00 ∷ 0x00 ∷ 0x02 ∷ 0x01 ∷ 0x03 ∷ 0xD0 ∷ 0x28 ∷ 0x00 ∷ []) (grantingIrq 0 3 DynamicPulse twoLevels))
   -- "N12 300, 16 managed and unheld, short First: 02 01 00 03 10 00 10, handle 0."
-  pub n12 : Exactly (AdjustResourceInfo unheld 1 firstPacket) (done 0 (0x02 ∷ 0x01 ∷ 0x00 ∷ 0x03 ∷ 0x10 ∷ 0x00 ∷ 0x10 ∷ []) unheld)
+  pub n12 : Exactly (AdjustResourceInfo unheldRange 1 firstPacket) (done 0 (0x02 ∷ 0x01 ∷ 0x00 ∷ 0x03 ∷ 0x10 ∷ 0x00 ∷ 0x10 ∷ []) unheldRange)

@@ -1,11 +1,12 @@
--- The refusal law: a permitted outcome whose code isn't Success answers 0 and keeps the packet and the facts; and no check gives Success. Assumes nothing.
+-- The refusal law: a permitted outcome whose code isn't Success answers 0 and keeps the packet and the facts; and no check gives Success. Assumes
+-- nothing.
 use mathlib.Core.Path.{_≡_, refl, ap}
 use mathlib.Core.Logic.{_⊎_, _≢_, _↔_, inl, inr}
 use mathlib.Core.List.{List, [], _∷_, _++_}
 use mathlib.Core.Bool.{Bool, true, false, cond}
-use Prim.Native.Nat.{ℕ, _+_, _*_, _≤_}
+use Prim.Native.Nat.{ℕ, zero, suc, _+_, _*_, _≤_}
 use native.Mathlib.Omega.{arith}
-use lib.ListN.{length, length-drop}
+use lib.ListN.{length, drop, length-drop}
 use lib.Dec.{T, eqb}
 use Rattle.facts.specs.declared.Code.{Code}
 use Rattle.facts.specs.declared.Code.the-variants.{Success}
@@ -13,51 +14,54 @@ use Rattle.facts.specs.Codes.{numberOf}
 use Rattle.facts.specs.Table
 use Rattle.facts.specs.Table.{Facts}
 use Rattle.facts.specs.Packets.{byte, long}
-use Rattle.facts.specs.Checks.{Check, Outcome, Refused, Passed, Kept, RuledThen, Ruled}
+use Rattle.facts.specs.Checks.{Check, Outcome, FirstGiven, Passed, RuledThen, Ruled, Rule}
+use Rattle.facts.specs.Laws.{RefusalKeeps}
 use Rattle.facts.specs.Clients.{registerChecks, deregisterChecks}
-use Rattle.facts.specs.Sockets.{CardTo, cardChecks, requestMaskChecks, releaseMaskChecks}
-use Rattle.facts.specs.Resources.{Width, AdjustIrq, AdjustIo, adjustChecks, actionOf, ioRange, addLevelChecks, removeLevelChecks, showLevelChecks}
-use Rattle.facts.specs.Resources.{addRangeChecks, removeRangeChecks, showRangeChecks, baseIn, countIn, attributesAt, linesAt}
-use Rattle.facts.specs.Irq.{Sharers, irqRequestChecks, irqReleaseChecks, sharersChecks}
+use Rattle.facts.specs.Sockets.{CardTo, CardOutcome, cardChecks, requestMaskChecks, releaseMaskChecks}
+use Rattle.facts.specs.Resources.{Width, ByAction, AdjustIrq, AdjustIo, AddLevel, RemoveLevel, ShowLevel, AddRange, RemoveRange, ShowRange}
+use Rattle.facts.specs.Resources.{actionOf, ioRange, levelGiven, levelAttributes, baseGiven, countGiven, attributesGiven, linesGiven}
+use Rattle.facts.specs.Resources.{adjustChecks, addLevelChecks, removeLevelChecks, showLevelChecks, addRangeChecks, removeRangeChecks}
+use Rattle.facts.specs.Resources.{showRangeChecks}
+use Rattle.facts.specs.Irq.{Sharers, Count, irqRequestChecks, irqReleaseChecks, sharersChecks}
 use Rattle.facts.specs.Io.{ioRequestChecks, ioReleaseChecks}
-use Rattle.facts.specs.Boot.{Boot, Booted, done, broken, refused, added, recordSize, recordChecks}
+use Rattle.facts.specs.Boot.{Boot, Booted, done, broken, refused, added, recordSize, recordChecks, recordsAdded, recordAdded}
 use Rattle.facts.specs.Services.{Service, registerClient, deregisterClient, adjustResourceInfo, requestIrq, releaseIrq, requestIo, releaseIo}
 use Rattle.facts.specs.Services.{requestSocketMask, releaseSocketMask, ruleOf, Call}
-use Rattle.facts.proofs.Unique.{refused-not-passed}
-
--- "a refusal answers 0"; "Every code but 00 leaves table and packet unchanged"
-abbrev pub Keeps : Facts → List ℕ → (Outcome → Type 0) → Type 0
-Keeps F p R = (o : Outcome) → R o → o .code ≢ Success → Kept F p o
+use Rattle.facts.proofs.Unique.{first-not-passed}
 
 module _ {F : Facts} {p : List ℕ} where
-  pub ruled-then-keeps : (cs : List Check) {rest : Outcome → Type 0} → Keeps F p rest → Keeps F p (RuledThen cs rest F p)
+  pub ruled-then-keeps : (cs : List Check) {rest : Outcome → Type 0} → RefusalKeeps F p rest → RefusalKeeps F p (RuledThen cs rest F p)
   ruled-then-keeps cs keeps o (inl r) ne = r .1
   ruled-then-keeps cs keeps o (inr r) ne = keeps o (r .1) ne
 
-  pub ruled-keeps : (cs : List Check) (D : Outcome → Type 0) → Keeps F p (Ruled cs D F p)
+  pub ruled-keeps : (cs : List Check) (D : Outcome → Type 0) → RefusalKeeps F p (Ruled cs D F p)
   ruled-keeps cs D = ruled-then-keeps cs (λ o d ne. absurd (ne (d .0)))
 
-  either-keeps : {R S : Outcome → Type 0} → Keeps F p R → Keeps F p S → Keeps F p (λ (o : Outcome). R o ⊎ S o)
+  either-keeps : {R S : Outcome → Type 0} → RefusalKeeps F p R → RefusalKeeps F p S → RefusalKeeps F p (λ (o : Outcome). R o ⊎ S o)
   either-keeps k l o (inl r) = k o r
   either-keeps k l o (inr r) = l o r
 
-  under-keeps : {A : Type 0} {R : Outcome → Type 0} → Keeps F p R → Keeps F p (λ (o : Outcome). A × R o)
+  under-keeps : {A : Type 0} {R : Outcome → Type 0} → RefusalKeeps F p R → RefusalKeeps F p (λ (o : Outcome). A × R o)
   under-keeps k o r = k o (r .1)
 
 module _ (F : Facts) (h : ℕ) (p : List ℕ) where
-  adjust-irq-keeps : Keeps F p (AdjustIrq F h p)
+  by-action-keeps : (A R S : Rule) → RefusalKeeps F p (A F h p) → RefusalKeeps F p (R F h p) → RefusalKeeps F p (S F h p)
+      → RefusalKeeps F p (ByAction A R S F h p)
+  by-action-keeps A R S k l m = either-keeps (under-keeps k) (either-keeps (under-keeps l) (under-keeps m))
+
+  adjust-irq-keeps : RefusalKeeps F p (AdjustIrq F h p)
   adjust-irq-keeps =
-      either-keeps (under-keeps (ruled-keeps (addLevelChecks F (byte p 3) (byte p 2)) _))
-      (either-keeps (under-keeps (ruled-keeps (removeLevelChecks F (byte p 3) (byte p 2)) _))
-      (under-keeps (ruled-keeps (showLevelChecks F (actionOf p) (byte p 3)) _)))
+      by-action-keeps AddLevel RemoveLevel ShowLevel (ruled-keeps (addLevelChecks F (levelGiven p) (levelAttributes p)) _)
+      (ruled-keeps (removeLevelChecks F (levelGiven p) (levelAttributes p)) _) (ruled-keeps (showLevelChecks F (actionOf p) (levelGiven p)) _)
 
-  adjust-io-keeps : (w : Width) → Keeps F p (AdjustIo w F h p)
+  adjust-io-keeps : (w : Width) → RefusalKeeps F p (AdjustIo w F h p)
   adjust-io-keeps w =
-      either-keeps (under-keeps (ruled-keeps (addRangeChecks F (baseIn w p) (countIn w p) (byte p (attributesAt w)) (byte p (linesAt w))) _))
-      (either-keeps (under-keeps (ruled-keeps (removeRangeChecks F (baseIn w p) (countIn w p) (byte p (attributesAt w)) (byte p (linesAt w))) _))
-      (under-keeps (ruled-keeps (showRangeChecks w F (actionOf p) (baseIn w p)) _)))
+      by-action-keeps (AddRange w) (RemoveRange w) (ShowRange w)
+      (ruled-keeps (addRangeChecks F (baseGiven w p) (countGiven w p) (attributesGiven w p) (linesGiven w p)) _)
+      (ruled-keeps (removeRangeChecks F (baseGiven w p) (countGiven w p) (attributesGiven w p) (linesGiven w p)) _)
+      (ruled-keeps (showRangeChecks w F (actionOf p) (baseGiven w p)) _)
 
-  pub refusal-keeps : (s : Service) → Keeps F p (ruleOf s F h p)
+  pub refusal-keeps : (s : Service) → RefusalKeeps F p (ruleOf s F h p)
   refusal-keeps registerClient = ruled-keeps (registerChecks F p) _
   refusal-keeps deregisterClient = ruled-keeps (deregisterChecks F h p) _
   refusal-keeps adjustResourceInfo =
@@ -69,24 +73,26 @@ module _ (F : Facts) (h : ℕ) (p : List ℕ) where
   refusal-keeps requestSocketMask = ruled-keeps (requestMaskChecks F h p) _
   refusal-keeps releaseSocketMask = ruled-keeps (releaseMaskChecks F h p) _
 
-  pub call-refusal-keeps : (built : Service → Bool) (number : ℕ) → Keeps F p (Call built number F h p)
+  pub call-refusal-keeps : (built : Service → Bool) (number : ℕ) → RefusalKeeps F p (Call built number F h p)
   call-refusal-keeps built number = either-keeps (λ o r. refusal-keeps (r .0 .service) o (r .1)) (λ o r ne. r .2)
 
-pub card-refusal-keeps : (present : Bool) (F : Facts) (s : ℕ) → Keeps F [] (CardTo present F s)
-card-refusal-keeps present F s = ruled-keeps (cardChecks F s) _
+pub card-refusal-keeps : (present : Bool) (F : Facts) (s : ℕ) (o : CardOutcome) → CardTo present F s o → o .code ≢ Success → o .facts ≡ F
+card-refusal-keeps present F s o (inl r) ne = r .1
+card-refusal-keeps present F s o (inr r) ne = absurd (ne (r .1 .0))
 
-pub sharers-refusal-keeps : (F : Facts) (l : ℕ) → Keeps F [] (Sharers F l)
-sharers-refusal-keeps F l = ruled-keeps (sharersChecks l) _
+pub sharers-refusal-zero : (F : Facts) (l : ℕ) (o : Count) → Sharers F l o → o .code ≢ Success → o .count ≡ 0
+sharers-refusal-zero F l o (inl r) ne = r .1
+sharers-refusal-zero F l o (inr r) ne = absurd (ne (r .1 .0))
 
 -- each check gives a code but 00: a computed test
 abbrev pub noSuccess : List Check → Bool
 noSuccess [] = true
 noSuccess (c ∷ cs) = cond (eqb (numberOf (c .code)) 0) false (noSuccess cs)
 
-pub refused-not-success : (cs : List Check) (k : Code) → T (noSuccess cs) → Refused cs k → k ≢ Success
-refused-not-success [] k t r e = r
-refused-not-success (c ∷ cs) k t (inl r) e = rw (← (r .1), e) at t
-refused-not-success (c ∷ cs) k t (inr r) e = refused-not-success cs k (rest (eqb (numberOf (c .code)) 0) t) (r .1) e
+pub first-not-success : (cs : List Check) (k : Code) → T (noSuccess cs) → FirstGiven cs k → k ≢ Success
+first-not-success [] k t r e = r
+first-not-success (c ∷ cs) k t (inl r) e = rw (← (r .1), e) at t
+first-not-success (c ∷ cs) k t (inr r) e = first-not-success cs k (rest (eqb (numberOf (c .code)) 0) t) (r .1) e
   where
     rest : (zero : Bool) → T (cond zero false (noSuccess cs)) → T (noSuccess cs)
     rest true t = absurd t
@@ -95,11 +101,11 @@ refused-not-success (c ∷ cs) k t (inr r) e = refused-not-success cs k (rest (e
 -- so it is done exactly where its checks pass
 module _ (cs : List Check) (t : T (noSuccess cs)) {F : Facts} {p : List ℕ} (D : Outcome → Type 0) (o : Outcome) where
   pub ruled-then-success : RuledThen cs D F p o → o .code ≡ Success → Passed cs × D o
-  ruled-then-success (inl r) e = absurd (refused-not-success cs (o .code) t (r .0) e)
+  ruled-then-success (inl r) e = absurd (first-not-success cs (o .code) t (r .0) e)
   ruled-then-success (inr r) e = r
 
   pub ruled-success : Ruled cs D F p o → (o .code ≡ Success) ↔ Passed cs
-  ruled-success (inl r) = (λ e. absurd (refused-not-success cs (o .code) t (r .0) e), λ passed. absurd (refused-not-passed cs (o .code) (r .0) passed))
+  ruled-success (inl r) = (λ e. absurd (first-not-success cs (o .code) t (r .0) e), λ passed. absurd (first-not-passed cs (o .code) (r .0) passed))
   ruled-success (inr r) = (λ e. r .0, λ passed. r .1 .0)
 
 -- no check of any rule gives Success
@@ -115,27 +121,33 @@ no-success F h p w x y a n = tt
 pub record-no-success : (F : Facts) (b : List ℕ) → T (noSuccess (recordChecks F b))
 record-no-success F b = go (eqb (byte b 0) ioRange)
   where
-    go : (io : Bool) → T (noSuccess (cond io (addRangeChecks F (long b 2) (long b 6) (byte b 1) Table.mostLines) (addLevelChecks F (long b 2) (byte b 1))))
+    go : (io : Bool) → T (noSuccess (cond io (addRangeChecks F (long b 2) (long b 6) (byte b 1) Table.mostLines)
+        (addLevelChecks F (long b 2) (byte b 1))))
     go true = tt
     go false = tt
 
--- the boot list: "earlier ones stay", and where none is earlier the facts are as before
-boot-place : (F : Facts) (b : List ℕ) (i : ℕ) (o : Booted) → Boot F b i o → i ≤ o .place
+stays : (F : Facts) (b : List ℕ) (i n : ℕ) → i ≡ i + n → F ≡ recordsAdded n F b
+stays F b i zero e = refl
+stays F b i (suc n) e = absurd (omega arith)
+
+-- the boot list: "earlier ones stay", and nothing else; its first record stands in the place i
+pub boot-place : (F : Facts) (b : List ℕ) (i : ℕ) (o : Booted) → Boot F b i o → i ≤ o .place
 boot-place F b i o done = omega arith
-boot-place F b i o (broken some few) = omega arith
+boot-place F b i o (broken one few) = omega arith
 boot-place F b i o (refused full r) = omega arith
 boot-place F b i o (added full passed r) = omega (arith, boot-place _ _ _ o r)
 
-pub boot-refusal-keeps : (F : Facts) (b : List ℕ) (i : ℕ) (o : Booted) → Boot F b i o → o .place ≡ i → o .facts ≡ F
-boot-refusal-keeps F b i o done e = refl
-boot-refusal-keeps F b i o (broken some few) e = refl
-boot-refusal-keeps F b i o (refused full r) e = refl
-boot-refusal-keeps F b i o (added full passed r) e = absurd (omega (arith, boot-place _ _ _ o r))
+pub boot-leaves : (F : Facts) (b : List ℕ) (i : ℕ) (o : Booted) (n : ℕ) → Boot F b i o → o .place ≡ i + n → o .facts ≡ recordsAdded n F b
+boot-leaves F b i o n done e = stays F b i n e
+boot-leaves F b i o n (broken one few) e = stays F b i n e
+boot-leaves F b i o n (refused full r) e = stays F b i n e
+boot-leaves F b i o zero (added full passed r) e = absurd (omega (arith, boot-place _ _ _ o r))
+boot-leaves F b i o (suc n) (added full passed r) e = boot-leaves (recordAdded F b) (drop recordSize b) (i + 1) o n r (omega arith)
 
 -- "Success answers the list's length in records"
 pub boot-success : (F : Facts) (b : List ℕ) (i : ℕ) (o : Booted) → Boot F b i o → o .code ≡ Success
     → i * recordSize + length b ≡ o .place * recordSize
 boot-success F b i o done e = omega arith
-boot-success F b i o (broken some few) e = absurd (omega (arith, ap numberOf e))
-boot-success F b i o (refused full r) e = absurd (refused-not-success (recordChecks F b) _ (record-no-success F b) r e)
+boot-success F b i o (broken one few) e = absurd (omega (arith, ap numberOf e))
+boot-success F b i o (refused full r) e = absurd (first-not-success (recordChecks F b) _ (record-no-success F b) r e)
 boot-success F b i o (added full passed r) e = omega (arith, boot-success _ _ _ o r e, length-drop recordSize b)

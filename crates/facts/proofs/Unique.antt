@@ -3,8 +3,8 @@ use mathlib.Core.Path.{_≡_, refl, sym, ap, ap₂, subst, _∙_}
 use mathlib.Core.Logic.{_⊎_, inl, inr, ⊎-elim}
 use mathlib.Core.List.{List, [], _∷_}
 use mathlib.Core.Bool.{Bool, false, cond}
+use mathlib.Core.Option.{some}
 use Prim.Native.Nat.{ℕ, _+_, _≤_, _<_}
-use native.Mathlib.Decide.{ℕ-discrete}
 use native.Mathlib.Omega.{arith}
 use lib.ListN.{length}
 use lib.Dec.{eqb}
@@ -12,39 +12,55 @@ use Rattle.facts.specs.declared.Code.{Code}
 use Rattle.facts.specs.Table.{Facts, Range}
 use Rattle.facts.specs.Sets.{_∈_}
 use Rattle.facts.specs.WellFormed.{Apart}
-use Rattle.facts.specs.Checks.{Check, Outcome, Refused, Passed, Kept, Done, RuledThen, Ruled}
+use Rattle.facts.specs.Checks.{Check, Outcome, FirstGiven, Passed, Kept, Leaves, DecidedThen, Decided, RuledThen, Ruled, Rule}
 use Rattle.facts.specs.Choice.{Before, Chosen, Lowest}
+use Rattle.facts.specs.Laws.{Coincide}
 use Rattle.facts.specs.Clients.{Register, Deregister, registerChecks, deregisterChecks}
-use Rattle.facts.specs.Sockets.{CardTo, RequestSocketMask, ReleaseSocketMask, cardChecks, requestMaskChecks, releaseMaskChecks}
-use Rattle.facts.specs.Resources.{Width, short, wide, sizeOf, AdjustIrq, AdjustIo, AdjustResourceInfo, RangeHeld, RangeHolder, RangeShown, RangeNext}
-use Rattle.facts.specs.Resources.{LevelHeld, LevelShown, LevelHolder, adjustChecks, actionOf, add, remove, first, next, addLevelChecks, removeLevelChecks}
-use Rattle.facts.specs.Resources.{showLevelChecks, addRangeChecks, removeRangeChecks, showRangeChecks, baseIn, countIn, attributesAt, linesAt}
+use Rattle.facts.specs.Sockets.{CardTo, CardOutcome, RequestSocketMask, ReleaseSocketMask, socketOf, cardChecks, requestMaskChecks}
+use Rattle.facts.specs.Sockets.{releaseMaskChecks}
+use Rattle.facts.specs.Resources.{Width, short, wide, ioAdjustLength, ByAction, AdjustIrq, AdjustIo, AdjustResourceInfo, AddLevel, RemoveLevel}
+use Rattle.facts.specs.Resources.{ShowLevel, AddRange, RemoveRange, ShowRange}
+use Rattle.facts.specs.Resources.{LevelHeld, LevelHolder, LevelShown, RangeHeld, RangeHolder, RangeShown, unheld, of-type, one-alone, all-share}
+use Rattle.facts.specs.Resources.{actionOf, first, next, levelGiven, levelAttributes, baseGiven, countGiven, attributesGiven, linesGiven}
+use Rattle.facts.specs.Resources.{adjustChecks, addLevelChecks, removeLevelChecks, showLevelChecks, addRangeChecks, removeRangeChecks}
+use Rattle.facts.specs.Resources.{showRangeChecks}
+use Rattle.facts.specs.Resources.{showingLevel, showingRange}
 use Rattle.facts.specs.Levels.{typeOf}
-use Rattle.facts.specs.Packets.{byte}
-use Rattle.facts.specs.Irq.{RequestIrq, ReleaseIrq, Sharers, irqRequestChecks, irqReleaseChecks, sharersChecks}
-use Rattle.facts.specs.Io.{RequestIo, ReleaseIo, BaseTaken, ioRequestChecks, ioReleaseChecks}
+use Rattle.facts.specs.Packets.{withWord}
+use Rattle.facts.specs.Irq.{RequestIrq, ReleaseIrq, Sharers, Count, irqRequestChecks, irqReleaseChecks, sharersChecks, irqGrant, assigning}
+use Rattle.facts.specs.Irq.{withIrq}
+use Rattle.facts.specs.Io.{RequestIo, ReleaseIo, BaseTaken, ioRequestChecks, ioReleaseChecks, ioGrant, withIo}
 use Rattle.facts.specs.Boot.{Boot, Booted, done, broken, refused, added, stopped, recordChecks}
 use Rattle.facts.specs.Services.{Service, registerClient, deregisterClient, adjustResourceInfo, requestIrq, releaseIrq, requestIo, releaseIo}
 use Rattle.facts.specs.Services.{requestSocketMask, releaseSocketMask, serviceNumber, ruleOf, Call}
 
--- "any two permitted outcomes coincide"
-abbrev pub Coincide : (Outcome → Type 0) → Type 0
-Coincide R = (o o′ : Outcome) → R o → R o′ → o ≡ o′
-
 -- the first check that applies is one, and where one applies they don't all pass
-pub refused-unique : (cs : List Check) (k k′ : Code) → Refused cs k → Refused cs k′ → k ≡ k′
-refused-unique [] k k′ r r′ = absurd r
-refused-unique (c ∷ cs) k k′ (inl r) (inl r′) = r .1 ∙ sym (r′ .1)
-refused-unique (c ∷ cs) k k′ (inl r) (inr r′) = absurd (r′ .0 (r .0))
-refused-unique (c ∷ cs) k k′ (inr r) (inl r′) = absurd (r .0 (r′ .0))
-refused-unique (c ∷ cs) k k′ (inr r) (inr r′) = refused-unique cs k k′ (r .1) (r′ .1)
+pub first-unique : (cs : List Check) (k k′ : Code) → FirstGiven cs k → FirstGiven cs k′ → k ≡ k′
+first-unique [] k k′ r r′ = absurd r
+first-unique (c ∷ cs) k k′ (inl r) (inl r′) = r .1 ∙ sym (r′ .1)
+first-unique (c ∷ cs) k k′ (inl r) (inr r′) = absurd (r′ .0 (r .0))
+first-unique (c ∷ cs) k k′ (inr r) (inl r′) = absurd (r .0 (r′ .0))
+first-unique (c ∷ cs) k k′ (inr r) (inr r′) = first-unique cs k k′ (r .1) (r′ .1)
 
-pub refused-not-passed : (cs : List Check) (k : Code) → Refused cs k → Passed cs → ⊥
-refused-not-passed [] k r p = r
-refused-not-passed (c ∷ cs) k (inl r) p = p .0 (r .0)
-refused-not-passed (c ∷ cs) k (inr r) p = refused-not-passed cs k (r .1) (p .1)
+pub first-not-passed : (cs : List Check) (k : Code) → FirstGiven cs k → Passed cs → ⊥
+first-not-passed [] k r p = r
+first-not-passed (c ∷ cs) k (inl r) p = p .0 (r .0)
+first-not-passed (c ∷ cs) k (inr r) p = first-not-passed cs k (r .1) (p .1)
 
--- all of an outcome but its code
+-- whatever kind of outcome has the code: any two that checks decide coincide, if any two kept do, and any two done
+module _ {O : Type 0} (code : O → Code) (cs : List Check) {kept : O → Type 0}
+    (kept-same : (o o′ : O) → code o ≡ code o′ → kept o → kept o′ → o ≡ o′) where
+  pub decided-then-coincide : {rest : O → Type 0} → Coincide rest → Coincide (λ (o : O). DecidedThen cs (code o) (kept o) (rest o))
+  decided-then-coincide u o o′ (inl r) (inl r′) = kept-same o o′ (first-unique cs (code o) (code o′) (r .0) (r′ .0)) (r .1) (r′ .1)
+  decided-then-coincide u o o′ (inl r) (inr r′) = absurd (first-not-passed cs (code o) (r .0) (r′ .0))
+  decided-then-coincide u o o′ (inr r) (inl r′) = absurd (first-not-passed cs (code o′) (r′ .0) (r .0))
+  decided-then-coincide u o o′ (inr r) (inr r′) = u o o′ (r .1) (r′ .1)
+
+  pub decided-coincide : {done : O → Type 0} → ((o o′ : O) → code o ≡ code o′ → done o → done o′ → o ≡ o′)
+      → Coincide (λ (o : O). Decided cs (code o) (kept o) (done o))
+  decided-coincide same = decided-then-coincide (λ o o′ d d′. same o o′ (d .0 ∙ sym (d′ .0)) (d .1) (d′ .1))
+
+-- all of a service's outcome but its code
 pub record Same (o o′ : Outcome) : Type 0 where
   pub handle : o .handle ≡ o′ .handle
   pub packet : o .packet ≡ o′ .packet
@@ -53,43 +69,23 @@ pub record Same (o o′ : Outcome) : Type 0 where
 coincide : {o o′ : Outcome} → o .code ≡ o′ .code → Same o o′ → o ≡ o′
 coincide e s = λ i. record { code = e i; handle = s .handle i; packet = s .packet i; facts = s .facts i }
 
-pub done-same : {h h′ : ℕ} {p p′ : List ℕ} {F F′ : Facts} {o o′ : Outcome} → h ≡ h′ → p ≡ p′ → F ≡ F′
-    → Done h p F o → Done h′ p′ F′ o′ → Same o o′
-done-same eh ep eF d d′ = record { handle = cc; packet = cc; facts = cc }
+pub leaves-same : {h h′ : ℕ} {p p′ : List ℕ} {F F′ : Facts} {o o′ : Outcome} → h ≡ h′ → p ≡ p′ → F ≡ F′
+    → Leaves h p F o → Leaves h′ p′ F′ o′ → Same o o′
+leaves-same eh ep eF d d′ = record { handle = cc; packet = cc; facts = cc }
 
 kept-same : {F : Facts} {p : List ℕ} {o o′ : Outcome} → Kept F p o → Kept F p o′ → Same o o′
 kept-same k k′ = record { handle = cc; packet = cc; facts = cc }
 
 module _ (cs : List Check) {F : Facts} {p : List ℕ} where
   pub ruled-then-coincide : {rest : Outcome → Type 0} → Coincide rest → Coincide (RuledThen cs rest F p)
-  ruled-then-coincide u o o′ (inl r) (inl r′) = coincide (refused-unique cs (o .code) (o′ .code) (r .0) (r′ .0)) (kept-same (r .1) (r′ .1))
-  ruled-then-coincide u o o′ (inl r) (inr r′) = absurd (refused-not-passed cs (o .code) (r .0) (r′ .0))
-  ruled-then-coincide u o o′ (inr r) (inl r′) = absurd (refused-not-passed cs (o′ .code) (r′ .0) (r .0))
-  ruled-then-coincide u o o′ (inr r) (inr r′) = u o o′ (r .1) (r′ .1)
+  ruled-then-coincide = decided-then-coincide (λ (o : Outcome). o .code) cs (λ o o′ e k k′. coincide e (kept-same k k′))
 
   pub ruled-coincide : {D : Outcome → Type 0} → ((o o′ : Outcome) → D o → D o′ → Same o o′) → Coincide (Ruled cs D F p)
   ruled-coincide same = ruled-then-coincide (λ o o′ d d′. coincide (d .0 ∙ sym (d′ .0)) (same o o′ (d .1) (d′ .1)))
 
-  -- what is done is fixed, or fixed by a choice of one number
-  pub done-coincide : {h : ℕ} {q : List ℕ} {G : Facts} → Coincide (Ruled cs (Done h q G) F p)
-  done-coincide = ruled-coincide (λ o o′. done-same refl refl refl)
-
-  pub taken-coincide : {Taken : ℕ → Type 0} {h : ℕ} {q : ℕ → List ℕ} {G : ℕ → Facts} → ((x y : ℕ) → Taken x → Taken y → x ≡ y)
-      → Coincide (Ruled cs (λ (o : Outcome). (x : ℕ) × Taken x × Done h (q x) (G x) o) F p)
-  taken-coincide {q = q} {G = G} unique =
-      ruled-coincide (λ o o′ d d′. let e = unique (d .0) (d′ .0) (d .1) (d′ .1) in done-same refl (ap q e) (ap G e) (d .2) (d′ .2))
-
-  -- or by an item, and what is shown of it
-  pub item-coincide : {X : Type 0} {Next : X → Type 0} {Shown : X → ℕ → ℕ → Type 0} {q : X → ℕ → List ℕ} {G : Facts}
-      → ((x y : X) → Next x → Next y → x ≡ y)
-      → ((x : X) (a a′ h h′ : ℕ) → Shown x a h → Shown x a′ h′ → (a ≡ a′) × (h ≡ h′))
-      → Coincide (Ruled cs (λ (o : Outcome). (x : X) × (a : ℕ) × (h : ℕ) × Next x × Shown x a h × Done h (q x a) G o) F p)
-  item-coincide {X} {Shown = Shown} {q = q} next-unique shown-unique =
-      ruled-coincide λ o o′ d d′.
-      let e = next-unique (d .0) (d′ .0) (d .3) (d′ .3) in
-      let s′ = subst (λ (x : X). Shown x (d′ .1) (d′ .2)) (sym e) (d′ .4) in
-      let s = shown-unique (d .0) (d .1) (d′ .1) (d .2) (d′ .2) (d .4) s′ in
-      done-same (s .1) (ap₂ q e (s .0)) refl (d .5) (d′ .5)
+  -- what is left is fixed
+  pub leaves-coincide : {h : ℕ} {q : List ℕ} {G : Facts} → Coincide (Ruled cs (Leaves h q G) F p)
+  leaves-coincide = ruled-coincide (λ o o′. leaves-same refl refl refl)
 
 -- two rules of which no two outcomes are both permitted
 pub either-coincide : {R S : Outcome → Type 0} → ((o o′ : Outcome) → R o → S o′ → ⊥) → Coincide R → Coincide S
@@ -103,25 +99,17 @@ pub under-coincide : {A : Type 0} {R : Outcome → Type 0} → Coincide R → Co
 under-coincide u o o′ r r′ = u o o′ (r .1) (r′ .1)
 
 -- the choices
-before-both : (Late : ℕ → Type 0) (x y : ℕ) → Before Late x y → Before Late y x → x ≡ y
-before-both Late x y (inl b) (inl b′) = absurd (b .0 (b′ .1))
-before-both Late x y (inl b) (inr b′) = absurd (b .0 (b′ .0 .0 (b .1)))
-before-both Late x y (inr b) (inl b′) = absurd (b′ .0 (b .0 .0 (b′ .1)))
-before-both Late x y (inr b) (inr b′) = omega arith
+before-both : (Early : ℕ → Type 0) (x y : ℕ) → Before Early x y → Before Early y x → x ≡ y
+before-both Early x y (inl b) (inl b′) = absurd (b .1 (b′ .0))
+before-both Early x y (inl b) (inr b′) = absurd (b .1 (b′ .0 .1 (b .0)))
+before-both Early x y (inr b) (inl b′) = absurd (b′ .1 (b .0 .1 (b′ .0)))
+before-both Early x y (inr b) (inr b′) = omega arith
 
-pub chosen-unique : {Fit Late : ℕ → Type 0} {x y : ℕ} → Chosen Fit Late x → Chosen Fit Late y → x ≡ y
-chosen-unique {Fit} {Late} {x} {y} c d = before-both Late x y (c .first y (d .fits)) (d .first x (c .fits))
+pub chosen-unique : {Fit Early : ℕ → Type 0} {x y : ℕ} → Chosen Fit Early x → Chosen Fit Early y → x ≡ y
+chosen-unique {Fit} {Early} {x} {y} c d = before-both Early x y (c .first y (d .fits)) (d .first x (c .fits))
 
 pub lowest-unique : {Fit : ℕ → Type 0} {x y : ℕ} → Lowest Fit x → Lowest Fit y → x ≡ y
 lowest-unique {Fit} {x} {y} c d = omega (arith, c .least y (d .fits), d .least x (c .fits))
-
--- an equation of numbers may be shown by cases, decided or not
-pub by-cases : (A : Type 0) {m n : ℕ} → (A → m ≡ n) → ((A → ⊥) → m ≡ n) → m ≡ n
-by-cases A {m} {n} f g = go (ℕ-discrete m n)
-  where
-    go : Dec (m ≡ n) → m ≡ n
-    go (yes e) = e
-    go (no ne) = g (λ a. ne (f a))
 
 -- the base that is taken is one
 base-taken-unique : (F : Facts) (p : List ℕ) (x y : ℕ) → BaseTaken F p x → BaseTaken F p y → x ≡ y
@@ -144,31 +132,36 @@ range-unique lo (x ∷ xs) r r′ a (inr i) (inl i′) e = absurd (omega (arith,
 range-unique lo (x ∷ xs) r r′ a (inr i) (inr i′) e = range-unique (x .base + x .count) xs r r′ (a .2) i i′ e
 
 -- what First and Next show of a range or of a level is one
+alone-held : {F : Facts} {r : Range} (h : ℕ) → RangeHolder F r h false → RangeHeld F r
+alone-held h k = record { client = h; shares = false; holder = k }
+
 range-shown-unique : (F : Facts) (r : Range) (a a′ h h′ : ℕ) → RangeShown F r a h → RangeShown F r a′ h′ → (a ≡ a′) × (h ≡ h′)
-range-shown-unique F r a a′ h h′ s s′ = (
-  by-cases (RangeHeld F r)
-      (λ held. by-cases ((x : ℕ) × RangeHolder F r x false) (λ y. s .one-alone (y .0) (y .1) ∙ sym (s′ .one-alone (y .0) (y .1)))
-      (λ all. s .all-share held (λ x y. all (x, y)) ∙ sym (s′ .all-share held (λ x y. all (x, y)))))
-      (λ free. s .free free .0 ∙ sym (s′ .free free .0)),
-  by-cases (RangeHeld F r) (λ held. lowest-unique (s .held held) (s′ .held held)) (λ free. s .free free .1 ∙ sym (s′ .free free .1)),
-)
+range-shown-unique F r a a′ h h′ (unheld n e z) (unheld n′ e′ z′) = (e ∙ sym e′, z ∙ sym z′)
+range-shown-unique F r a a′ h h′ (unheld n e z) (one-alone x k e′ l) = absurd (n (alone-held x k))
+range-shown-unique F r a a′ h h′ (unheld n e z) (all-share k s e′ l) = absurd (n k)
+range-shown-unique F r a a′ h h′ (one-alone x k e l) (unheld n e′ z) = absurd (n (alone-held x k))
+range-shown-unique F r a a′ h h′ (one-alone x k e l) (one-alone x′ k′ e′ l′) = (e ∙ sym e′, lowest-unique l l′)
+range-shown-unique F r a a′ h h′ (one-alone x k e l) (all-share k′ s e′ l′) = absurd (s x k)
+range-shown-unique F r a a′ h h′ (all-share k s e l) (unheld n e′ z) = absurd (n k)
+range-shown-unique F r a a′ h h′ (all-share k s e l) (one-alone x k′ e′ l′) = absurd (s x k′)
+range-shown-unique F r a a′ h h′ (all-share k s e l) (all-share k′ s′ e′ l′) = (e ∙ sym e′, lowest-unique l l′)
 
 holder : {F : Facts} {l : ℕ} (k : LevelHeld F l) → LevelHolder F l (k .grant .client) (typeOf (k .grant .manner))
 holder k = record { socket = k .socket; grant = k .grant; holds = k .holds; client = refl; type = refl }
 
 level-shown-unique : (F : Facts) (l a a′ h h′ : ℕ) → LevelShown F l a h → LevelShown F l a′ h′ → (a ≡ a′) × (h ≡ h′)
-level-shown-unique F l a a′ h h′ s s′ = (
-  by-cases (LevelHeld F l) (λ held. s .type _ _ (holder held) ∙ sym (s′ .type _ _ (holder held))) (λ free. s .free free .0 ∙ sym (s′ .free free .0)),
-  by-cases (LevelHeld F l) (λ held. lowest-unique (s .held held) (s′ .held held)) (λ free. s .free free .1 ∙ sym (s′ .free free .1)),
-)
+level-shown-unique F l a a′ h h′ (unheld n e z) (unheld n′ e′ z′) = (e ∙ sym e′, z ∙ sym z′)
+level-shown-unique F l a a′ h h′ (unheld n e z) (of-type k t s) = absurd (n k)
+level-shown-unique F l a a′ h h′ (of-type k t s) (unheld n e z) = absurd (n k)
+level-shown-unique F l a a′ h h′ (of-type k t s) (of-type k′ t′ s′) = (t _ _ (holder k) ∙ sym (t′ _ _ (holder k)), lowest-unique s s′)
 
 -- the actions differ
 listed-apart : {n k : ℕ} → n ≡ k → k < first → (n ≡ first) ⊎ (n ≡ next) → ⊥
 listed-apart e below = ⊎-elim (λ e′. omega arith) (λ e′. omega arith)
 
-by-action : (n : ℕ) {R S T : Outcome → Type 0} → Coincide R → Coincide S → Coincide T
-    → Coincide (λ (o : Outcome). ((n ≡ add) × R o) ⊎ ((n ≡ remove) × S o) ⊎ (((n ≡ first) ⊎ (n ≡ next)) × T o))
-by-action n u v w =
+by-action : (A R S : Rule) (F : Facts) (h : ℕ) (p : List ℕ) → Coincide (A F h p) → Coincide (R F h p) → Coincide (S F h p)
+    → Coincide (ByAction A R S F h p)
+by-action A R S F h p u v w =
     either-coincide (λ o o′ a. ⊎-elim (λ b. omega (arith, a .0, b .0)) (λ c. listed-apart (a .0) (omega arith) (c .0))) (under-coincide u)
     (either-coincide (λ o o′ b c. listed-apart (b .0) (omega arith) (c .0)) (under-coincide v) (under-coincide w))
 
@@ -179,7 +172,9 @@ found n (s ∷ ss) = cond (eqb (serviceNumber s) n) s (found n ss)
 
 abbrev services : List Service
 services =
-    registerClient ∷ deregisterClient ∷ adjustResourceInfo ∷ requestIrq ∷ releaseIrq ∷ requestIo ∷ releaseIo ∷ requestSocketMask ∷ releaseSocketMask ∷ []
+    registerClient ∷ deregisterClient ∷ adjustResourceInfo ∷ requestIrq ∷ releaseIrq ∷ requestIo ∷ releaseIo ∷ requestSocketMask
+    ∷ releaseSocketMask
+    ∷ []
 
 found-again : (s : Service) → found (serviceNumber s) services ≡ s
 found-again registerClient = refl
@@ -197,56 +192,76 @@ number-injective s t e = sym (found-again s) ∙ ap (λ (n : ℕ). found n servi
 
 -- the nine services: AdjustResourceInfo where the ranges are apart, the others for any facts
 module _ (F : Facts) (h : ℕ) (p : List ℕ) where
-  adjust-irq-coincide : Coincide (AdjustIrq F h p)
-  adjust-irq-coincide =
-      by-action (actionOf p) (done-coincide (addLevelChecks F (byte p 3) (byte p 2))) (done-coincide (removeLevelChecks F (byte p 3) (byte p 2)))
-      (item-coincide (showLevelChecks F (actionOf p) (byte p 3)) (λ x y. lowest-unique) (level-shown-unique F))
+  show-level-unique : Coincide (ShowLevel F h p)
+  show-level-unique =
+      ruled-coincide (showLevelChecks F (actionOf p) (levelGiven p)) λ o o′ d d′.
+      let e = lowest-unique (d .next-is) (d′ .next-is) in
+      let s = subst (λ (l : ℕ). LevelShown F l (d′ .attributes) (d′ .handle)) (sym e) (d′ .shown) in
+      let same = level-shown-unique F (d .level) _ _ _ _ (d .shown) s in
+      leaves-same (same .1) (ap₂ (showingLevel p) e (same .0)) refl (d .leaves) (d′ .leaves)
+
+  adjust-irq-unique : Coincide (AdjustIrq F h p)
+  adjust-irq-unique =
+      by-action AddLevel RemoveLevel ShowLevel F h p (leaves-coincide (addLevelChecks F (levelGiven p) (levelAttributes p)))
+      (leaves-coincide (removeLevelChecks F (levelGiven p) (levelAttributes p))) show-level-unique
 
   module _ (apart : Apart 0 (F .ranges)) where
-    next-unique : (w : Width) (r r′ : Range) → RangeNext F (actionOf p) (baseIn w p) r → RangeNext F (actionOf p) (baseIn w p) r′ → r ≡ r′
-    next-unique w r r′ n n′ = range-unique 0 (F .ranges) r r′ apart (n .0) (n′ .0) (lowest-unique (n .1) (n′ .1))
+    show-range-unique : (w : Width) → Coincide (ShowRange w F h p)
+    show-range-unique w =
+        ruled-coincide (showRangeChecks w F (actionOf p) (baseGiven w p)) λ o o′ d d′.
+        let base = lowest-unique (d .next-is .1) (d′ .next-is .1) in
+        let e = range-unique 0 (F .ranges) (d .range) (d′ .range) apart (d .next-is .0) (d′ .next-is .0) base in
+        let s = subst (λ (r : Range). RangeShown F r (d′ .attributes) (d′ .handle)) (sym e) (d′ .shown) in
+        let same = range-shown-unique F (d .range) _ _ _ _ (d .shown) s in
+        leaves-same (same .1) (ap₂ (showingRange w p) e (same .0)) refl (d .leaves) (d′ .leaves)
 
-    adjust-io-coincide : (w : Width) → Coincide (AdjustIo w F h p)
-    adjust-io-coincide w =
-        by-action (actionOf p) (done-coincide (addRangeChecks F (baseIn w p) (countIn w p) (byte p (attributesAt w)) (byte p (linesAt w))))
-        (done-coincide (removeRangeChecks F (baseIn w p) (countIn w p) (byte p (attributesAt w)) (byte p (linesAt w))))
-        (item-coincide (showRangeChecks w F (actionOf p) (baseIn w p)) (next-unique w) (range-shown-unique F))
+    adjust-io-unique : (w : Width) → Coincide (AdjustIo w F h p)
+    adjust-io-unique w =
+        by-action (AddRange w) (RemoveRange w) (ShowRange w) F h p
+        (leaves-coincide (addRangeChecks F (baseGiven w p) (countGiven w p) (attributesGiven w p) (linesGiven w p)))
+        (leaves-coincide (removeRangeChecks F (baseGiven w p) (countGiven w p) (attributesGiven w p) (linesGiven w p))) (show-range-unique w)
 
-    at-width : Coincide (λ (o : Outcome). (w : Width) × (length p ≡ sizeOf w) × AdjustIo w F h p o)
-    at-width o o′ (short, e, r) (short, e′, r′) = adjust-io-coincide short o o′ r r′
+    at-width : Coincide (λ (o : Outcome). (w : Width) × (length p ≡ ioAdjustLength w) × AdjustIo w F h p o)
+    at-width o o′ (short, e, r) (short, e′, r′) = adjust-io-unique short o o′ r r′
     at-width o o′ (short, e, r) (wide, e′, r′) = absurd (omega arith)
     at-width o o′ (wide, e, r) (short, e′, r′) = absurd (omega arith)
-    at-width o o′ (wide, e, r) (wide, e′, r′) = adjust-io-coincide wide o o′ r r′
+    at-width o o′ (wide, e, r) (wide, e′, r′) = adjust-io-unique wide o o′ r r′
 
     pub adjust-unique : Coincide (AdjustResourceInfo F h p)
     adjust-unique =
         ruled-then-coincide (adjustChecks p)
-        (either-coincide (λ o o′ a b. omega (arith, a .0, b .0)) (under-coincide adjust-irq-coincide)
+        (either-coincide (λ o o′ a b. omega (arith, a .0, b .0)) (under-coincide adjust-irq-unique)
         (λ o o′ r r′. at-width o o′ (r .1, r .2, r .3) (r′ .1, r′ .2, r′ .3)))
 
   pub register-unique : Coincide (Register F h p)
-  register-unique = done-coincide (registerChecks F p)
+  register-unique = leaves-coincide (registerChecks F p)
 
   pub deregister-unique : Coincide (Deregister F h p)
-  deregister-unique = done-coincide (deregisterChecks F h p)
+  deregister-unique = leaves-coincide (deregisterChecks F h p)
 
   pub request-irq-unique : Coincide (RequestIrq F h p)
-  request-irq-unique = taken-coincide (irqRequestChecks F h p) (λ x y. chosen-unique)
+  request-irq-unique =
+      ruled-coincide (irqRequestChecks F h p) λ o o′ d d′.
+      let e = chosen-unique (d .taken) (d′ .taken) in
+      leaves-same refl (ap (assigning p) e) (ap (λ (l : ℕ). withIrq F (socketOf p) (some (irqGrant h p l))) e) (d .leaves) (d′ .leaves)
 
   pub release-irq-unique : Coincide (ReleaseIrq F h p)
-  release-irq-unique = done-coincide (irqReleaseChecks F h p)
+  release-irq-unique = leaves-coincide (irqReleaseChecks F h p)
 
   pub request-io-unique : Coincide (RequestIo F h p)
-  request-io-unique = taken-coincide (ioRequestChecks F h p) (base-taken-unique F p)
+  request-io-unique =
+      ruled-coincide (ioRequestChecks F h p) λ o o′ d d′.
+      let e = base-taken-unique F p (d .base) (d′ .base) (d .taken) (d′ .taken) in
+      leaves-same refl (ap (withWord p 2) e) (ap (λ (b : ℕ). withIo F (socketOf p) (some (ioGrant h p b))) e) (d .leaves) (d′ .leaves)
 
   pub release-io-unique : Coincide (ReleaseIo F h p)
-  release-io-unique = done-coincide (ioReleaseChecks F h p)
+  release-io-unique = leaves-coincide (ioReleaseChecks F h p)
 
   pub request-mask-unique : Coincide (RequestSocketMask F h p)
-  request-mask-unique = done-coincide (requestMaskChecks F h p)
+  request-mask-unique = leaves-coincide (requestMaskChecks F h p)
 
   pub release-mask-unique : Coincide (ReleaseSocketMask F h p)
-  release-mask-unique = done-coincide (releaseMaskChecks F h p)
+  release-mask-unique = leaves-coincide (releaseMaskChecks F h p)
 
   pub service-unique : Apart 0 (F .ranges) → (s : Service) → Coincide (ruleOf s F h p)
   service-unique apart registerClient = register-unique
@@ -269,25 +284,33 @@ module _ (F : Facts) (h : ℕ) (p : List ℕ) where
 
 -- the host's calls
 pub card-unique : (present : Bool) (F : Facts) (s : ℕ) → Coincide (CardTo present F s)
-card-unique present F s = done-coincide (cardChecks F s)
+card-unique present F s =
+    decided-coincide (λ (o : CardOutcome). o .code) (cardChecks F s) (λ o o′ e k k′. same e (k ∙ sym k′)) (λ o o′ e d d′. same e (d ∙ sym d′))
+  where
+    same : {o o′ : CardOutcome} → o .code ≡ o′ .code → o .facts ≡ o′ .facts → o ≡ o′
+    same e f = λ i. record { code = e i; facts = f i }
 
 pub sharers-unique : (F : Facts) (l : ℕ) → Coincide (Sharers F l)
-sharers-unique F l = done-coincide (sharersChecks l)
+sharers-unique F l =
+    decided-coincide (λ (o : Count). o .code) (sharersChecks l) (λ o o′ e k k′. same e (k ∙ sym k′)) (λ o o′ e d d′. same e (d ∙ sym d′))
+  where
+    same : {o o′ : Count} → o .code ≡ o′ .code → o .count ≡ o′ .count → o ≡ o′
+    same e f = λ i. record { code = e i; count = f i }
 
 pub boot-unique : (F : Facts) (b : List ℕ) (i : ℕ) (o o′ : Booted) → Boot F b i o → Boot F b i o′ → o ≡ o′
 boot-unique F b i o o′ done done = refl
-boot-unique F b i o o′ done (broken some few) = absurd (omega arith)
+boot-unique F b i o o′ done (broken one few) = absurd (omega arith)
 boot-unique F b i o o′ done (refused full r) = absurd (omega arith)
 boot-unique F b i o o′ done (added full p r) = absurd (omega arith)
-boot-unique F b i o o′ (broken some few) done = absurd (omega arith)
-boot-unique F b i o o′ (broken some few) (broken some′ few′) = refl
-boot-unique F b i o o′ (broken some few) (refused full′ r′) = absurd (omega arith)
-boot-unique F b i o o′ (broken some few) (added full′ p′ r′) = absurd (omega arith)
+boot-unique F b i o o′ (broken one few) done = absurd (omega arith)
+boot-unique F b i o o′ (broken one few) (broken one′ few′) = refl
+boot-unique F b i o o′ (broken one few) (refused full′ r′) = absurd (omega arith)
+boot-unique F b i o o′ (broken one few) (added full′ p′ r′) = absurd (omega arith)
 boot-unique F b i o o′ (refused full r) done = absurd (omega arith)
-boot-unique F b i o o′ (refused full r) (broken some′ few′) = absurd (omega arith)
-boot-unique F b i o o′ (refused full r) (refused full′ r′) = ap (λ (k : Code). stopped i k F) (refused-unique (recordChecks F b) _ _ r r′)
-boot-unique F b i o o′ (refused full r) (added full′ p′ r′) = absurd (refused-not-passed (recordChecks F b) _ r p′)
+boot-unique F b i o o′ (refused full r) (broken one′ few′) = absurd (omega arith)
+boot-unique F b i o o′ (refused full r) (refused full′ r′) = ap (λ (k : Code). stopped i k F) (first-unique (recordChecks F b) _ _ r r′)
+boot-unique F b i o o′ (refused full r) (added full′ p′ r′) = absurd (first-not-passed (recordChecks F b) _ r p′)
 boot-unique F b i o o′ (added full p r) done = absurd (omega arith)
-boot-unique F b i o o′ (added full p r) (broken some′ few′) = absurd (omega arith)
-boot-unique F b i o o′ (added full p r) (refused full′ r′) = absurd (refused-not-passed (recordChecks F b) _ r′ p)
+boot-unique F b i o o′ (added full p r) (broken one′ few′) = absurd (omega arith)
+boot-unique F b i o o′ (added full p r) (refused full′ r′) = absurd (first-not-passed (recordChecks F b) _ r′ p)
 boot-unique F b i o o′ (added full p r) (added full′ p′ r′) = boot-unique _ _ _ o o′ r r′

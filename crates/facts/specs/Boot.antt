@@ -1,7 +1,7 @@
 -- The boot list: "a lent slice of resource records, added in order". Assumes nothing.
 use mathlib.Core.List.{List, []}
 use mathlib.Core.Bool.{cond}
-use Prim.Native.Nat.{ℕ, _+_, _≤_, _<_}
+use Prim.Native.Nat.{ℕ, zero, suc, _+_, _≤_, _<_}
 use lib.ListN.{length, drop}
 use lib.Dec.{eqb}
 use Rattle.facts.specs.declared.Code.{Code}
@@ -9,14 +9,15 @@ use Rattle.facts.specs.declared.Code.the-variants.{Success, BadArgLength
 use Rattle.facts.specs.Table
 use Rattle.facts.specs.Table.{Facts}
 use Rattle.facts.specs.Packets.{byte, long}
-use Rattle.facts.specs.Checks.{Check, Refused, Passed}
+use Rattle.facts.specs.Checks.{Check, FirstGiven, Passed}
 use Rattle.facts.specs.Resources.{ioRange, resourceChecks, addLevelChecks, addRangeChecks, levelAdded, rangeAdded}
 
 -- "A record has a resource type and attributes of one byte, a base or level and a port count of four"
 abbrev pub recordSize : ℕ
 recordSize = 10
 
--- "it gets the code that Add's rules give those values, I/O in the long form with lines 16, IRQ without the count": of the record at the head of the bytes
+-- "it gets the code that Add's rules give those values, I/O in the long form with lines 16, IRQ without the count": of the record at the head of the
+-- bytes
 abbrev pub recordChecks : Facts → List ℕ → List Check
 recordChecks F b =
     resourceChecks (byte b 0)
@@ -25,6 +26,11 @@ recordChecks F b =
 abbrev pub recordAdded : Facts → List ℕ → Facts
 recordAdded F b =
     cond (eqb (byte b 0) ioRange) (rangeAdded F (long b 2) (long b 6) (byte b 1)) (levelAdded F (long b 2) (byte b 1))
+
+-- the first n records of the bytes, added in order, each to what those before it left
+abbrev pub recordsAdded : ℕ → Facts → List ℕ → Facts
+recordsAdded zero F b = F
+recordsAdded (suc n) F b = recordsAdded n (recordAdded F b) (drop recordSize b)
 
 -- what a boot list answers and leaves
 pub record Booted : Type 0 where
@@ -35,11 +41,12 @@ pub record Booted : Type 0 where
 abbrev pub stopped : ℕ → Code → Facts → Booted
 stopped i k F = record { place = i; code = k; facts = F }
 
--- "it stops at the first refused, answers its place (from 0) and code, and earlier ones stay"; "Success answers the list's length in records; bytes too few
--- for a record at the end are refused at its place with BAD_ARG_LENGTH". Boot F b i o: from the facts F, the bytes b whose first record is the ith give o.
+-- "it stops at the first refused, answers its place (from 0) and code, and earlier ones stay"; "Success answers the list's length in records; bytes
+-- too few for a record at the end are refused at its place with BAD_ARG_LENGTH". Boot F b i o: from the facts F, the bytes b whose first record is
+-- the ith give o.
 pub data Boot : Facts → List ℕ → ℕ → Booted → Type 0 where
   done : {F : Facts} {i : ℕ} → Boot F [] i (stopped i Success F)
   broken : {F : Facts} {b : List ℕ} {i : ℕ} → 1 ≤ length b → length b < recordSize → Boot F b i (stopped i BadArgLength F)
-  refused : {F : Facts} {b : List ℕ} {i : ℕ} {k : Code} → recordSize ≤ length b → Refused (recordChecks F b) k → Boot F b i (stopped i k F)
+  refused : {F : Facts} {b : List ℕ} {i : ℕ} {k : Code} → recordSize ≤ length b → FirstGiven (recordChecks F b) k → Boot F b i (stopped i k F)
   added : {F : Facts} {b : List ℕ} {i : ℕ} {o : Booted} → recordSize ≤ length b → Passed (recordChecks F b)
       → Boot (recordAdded F b) (drop recordSize b) (i + 1) o → Boot F b i o

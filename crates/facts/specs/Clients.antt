@@ -2,18 +2,16 @@
 use mathlib.Core.Path.{_≡_}
 use mathlib.Core.Logic.{_⊎_, _≢_}
 use mathlib.Core.List.{List, [], _∷_, _++_}
-use mathlib.Core.Bool.{cond}
 use mathlib.Core.Option.{none, some}
 use Prim.Native.Nat.{ℕ, _+_, _≤_}
 use lib.ListN.{length}
-use lib.Dec.{eqb}
 use Rattle.facts.specs.declared.Code.the-variants.{BadAttribute, BadArgLength, InUse, OutOfResource, BadHandle}
 use Rattle.facts.specs.Table
 use Rattle.facts.specs.Table.{Facts, Client, IoGrant, IrqGrant}
-use Rattle.facts.specs.Sets.{_∈_}
+use Rattle.facts.specs.Sets.{_∈_, without}
 use Rattle.facts.specs.WellFormed.{Live, AttributesAllowed, EventsAllowed}
 use Rattle.facts.specs.Packets.{word}
-use Rattle.facts.specs.Checks.{Check, _gives_, Done, Ruled, Rule}
+use Rattle.facts.specs.Checks.{Check, _gives_, Leaves, Ruled, Rule}
 
 abbrev pub withClients : Facts → List Client → Facts
 withClients F cs =
@@ -24,17 +22,21 @@ abbrev pub nextHandle : Facts → ℕ
 nextHandle F = F .issued + 1
 
 -- the packet of RegisterClient (5.37): attributes 2 bytes at 0, event mask 2 bytes at 2
-abbrev pub registerSize : ℕ
-registerSize = 14
+abbrev pub registerLength : ℕ
+registerLength = 14
 
--- the new client stands last, its handle the next one; it holds no socket mask yet
+-- the new client: its handle is the next one, and it holds no socket mask yet
+abbrev pub newClient : Facts → ℕ → ℕ → Client
+newClient F attributes events = record { handle = nextHandle F; attributes = attributes; events = events; mask = λ s. none }
+
+-- it stands last
 abbrev pub registered : Facts → ℕ → ℕ → Facts
 registered F attributes events =
     record {
       sockets = F .sockets;
       card = F .card;
       issued = nextHandle F;
-      clients = F .clients ++ (record { handle = nextHandle F; attributes = attributes; events = events; mask = λ s. none } ∷ []);
+      clients = F .clients ++ (newClient F attributes events ∷ []);
       level = F .level;
       ranges = F .ranges;
       io = F .io;
@@ -42,22 +44,22 @@ registered F attributes events =
     }
 
 -- "RegisterClient doesn't look at the given handle, and answers the new one. Attribute bits or client types that 5.37 doesn't allow: BAD_ATTRIBUTE;
--- fields after the event mask are ignored. Event mask bits 12 to 15 set: BAD_ATTRIBUTE. OUT_OF_RESOURCE exactly if 16 are live or 65,535 were issued."
+-- fields after the event mask are ignored. Event mask bits 12 to 15 set: BAD_ATTRIBUTE. OUT_OF_RESOURCE exactly if 16 are live or 65,535 were
+-- issued."
 abbrev pub registerChecks : Facts → List ℕ → List Check
 registerChecks F p =
-    ((length p ≢ registerSize) gives BadArgLength)
+    ((length p ≢ registerLength) gives BadArgLength)
     ∷ ((AttributesAllowed (word p 0) → ⊥) gives BadAttribute)
     ∷ ((EventsAllowed (word p 2) → ⊥) gives BadAttribute)
     ∷ (((Table.mostClients ≤ length (F .clients)) ⊎ (Table.mostIssued ≤ F .issued)) gives OutOfResource)
     ∷ []
 
 abbrev pub Register : Rule
-Register F h p = Ruled (registerChecks F p) (Done (nextHandle F) p (registered F (word p 0) (word p 2))) F p
+Register F h p = Ruled (registerChecks F p) (Leaves (nextHandle F) p (registered F (word p 0) (word p 2))) F p
 
 -- the clients but the one whose handle is h
-abbrev pub without : ℕ → List Client → List Client
-without h [] = []
-without h (c ∷ cs) = cond (eqb (c .handle) h) cs (c ∷ without h cs)
+abbrev pub withoutClient : ℕ → List Client → List Client
+withoutClient = without (λ (c : Client). c .handle)
 
 -- what a client holds
 pub record HoldsIo (F : Facts) (h : ℕ) : Type 0 where
@@ -82,13 +84,17 @@ pub record Masks (F : Facts) (h s m : ℕ) : Type 0 where
 abbrev pub HoldsMask : Facts → ℕ → Type 0
 HoldsMask F h = (s : ℕ) × (m : ℕ) × Masks F h s m
 
+-- the packet of DeregisterClient (5.8) is empty
+abbrev pub deregisterLength : ℕ
+deregisterLength = 0
+
 -- "DeregisterClient takes an empty packet and is refused with IN_USE exactly while the client holds an I/O grant, an IRQ grant or a socket mask."
 abbrev pub deregisterChecks : Facts → ℕ → List ℕ → List Check
 deregisterChecks F h p =
-    ((length p ≢ 0) gives BadArgLength)
+    ((length p ≢ deregisterLength) gives BadArgLength)
     ∷ ((Live F h → ⊥) gives BadHandle)
     ∷ ((HoldsIo F h ⊎ HoldsIrq F h ⊎ HoldsMask F h) gives InUse)
     ∷ []
 
 abbrev pub Deregister : Rule
-Deregister F h p = Ruled (deregisterChecks F h p) (Done h p (withClients F (without h (F .clients)))) F p
+Deregister F h p = Ruled (deregisterChecks F h p) (Leaves h p (withClients F (withoutClient h (F .clients)))) F p

@@ -1,7 +1,8 @@
 -- The fifteen codes and their numbers (chapter 8 of the volume). Assumes nothing.
 use Prim.Native.Nat.{ℕ}
 use Rattle.facts.specs.declared.Code.{Code}
-use Rattle.facts.specs.declared.Code.the-variants.{Success, BadAttribute, BadBase, BadIrq, BadSize, BadSocket, NoCard, UnsupportedService, GeneralFailure, BadArgLength, BadArgs, InUse, NoMoreItems, OutOfResource, BadHandle}
+use Rattle.facts.specs.declared.Code.the-variants.{Success, BadAttribute, BadBase, BadIrq, BadSize, BadSocket, NoCard, UnsupportedService}
+use Rattle.facts.specs.declared.Code.the-variants.{GeneralFailure, BadArgLength, BadArgs, InUse, NoMoreItems, OutOfResource, BadHandle}
 
 abbrev pub numberOf : Code → ℕ
 numberOf Success = 0x00

@@ -2,35 +2,33 @@
 use mathlib.Core.Path.{_≡_}
 use mathlib.Core.Logic.{_⊎_, _≢_}
 use mathlib.Core.List.{List, [], _∷_}
-use mathlib.Core.Bool.{Bool, cond, true}
+use mathlib.Core.Bool.{cond, true, false}
 use mathlib.Core.Option.{Option, none, some}
-use Prim.Native.Nat.{ℕ, zero, suc, _+_, _/_, _%_, _≤_}
+use Prim.Native.Nat.{ℕ, zero, suc, _+_, _%_, _^_, _≤_}
 use lib.ListN.{set}
 use lib.Dec.{eqb}
 use Rattle.facts.specs.declared.Manner.{Manner}
 use Rattle.facts.specs.declared.Manner.the-variants.{Exclusive, TimeMultiplexed, DynamicLevel, DynamicPulse}
+use Rattle.facts.specs.declared.Code.{Code}
 use Rattle.facts.specs.declared.Code.the-variants.{BadAttribute, BadArgs, BadIrq, InUse}
 use Rattle.facts.specs.Table
 use Rattle.facts.specs.Table.{Facts, IrqGrant}
 use Rattle.facts.specs.Sets.{put}
 use Rattle.facts.specs.Choice.{Chosen}
-use Rattle.facts.specs.Levels.{Together, Holds, typeOf}
-use Rattle.facts.specs.Packets.{byte, word, Bit}
+use Rattle.facts.specs.Levels.{Together, Holds, typeOf, exclusiveType, timeMultiplexedType, dynamicType}
+use Rattle.facts.specs.Packets.{byte, word, withWord, bit}
 use Rattle.facts.specs.Sockets.{socketOf, requestChecks, releaseChecks}
-use Rattle.facts.specs.Checks.{Check, _gives_, Done, Outcome, Ruled, Rule}
+use Rattle.facts.specs.Checks.{Check, _gives_, Leaves, Outcome, Decided, Ruled, Rule}
 
 -- "The 8-byte packet: socket and function at 0, attributes 2 bytes at 2, AssignedIRQ at 4, IRQInfo1 at 5, IRQInfo2 2 bytes at 6."
+abbrev pub requestIrqLength : ℕ
+requestIrqLength = 8
+
 abbrev pub attributesOf : List ℕ → ℕ
 attributesOf p = word p 2
 
-abbrev pub typeAsked : List ℕ → ℕ
-typeAsked p = attributesOf p % 4
-
-abbrev pub ForcePulse : List ℕ → Type 0
-ForcePulse p = Bit (attributesOf p) 2
-
-abbrev pub FirstShared : List ℕ → Type 0
-FirstShared p = Bit (attributesOf p) 3
+abbrev pub assignedIrq : List ℕ → ℕ
+assignedIrq p = byte p 4
 
 abbrev pub info1 : List ℕ → ℕ
 info1 p = byte p 5
@@ -38,54 +36,72 @@ info1 p = byte p 5
 abbrev pub info2 : List ℕ → ℕ
 info2 p = word p 6
 
+-- the attributes (5.53): the type in bits 0 to 1, Force Pulse and First Shared
+abbrev pub typeAsked : List ℕ → ℕ
+typeAsked p = attributesOf p % 2 ^ 2
+
+abbrev pub ForcePulse : List ℕ → Type 0
+ForcePulse p = bit (attributesOf p) 2 ≡ 1
+
+abbrev pub IrqFirstShared : List ℕ → Type 0
+IrqFirstShared p = bit (attributesOf p) 3 ≡ 1
+
+-- IRQInfo1 (5.53): a level in bits 0 to 3, and what the card can do
+abbrev pub levelAsked : List ℕ → ℕ
+levelAsked p = info1 p % 2 ^ 4
+
 abbrev pub Mask : List ℕ → Type 0
-Mask p = Bit (info1 p) 4
+Mask p = bit (info1 p) 4 ≡ 1
 
 abbrev pub LevelBit : List ℕ → Type 0
-LevelBit p = Bit (info1 p) 5
+LevelBit p = bit (info1 p) 5 ≡ 1
 
 abbrev pub PulseBit : List ℕ → Type 0
-PulseBit p = Bit (info1 p) 6
+PulseBit p = bit (info1 p) 6 ≡ 1
 
 abbrev pub ShareBit : List ℕ → Type 0
-ShareBit p = Bit (info1 p) 7
+ShareBit p = bit (info1 p) 7 ≡ 1
 
 -- "BAD_ATTRIBUTE: type 3; any of bits 4 to 15 set; First Shared with Exclusive; Force Pulse without the card's Pulse bit; dynamic sharing without
 -- its Share bit."
 abbrev pub IrqAttributesBad : List ℕ → Type 0
 IrqAttributesBad p =
-    (typeAsked p ≡ 3) ⊎ (16 ≤ attributesOf p) ⊎ (FirstShared p × (typeAsked p ≡ 0)) ⊎ (ForcePulse p × (PulseBit p → ⊥))
-    ⊎ ((typeAsked p ≡ 2) × (ShareBit p → ⊥))
+    (typeAsked p ≡ 3) ⊎ (2 ^ 4 ≤ attributesOf p) ⊎ (IrqFirstShared p × (typeAsked p ≡ exclusiveType)) ⊎ (ForcePulse p × (PulseBit p → ⊥))
+    ⊎ ((typeAsked p ≡ dynamicType) × (ShareBit p → ⊥))
 
 -- "BAD_ARGS: neither Level nor Pulse; Mask set with any of IRQInfo1's bits 0 to 3, or with IRQInfo2 0."
 abbrev pub IrqInfoBad : List ℕ → Type 0
-IrqInfoBad p = ((LevelBit p → ⊥) × (PulseBit p → ⊥)) ⊎ (Mask p × (info1 p % 16 ≢ 0)) ⊎ (Mask p × (info2 p ≡ 0))
+IrqInfoBad p = ((LevelBit p → ⊥) × (PulseBit p → ⊥)) ⊎ (Mask p × (levelAsked p ≢ 0)) ⊎ (Mask p × (info2 p ≡ 0))
 
 -- "Dynamic is pulse if Force Pulse is set or the card lacks Level."
-abbrev pub dynamicOf : Bool → Bool → Manner
-dynamicOf force level = cond force DynamicPulse (cond level DynamicLevel DynamicPulse)
+abbrev pub dynamicOf : ℕ → ℕ → Manner
+dynamicOf force level = cond (eqb force 1) DynamicPulse (cond (eqb level 1) DynamicLevel DynamicPulse)
 
 -- "Four manners: exclusive, time-multiplexed, dynamic level, dynamic pulse."
 abbrev pub mannerAsked : List ℕ → Manner
 mannerAsked p =
-    cond (eqb (typeAsked p) 0) Exclusive
-    (cond (eqb (typeAsked p) 1) TimeMultiplexed
-    (dynamicOf (eqb (attributesOf p / 4 % 2) 1) (eqb (info1 p / 32 % 2) 1)))
+    cond (eqb (typeAsked p) exclusiveType) Exclusive
+    (cond (eqb (typeAsked p) timeMultiplexedType) TimeMultiplexed
+    (dynamicOf (bit (attributesOf p) 2) (bit (info1 p) 5)))
 
 -- "With Mask clear, the low four bits name one level and IRQInfo2 is ignored."
 abbrev pub Named : List ℕ → ℕ → Type 0
-Named p l = (Mask p × Bit (info2 p) l) ⊎ ((Mask p → ⊥) × (l ≡ info1 p % 16))
+Named p l = (Mask p × (bit (info2 p) l ≡ 1)) ⊎ ((Mask p → ⊥) × (l ≡ levelAsked p))
 
 -- "A level fits if it is named, managed, and either has no grant or, without First Shared, all its grants go together with this manner."
 pub record Fits (F : Facts) (p : List ℕ) (l : ℕ) : Type 0 where
   pub named : Named p l
   pub managed : F .level l .managed ≡ true
   pub free : ((s : ℕ) (g : IrqGrant) → Holds F l s g → ⊥)
-      ⊎ ((FirstShared p → ⊥) × ((s : ℕ) (g : IrqGrant) → Holds F l s g → Together (g .manner) (mannerAsked p)))
+      ⊎ ((IrqFirstShared p → ⊥) × ((s : ℕ) (g : IrqGrant) → Holds F l s g → Together (g .manner) (mannerAsked p)))
+
+-- none does
+abbrev pub NoLevelFits : Facts → List ℕ → Type 0
+NoLevelFits F p = (l : ℕ) → Fits F p l → ⊥
 
 -- "An unreserved level comes before a reserved one, then the lowest."
 abbrev pub LevelTaken : Facts → List ℕ → ℕ → Type 0
-LevelTaken F p = Chosen (Fits F p) (λ l. F .level l .reserved ≡ true)
+LevelTaken F p = Chosen (Fits F p) (λ l. F .level l .reserved ≡ false)
 
 abbrev pub withIrq : Facts → ℕ → Option IrqGrant → Facts
 withIrq F s g =
@@ -101,27 +117,40 @@ withIrq F s g =
     }
 
 -- "Success writes AssignedIRQ and, for dynamic pulse only, attribute bit 8."
-abbrev pub pulseShown : Manner → List ℕ → List ℕ
-pulseShown Exclusive p = p
-pulseShown TimeMultiplexed p = p
-pulseShown DynamicLevel p = p
-pulseShown DynamicPulse p = set p 3 (byte p 3 + 1)
+abbrev pub withPulse : Manner → List ℕ → List ℕ
+withPulse Exclusive p = p
+withPulse TimeMultiplexed p = p
+withPulse DynamicLevel p = p
+withPulse DynamicPulse p = withWord p 2 (attributesOf p + 2 ^ 8)
 
--- the checks ahead of the fit, and then the fit
+abbrev pub assigning : List ℕ → ℕ → List ℕ
+assigning p l = set (withPulse (mannerAsked p) p) 4 l
+
+-- the checks ahead of the fit; "IN_USE: the socket has an IRQ grant."
+abbrev pub ownIrqChecks : Facts → List ℕ → List Check → List Check
+ownIrqChecks F p fit = (IrqAttributesBad p gives BadAttribute) ∷ (IrqInfoBad p gives BadArgs) ∷ ((F .irq (socketOf p) ≢ none) gives InUse) ∷ fit
+
 abbrev pub irqAheadChecks : Facts → ℕ → List ℕ → List Check → List Check
-irqAheadChecks F h p fit =
-    requestChecks 8 F h p
-    ((IrqAttributesBad p gives BadAttribute) ∷ (IrqInfoBad p gives BadArgs) ∷ ((F .irq (socketOf p) ≢ none) gives InUse) ∷ fit)
+irqAheadChecks F h p fit = requestChecks requestIrqLength F h p (ownIrqChecks F p fit)
+
+-- "None: BAD_IRQ."
+abbrev pub levelChecks : Facts → List ℕ → List Check
+levelChecks F p = (NoLevelFits F p gives BadIrq) ∷ []
 
 abbrev pub irqRequestChecks : Facts → ℕ → List ℕ → List Check
-irqRequestChecks F h p = irqAheadChecks F h p ((((l : ℕ) → Fits F p l → ⊥) gives BadIrq) ∷ [])
+irqRequestChecks F h p = irqAheadChecks F h p (levelChecks F p)
+
+-- the client h is granted the level taken, on the packet's socket and in the manner asked for
+abbrev pub irqGrant : ℕ → List ℕ → ℕ → IrqGrant
+irqGrant h p l = record { client = h; level = l; manner = mannerAsked p }
+
+pub record GrantsIrq (F : Facts) (h : ℕ) (p : List ℕ) (o : Outcome) : Type 0 where
+  pub level : ℕ
+  pub taken : LevelTaken F p level
+  pub leaves : Leaves h (assigning p level) (withIrq F (socketOf p) (some (irqGrant h p level))) o
 
 abbrev pub RequestIrq : Rule
-RequestIrq F h p =
-    Ruled (irqRequestChecks F h p)
-    (λ (o : Outcome). (l : ℕ) × LevelTaken F p l
-    × Done h (set (pulseShown (mannerAsked p) p) 4 l)
-    (withIrq F (socketOf p) (some (record { client = h; level = l; manner = mannerAsked p }))) o) F p
+RequestIrq F h p = Ruled (irqRequestChecks F h p) (GrantsIrq F h p) F p
 
 -- this client holds this level on this socket
 pub record IrqHeld (F : Facts) (h s l : ℕ) (g : IrqGrant) : Type 0 where
@@ -129,17 +158,21 @@ pub record IrqHeld (F : Facts) (h s l : ℕ) (g : IrqGrant) : Type 0 where
   pub client : g .client ≡ h
   pub level : g .level ≡ l
 
+-- the packet of ReleaseIRQ (5.45): as RequestIRQ's, up to AssignedIRQ
+abbrev pub releaseIrqLength : ℕ
+releaseIrqLength = 5
+
 -- "Release needs no card. BAD_IRQ unless this client holds this level on this socket; only then BAD_ATTRIBUTE if the type bits differ. Other
 -- attribute bits are ignored."
 abbrev pub irqReleaseChecks : Facts → ℕ → List ℕ → List Check
 irqReleaseChecks F h p =
-    releaseChecks 5 F h p
-    ((((g : IrqGrant) → IrqHeld F h (socketOf p) (byte p 4) g → ⊥) gives BadIrq)
-    ∷ (((g : IrqGrant) × IrqHeld F h (socketOf p) (byte p 4) g × (typeOf (g .manner) ≢ typeAsked p)) gives BadAttribute)
+    releaseChecks releaseIrqLength F h p
+    ((((g : IrqGrant) → IrqHeld F h (socketOf p) (assignedIrq p) g → ⊥) gives BadIrq)
+    ∷ (((g : IrqGrant) × IrqHeld F h (socketOf p) (assignedIrq p) g × (typeOf (g .manner) ≢ typeAsked p)) gives BadAttribute)
     ∷ [])
 
 abbrev pub ReleaseIrq : Rule
-ReleaseIrq F h p = Ruled (irqReleaseChecks F h p) (Done h p (withIrq F (socketOf p) none)) F p
+ReleaseIrq F h p = Ruled (irqReleaseChecks F h p) (Leaves h p (withIrq F (socketOf p) none)) F p
 
 -- one for a grant on the level l, else none
 abbrev pub sharer : ℕ → Option IrqGrant → ℕ
@@ -151,9 +184,14 @@ abbrev pub sharersBelow : Facts → ℕ → ℕ → ℕ
 sharersBelow F l zero = 0
 sharersBelow F l (suc n) = sharersBelow F l n + sharer l (F .irq n)
 
--- "Sharers: a level over 15 is BAD_IRQ; a refusal's count is 0; else the number of live grants, never over 8." The count stands in the place of a handle.
+-- what the question for sharers answers: a code and a count
+pub record Count : Type 0 where
+  pub code : Code
+  pub count : ℕ
+
+-- "Sharers: a level over 15 is BAD_IRQ; a refusal's count is 0; else the number of live grants, never over 8."
 abbrev pub sharersChecks : ℕ → List Check
 sharersChecks l = ((Table.allLevels ≤ l) gives BadIrq) ∷ []
 
-abbrev pub Sharers : Facts → ℕ → Outcome → Type 0
-Sharers F l = Ruled (sharersChecks l) (Done (sharersBelow F l (F .sockets)) [] F) F []
+abbrev pub Sharers : Facts → ℕ → Count → Type 0
+Sharers F l o = Decided (sharersChecks l) (o .code) (o .count ≡ 0) (o .count ≡ sharersBelow F l (F .sockets))

@@ -12,12 +12,22 @@ pub record Together (a b : Manner) : Type 0 where
   pub equal : a ≡ b
   pub shares : a ≢ Exclusive
 
--- the type bits of a manner (5.53): 0 exclusive, 1 time-multiplexed, 2 dynamic
+-- the types of a request's bits 0 to 1 (5.53)
+abbrev pub exclusiveType : ℕ
+exclusiveType = 0
+
+abbrev pub timeMultiplexedType : ℕ
+timeMultiplexedType = 1
+
+abbrev pub dynamicType : ℕ
+dynamicType = 2
+
+-- a manner's type
 abbrev pub typeOf : Manner → ℕ
-typeOf Exclusive = 0
-typeOf TimeMultiplexed = 1
-typeOf DynamicLevel = 2
-typeOf DynamicPulse = 2
+typeOf Exclusive = exclusiveType
+typeOf TimeMultiplexed = timeMultiplexedType
+typeOf DynamicLevel = dynamicType
+typeOf DynamicPulse = dynamicType
 
 -- the grant g of a socket is a live grant of the level l
 pub record Holds (F : Facts) (l s : ℕ) (g : IrqGrant) : Type 0 where

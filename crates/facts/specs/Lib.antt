@@ -16,3 +16,4 @@ pub mod Irq
 pub mod Io
 pub mod Boot
 pub mod Services
+pub mod Laws

@@ -4,18 +4,19 @@ use mathlib.Core.Logic.{_⊎_, _≢_}
 use mathlib.Core.List.{List, [], _∷_}
 use mathlib.Core.Bool.{Bool, cond, true, false}
 use mathlib.Core.Option.{some}
-use Prim.Native.Nat.{ℕ, _+_, _≤_, _<_}
+use Prim.Native.Nat.{ℕ, _+_, _^_, _≤_, _<_}
 use lib.ListN.{length, set}
 use lib.Dec.{eqb, ltb}
-use Rattle.facts.specs.declared.Code.the-variants.{BadAttribute, BadBase, BadIrq, BadSize, UnsupportedService, BadArgLength, BadArgs, InUse, NoMoreItems, OutOfResource}
+use Rattle.facts.specs.declared.Code.the-variants.{BadAttribute, BadBase, BadIrq, BadSize, UnsupportedService, BadArgLength, BadArgs, InUse}
+use Rattle.facts.specs.declared.Code.the-variants.{NoMoreItems, OutOfResource}
 use Rattle.facts.specs.Table
 use Rattle.facts.specs.Table.{Facts, Level, Range, IoGrant, IrqGrant}
-use Rattle.facts.specs.Sets.{_∈_, put}
+use Rattle.facts.specs.Sets.{_∈_, put, without}
 use Rattle.facts.specs.Choice.{Lowest}
 use Rattle.facts.specs.Ports.{Within, Managed, Overlap}
 use Rattle.facts.specs.Levels.{Holds, typeOf}
 use Rattle.facts.specs.Packets.{byte, word, long, withWord, withLong}
-use Rattle.facts.specs.Checks.{Check, _gives_, Done, Outcome, Ruled, RuledThen, Rule}
+use Rattle.facts.specs.Checks.{Check, _gives_, Leaves, Outcome, Ruled, RuledThen, Rule}
 
 -- the actions and the resource types (5.3)
 abbrev pub remove : ℕ
@@ -42,22 +43,39 @@ actionOf p = byte p 0
 abbrev pub resourceOf : List ℕ → ℕ
 resourceOf p = byte p 1
 
--- "I/O fields, short: base 2 bytes at 2, ports 1 at 4, attributes at 5, lines at 6. Long: base 4 at 2, ports 4 at 6, attributes at 10, lines at 11."
+-- the packets (5.3), "IRQ 4; I/O 7 or 12" bytes: IRQ, and I/O in two widths
+abbrev pub irqAdjustLength : ℕ
+irqAdjustLength = 4
+
 pub data Width : Type 0 where
   short : Width
   wide : Width
 
-abbrev pub sizeOf : Width → ℕ
-sizeOf short = 7
-sizeOf wide = 12
+abbrev pub ioAdjustLength : Width → ℕ
+ioAdjustLength short = 7
+ioAdjustLength wide = 12
 
-abbrev pub baseIn : Width → List ℕ → ℕ
-baseIn short p = word p 2
-baseIn wide p = long p 2
+-- "IRQ: attributes at 2, level at 3."
+abbrev pub levelAttributesAt : ℕ
+levelAttributesAt = 2
 
-abbrev pub countIn : Width → List ℕ → ℕ
-countIn short p = byte p 4
-countIn wide p = long p 6
+abbrev pub levelAt : ℕ
+levelAt = 3
+
+abbrev pub levelAttributes : List ℕ → ℕ
+levelAttributes p = byte p levelAttributesAt
+
+abbrev pub levelGiven : List ℕ → ℕ
+levelGiven p = byte p levelAt
+
+-- "I/O fields, short: base 2 bytes at 2, ports 1 at 4, attributes at 5, lines at 6. Long: base 4 at 2, ports 4 at 6, attributes at 10, lines at 11."
+abbrev pub baseGiven : Width → List ℕ → ℕ
+baseGiven short p = word p 2
+baseGiven wide p = long p 2
+
+abbrev pub countGiven : Width → List ℕ → ℕ
+countGiven short p = byte p 4
+countGiven wide p = long p 6
 
 abbrev pub attributesAt : Width → ℕ
 attributesAt short = 5
@@ -67,9 +85,18 @@ abbrev pub linesAt : Width → ℕ
 linesAt short = 6
 linesAt wide = 11
 
+abbrev pub attributesGiven : Width → List ℕ → ℕ
+attributesGiven w p = byte p (attributesAt w)
+
+abbrev pub linesGiven : Width → List ℕ → ℕ
+linesGiven w p = byte p (linesAt w)
+
 -- "A short packet can't show more than 255 ports: BAD_SIZE."
+abbrev pub mostShown : ℕ
+mostShown = 255
+
 abbrev pub TooMany : Width → ℕ → Type 0
-TooMany short n = Table.mostAsked < n
+TooMany short n = mostShown < n
 TooMany wide n = ⊥
 
 -- "Written: base and ports, or level; attributes; lines 16."
@@ -77,8 +104,11 @@ abbrev pub withRange : Width → List ℕ → ℕ → ℕ → List ℕ
 withRange short p base count = set (withWord p 2 base) 4 count
 withRange wide p base count = withLong (withLong p 2 base) 6 count
 
-abbrev pub shown : Width → List ℕ → Range → ℕ → List ℕ
-shown w p r attributes = set (set (withRange w p (r .base) (r .count)) (attributesAt w) attributes) (linesAt w) Table.mostLines
+abbrev pub showingRange : Width → List ℕ → Range → ℕ → List ℕ
+showingRange w p r attributes = set (set (withRange w p (r .base) (r .count)) (attributesAt w) attributes) (linesAt w) Table.mostLines
+
+abbrev pub showingLevel : List ℕ → ℕ → ℕ → List ℕ
+showingLevel p l attributes = set (set p levelAttributesAt attributes) levelAt l
 
 -- "Resource 0, 3, 4: UNSUPPORTED_SERVICE; over 4: BAD_ARGS."
 abbrev pub NotBuilt : ℕ → Type 0
@@ -89,7 +119,7 @@ resourceChecks r own = (NotBuilt r gives UnsupportedService) ∷ ((4 < r) gives 
 
 -- "Then the length: IRQ 4; I/O 7 or 12."
 abbrev pub WrongLength : ℕ → ℕ → Type 0
-WrongLength r n = ((r ≡ irqLevel) × (n ≢ 4)) ⊎ ((r ≡ ioRange) × (n ≢ sizeOf short) × (n ≢ sizeOf wide))
+WrongLength r n = ((r ≡ irqLevel) × (n ≢ irqAdjustLength)) ⊎ ((r ≡ ioRange) × (n ≢ ioAdjustLength short) × (n ≢ ioAdjustLength wide))
 
 -- "Length under 2: BAD_ARG_LENGTH. Then Action over 3: BAD_ARGS."
 abbrev pub adjustChecks : List ℕ → List Check
@@ -99,7 +129,7 @@ adjustChecks p =
 
 -- "Add (1) allows only bit 6, reserve; Remove (0) no bit; both need lines of 16 for I/O; else BAD_ATTRIBUTE."
 abbrev pub reserveBit : ℕ
-reserveBit = 64
+reserveBit = 2 ^ 6
 
 abbrev pub AddBits : ℕ → Type 0
 AddBits a = (a ≡ 0) ⊎ (a ≡ reserveBit)
@@ -198,23 +228,31 @@ removeRangeChecks F base count attributes lines =
 
 -- the ranges but the one at the base
 abbrev pub withoutRange : ℕ → List Range → List Range
-withoutRange base [] = []
-withoutRange base (r ∷ rs) = cond (eqb (r .base) base) rs (r ∷ withoutRange base rs)
+withoutRange = without (λ (r : Range). r .base)
+
+abbrev pub rangeRemoved : Facts → ℕ → Facts
+rangeRemoved F base = withRanges F (withoutRange base (F .ranges))
 
 -- "First (2) gives the lowest base or level; Next (3) the lowest above the packet's; none: NO_MORE_ITEMS."
 abbrev pub Follows : ℕ → ℕ → ℕ → Type 0
 Follows action given x = (action ≡ first) ⊎ (given < x)
 
--- "Bit 7 is set exactly if a live grant holds the level or a port of the range; the handle answered is then the lowest of the holders' handles, else 0.
--- For I/O, bit 0 is set if there are holders and all of them share. Other bits are 0."
+-- "Bit 7 is set exactly if a live grant holds the level or a port of the range; the handle answered is then the lowest of the holders' handles, else
+-- 0. For I/O, bit 0 is set if there are holders and all of them share. .. Other bits are 0."
 abbrev pub heldBit : ℕ
-heldBit = 128
+heldBit = 2 ^ 7
 
-pub record RangeShown (F : Facts) (r : Range) (attributes handle : ℕ) : Type 0 where
-  pub free : (RangeHeld F r → ⊥) → (attributes ≡ 0) × (handle ≡ 0)
-  pub held : RangeHeld F r → Lowest (λ h. (b : Bool) × RangeHolder F r h b) handle
-  pub one-alone : (h : ℕ) → RangeHolder F r h false → attributes ≡ heldBit
-  pub all-share : RangeHeld F r → ((h : ℕ) → RangeHolder F r h false → ⊥) → attributes ≡ heldBit + 1
+abbrev pub sharedBit : ℕ
+sharedBit = 2 ^ 0
+
+abbrev pub LowestHolder : Facts → Range → ℕ → Type 0
+LowestHolder F r = Lowest (λ h. (shares : Bool) × RangeHolder F r h shares)
+
+pub data RangeShown (F : Facts) (r : Range) (attributes handle : ℕ) : Type 0 where
+  unheld : (RangeHeld F r → ⊥) → attributes ≡ 0 → handle ≡ 0 → RangeShown F r attributes handle
+  one-alone : (h : ℕ) → RangeHolder F r h false → attributes ≡ heldBit → LowestHolder F r handle → RangeShown F r attributes handle
+  all-share : RangeHeld F r → ((h : ℕ) → RangeHolder F r h false → ⊥) → attributes ≡ heldBit + sharedBit → LowestHolder F r handle
+      → RangeShown F r attributes handle
 
 abbrev pub RangeNext : Facts → ℕ → ℕ → Range → Type 0
 RangeNext F action given r =
@@ -234,10 +272,10 @@ pub record LevelHolder (F : Facts) (l h t : ℕ) : Type 0 where
   pub client : grant .client ≡ h
   pub type : typeOf (grant .manner) ≡ t
 
-pub record LevelShown (F : Facts) (l attributes handle : ℕ) : Type 0 where
-  pub free : (LevelHeld F l → ⊥) → (attributes ≡ 0) × (handle ≡ 0)
-  pub held : LevelHeld F l → Lowest (λ h. (t : ℕ) × LevelHolder F l h t) handle
-  pub type : (h t : ℕ) → LevelHolder F l h t → attributes ≡ heldBit + t
+pub data LevelShown (F : Facts) (l attributes handle : ℕ) : Type 0 where
+  unheld : (LevelHeld F l → ⊥) → attributes ≡ 0 → handle ≡ 0 → LevelShown F l attributes handle
+  of-type : LevelHeld F l → ((h t : ℕ) → LevelHolder F l h t → attributes ≡ heldBit + t) → Lowest (λ h. (t : ℕ) × LevelHolder F l h t) handle
+      → LevelShown F l attributes handle
 
 abbrev pub LevelFollows : Facts → ℕ → ℕ → ℕ → Type 0
 LevelFollows F action given l = (F .level l .managed ≡ true) × Follows action given l
@@ -245,33 +283,63 @@ LevelFollows F action given l = (F .level l .managed ≡ true) × Follows action
 abbrev pub showLevelChecks : Facts → ℕ → ℕ → List Check
 showLevelChecks F action given = (((l : ℕ) → LevelFollows F action given l → ⊥) gives NoMoreItems) ∷ []
 
--- IRQ: attributes at 2, level at 3
-abbrev pub AdjustIrq : Facts → ℕ → List ℕ → Outcome → Type 0
-AdjustIrq F h p o =
-    ((actionOf p ≡ add) × Ruled (addLevelChecks F (byte p 3) (byte p 2)) (Done h p (levelAdded F (byte p 3) (byte p 2))) F p o)
-    ⊎ ((actionOf p ≡ remove) × Ruled (removeLevelChecks F (byte p 3) (byte p 2)) (Done h p (levelRemoved F (byte p 3))) F p o)
-    ⊎ (((actionOf p ≡ first) ⊎ (actionOf p ≡ next))
-    × Ruled (showLevelChecks F (actionOf p) (byte p 3))
-    (λ (o : Outcome). (l : ℕ) × (attributes : ℕ) × (handle : ℕ) × Lowest (LevelFollows F (actionOf p) (byte p 3)) l × LevelShown F l attributes handle
-    × Done handle (set (set p 2 attributes) 3 l) F o) F p o)
+-- levels: Add, Remove, and what First and Next show
+abbrev pub AddLevel : Rule
+AddLevel F h p = Ruled (addLevelChecks F (levelGiven p) (levelAttributes p)) (Leaves h p (levelAdded F (levelGiven p) (levelAttributes p))) F p
 
--- I/O, at either width
-abbrev pub AdjustIo : Width → Facts → ℕ → List ℕ → Outcome → Type 0
-AdjustIo w F h p o =
-    ((actionOf p ≡ add)
-    × Ruled (addRangeChecks F (baseIn w p) (countIn w p) (byte p (attributesAt w)) (byte p (linesAt w)))
-    (Done h p (rangeAdded F (baseIn w p) (countIn w p) (byte p (attributesAt w)))) F p o)
-    ⊎ ((actionOf p ≡ remove)
-    × Ruled (removeRangeChecks F (baseIn w p) (countIn w p) (byte p (attributesAt w)) (byte p (linesAt w)))
-    (Done h p (withRanges F (withoutRange (baseIn w p) (F .ranges)))) F p o)
-    ⊎ (((actionOf p ≡ first) ⊎ (actionOf p ≡ next))
-    × Ruled (showRangeChecks w F (actionOf p) (baseIn w p))
-    (λ (o : Outcome). (r : Range) × (attributes : ℕ) × (handle : ℕ) × RangeNext F (actionOf p) (baseIn w p) r × RangeShown F r attributes handle
-    × Done handle (shown w p r attributes) F o) F p o)
+abbrev pub RemoveLevel : Rule
+RemoveLevel F h p = Ruled (removeLevelChecks F (levelGiven p) (levelAttributes p)) (Leaves h p (levelRemoved F (levelGiven p))) F p
 
--- "The handle isn't looked at."
+pub record ShowsLevel (F : Facts) (p : List ℕ) (o : Outcome) : Type 0 where
+  pub level : ℕ
+  pub attributes : ℕ
+  pub handle : ℕ
+  pub next-is : Lowest (LevelFollows F (actionOf p) (levelGiven p)) level
+  pub shown : LevelShown F level attributes handle
+  pub leaves : Leaves handle (showingLevel p level attributes) F o
+
+abbrev pub ShowLevel : Rule
+ShowLevel F h p = Ruled (showLevelChecks F (actionOf p) (levelGiven p)) (ShowsLevel F p) F p
+
+-- ranges, at either width: Add, Remove, and what First and Next show
+abbrev pub AddRange : Width → Rule
+AddRange w F h p =
+    Ruled (addRangeChecks F (baseGiven w p) (countGiven w p) (attributesGiven w p) (linesGiven w p))
+    (Leaves h p (rangeAdded F (baseGiven w p) (countGiven w p) (attributesGiven w p))) F p
+
+abbrev pub RemoveRange : Width → Rule
+RemoveRange w F h p =
+    Ruled (removeRangeChecks F (baseGiven w p) (countGiven w p) (attributesGiven w p) (linesGiven w p))
+    (Leaves h p (rangeRemoved F (baseGiven w p))) F p
+
+pub record ShowsRange (w : Width) (F : Facts) (p : List ℕ) (o : Outcome) : Type 0 where
+  pub range : Range
+  pub attributes : ℕ
+  pub handle : ℕ
+  pub next-is : RangeNext F (actionOf p) (baseGiven w p) range
+  pub shown : RangeShown F range attributes handle
+  pub leaves : Leaves handle (showingRange w p range attributes) F o
+
+abbrev pub ShowRange : Width → Rule
+ShowRange w F h p = Ruled (showRangeChecks w F (actionOf p) (baseGiven w p)) (ShowsRange w F p) F p
+
+-- by the action: Add (1), Remove (0), First (2) or Next (3)
+abbrev pub ByAction : Rule → Rule → Rule → Rule
+ByAction Add Remove Show F h p o =
+    ((actionOf p ≡ add) × Add F h p o) ⊎ ((actionOf p ≡ remove) × Remove F h p o)
+    ⊎ (((actionOf p ≡ first) ⊎ (actionOf p ≡ next)) × Show F h p o)
+
+abbrev pub AdjustIrq : Rule
+AdjustIrq = ByAction AddLevel RemoveLevel ShowLevel
+
+abbrev pub AdjustIo : Width → Rule
+AdjustIo w = ByAction (AddRange w) (RemoveRange w) (ShowRange w)
+
+-- by the resource; "The handle isn't looked at."
+abbrev pub ByResource : Rule
+ByResource F h p o =
+    ((resourceOf p ≡ irqLevel) × AdjustIrq F h p o)
+    ⊎ ((resourceOf p ≡ ioRange) × (w : Width) × (length p ≡ ioAdjustLength w) × AdjustIo w F h p o)
+
 abbrev pub AdjustResourceInfo : Rule
-AdjustResourceInfo F h p =
-    RuledThen (adjustChecks p)
-    (λ (o : Outcome). ((resourceOf p ≡ irqLevel) × AdjustIrq F h p o)
-    ⊎ ((resourceOf p ≡ ioRange) × (w : Width) × (length p ≡ sizeOf w) × AdjustIo w F h p o)) F p
+AdjustResourceInfo F h p = RuledThen (adjustChecks p) (ByResource F h p) F p

@@ -1,4 +1,4 @@
--- Words for sets of facts: what is in a list, and a fact put in its place. Assumes nothing.
+-- Words for sets of facts: what is in a list, one left out, and a fact put in its place. Assumes nothing.
 use mathlib.Core.Path.{_≡_}
 use mathlib.Core.Logic.{_⊎_}
 use mathlib.Core.List.{List, [], _∷_}
@@ -12,6 +12,11 @@ module _ {A : Type 0} where
   abbrev pub _∈_ : A → List A → Type 0
   x ∈ [] = ⊥
   x ∈ (y ∷ ys) = (x ≡ y) ⊎ (x ∈ ys)
+
+  -- the list, but the first whose number is n
+  abbrev pub without : (A → ℕ) → ℕ → List A → List A
+  without number n [] = []
+  without number n (y ∷ ys) = cond (eqb (number y) n) ys (y ∷ without number n ys)
 
   -- what f says, but x at the place k
   abbrev pub put : (ℕ → A) → ℕ → A → ℕ → A

@@ -2,7 +2,7 @@
 use mathlib.Core.List.{List, []}
 use mathlib.Core.Bool.{Bool, false}
 use mathlib.Core.Option.{Option, none}
-use Prim.Native.Nat.{ℕ}
+use Prim.Native.Nat.{ℕ, _^_}
 use Rattle.facts.specs.declared.Manner.{Manner}
 
 -- the limits
@@ -30,7 +30,7 @@ mostLines = 16
 
 -- event masks have bits 0 to 11
 abbrev pub allEvents : ℕ
-allEvents = 4096
+allEvents = 2 ^ 12
 
 -- the port count of a request is one byte
 abbrev pub mostAsked : ℕ

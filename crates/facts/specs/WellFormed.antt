@@ -30,21 +30,21 @@ pub record Live (F : Facts) (h : ℕ) : Type 0 where
 
 -- "Attribute bits or client types that 5.37 doesn't allow": one of bits 0 to 2, any of bits 3 and 4, no other
 pub record AttributesAllowed (a : ℕ) : Type 0 where
-  pub bits : a < 32
-  pub type : (a % 8 ≡ 1) ⊎ (a % 8 ≡ 2) ⊎ (a % 8 ≡ 4)
+  pub bits : a < 2 ^ 5
+  pub type : (a % 2 ^ 3 ≡ 2 ^ 0) ⊎ (a % 2 ^ 3 ≡ 2 ^ 1) ⊎ (a % 2 ^ 3 ≡ 2 ^ 2)
 
 -- event mask bits 12 to 15 are clear
 abbrev pub EventsAllowed : ℕ → Type 0
 EventsAllowed m = m < Table.allEvents
 
--- "a client": its handle is issued, its attributes and masks are ones a request accepts, its masks' sockets are below the count
+-- a client: its handle is issued, its attributes and masks are ones a request accepts, its masks' sockets are below the count
 pub record ClientFits (F : Facts) (c : Client) : Type 0 where
   pub issued : c .handle ≤ F .issued
   pub attributes : AttributesAllowed (c .attributes)
   pub events : EventsAllowed (c .events)
   pub mask : (s m : ℕ) → c .mask s ≡ some m → (s < F .sockets) × EventsAllowed m
 
--- "every grant has a live client and a socket below the count; granted ports are managed; an I/O grant has base 1 or more, lines 1 to 16 and a
+-- "every grant .. has a live client and a socket below the count; granted .. ports are managed; an I/O grant has base 1 or more, lines 1 to 16 and a
 -- count RequestIO allows"
 pub record IoFits (F : Facts) (s : ℕ) (g : IoGrant) : Type 0 where
   pub client : Live F (g .client)
@@ -57,13 +57,13 @@ pub record IoFits (F : Facts) (s : ℕ) (g : IoGrant) : Type 0 where
   pub decoded : g .ports .count ≤ 2 ^ g .ports .lines
   pub managed : AllManaged F (g .ports .base) (g .ports .count)
 
--- "every grant has a live client and a socket below the count; granted levels are managed"
+-- "every grant .. has a live client and a socket below the count; granted levels .. are managed"
 pub record IrqFits (F : Facts) (s : ℕ) (g : IrqGrant) : Type 0 where
   pub client : Live F (g .client)
   pub socket : s < F .sockets
   pub managed : F .level (g .level) .managed ≡ true
 
--- "no two live grants meet on a level or a decoded port unless both asked to share in the same manner"
+-- demand 3: "no two live grants meet on a level or a decoded port unless both asked to share in the same manner"
 abbrev pub IoCompany : IoGrant → IoGrant → Type 0
 IoCompany g g′ = Meet (g .ports) (g′ .ports) → (g .shared ≡ true) × (g′ .shared ≡ true)
 
@@ -78,8 +78,8 @@ pub record WellFormed (F : Facts) : Type 0 where
   -- "up to 16 live clients (handle, attributes, event mask); handles issued so far, up to 65,535"
   pub issued : F .issued ≤ Table.mostIssued
   pub clients-most : length (F .clients) ≤ Table.mostClients
-  -- "live handles differ, aren't 0 and aren't over the number issued"; "attributes and masks are ones a request accepts"; "every .. mask has .. a socket
-  -- below the count"
+  -- "live handles differ, aren't 0 and aren't over the number issued"; "attributes and masks are ones a request accepts"; "every .. mask has .. a
+  -- socket below the count"
   pub handles : Rising 0 (F .clients)
   pub clients : (c : Client) → c ∈ F .clients → ClientFits F c
   -- "IRQ levels 0 to 15, each managed or not and reserved or not"; "an unmanaged level isn't reserved"

@@ -3,11 +3,11 @@
 ghost use mathlib.Core.Path.{_≡_};
 ghost use Rattle.facts.specs.Codes.{numberOf};
 
-// A client's handle.
+// A client's handle: 16 bits, as the binding has it.
 pub struct Handle(pub u16);
 
-// A socket's number.
-pub struct Socket(pub u16);
+// A socket's number: one byte of a packet, or a number that the host gives.
+pub struct Socket(pub usize);
 
 // The fifteen codes.
 pub enum Code {

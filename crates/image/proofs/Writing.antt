@@ -57,7 +57,8 @@ moved-more b b′ from i far l h f c =
     at : (p : ℕ) → from ≤ p → (p < i) ⊎ (p ≡ i) → byte (set b′ i (byte b′ (i + far))) p ≡ byte b (p + far)
     at p m (inl n) = byte-other b′ i (byte b′ (i + far)) p (λ e. omega (arith, e)) ∙ c .moved p m n
     at p m (inr e) =
-        ap (byte (set b′ i (byte b′ (i + far)))) e ∙ byte-same b′ i (byte b′ (i + far)) (omega (arith, c .size)) ∙ c .other (i + far) (inr (omega arith))
+        ap (byte (set b′ i (byte b′ (i + far)))) e ∙ byte-same b′ i (byte b′ (i + far)) (omega (arith, c .size))
+        ∙ c .other (i + far) (inr (omega arith))
         ∙ ap (λ (q : ℕ). byte b (q + far)) (sym e)
 
 -- a cleared table with a socket count is a fresh one

@@ -1,4 +1,4 @@
-// The table's bytes: looked at in one place, and written in one place.
+// Writes a table's bytes: a number, a run of zeros, records that move down, a fresh table.
 use layout::SOCKETS_IN;
 use layout::TABLE_SIZE;
 ghost use mathlib.Core.Path.{_≡_};
@@ -7,7 +7,6 @@ ghost use lib.ListN.{length};
 ghost use Rattle.facts.specs.Table;
 ghost use Rattle.facts.specs.Packets.{withWord};
 ghost use Rattle.layout.specs.Layout.{image, tableSize};
-ghost use Rattle.image.specs.Loading.{LoadedIs};
 ghost use Rattle.image.specs.Writing.{Moved, Cleared};
 
 // A number of two bytes at a place.
@@ -50,20 +49,4 @@ pub fn make_fresh(t: &mut [u8], sockets: u8)
 {
     clear(t, 0, TABLE_SIZE);
     t[SOCKETS_IN] = sockets;
-}
-
-// Whether the bytes are the image of a well-formed set.
-pub enum Loaded {
-    Formed,
-    Unformed,
-}
-
-pub fn load(t: &[u8]) -> Loaded
-    ensures { λ r. ⌜ LoadedIs (now (t .entry)) r ⌝ }
-{
-    if scan::sound(t) {
-        Loaded::Formed
-    } else {
-        Loaded::Unformed
-    }
 }

@@ -2,53 +2,43 @@
 use mathlib.Core.Path.{_≡_, refl, ap, sym, _∙_}
 use mathlib.Core.Logic.{inl, inr, _≢_}
 use mathlib.Core.List.{List}
-use mathlib.Core.Bool.{true, false≢true}
+use mathlib.Core.Bool.{Bool, true, false≢true}
 use Prim.Native.Nat.{ℕ, _*_}
 use native.Mathlib.Nat.{add-zero, zero-add}
 use Rattle.facts.specs.declared.Code.{Code}
 use Rattle.facts.specs.declared.Code.the-variants.{UnsupportedService, GeneralFailure}
 use Rattle.facts.specs.Codes.{numberOf}
 use Rattle.facts.specs.Table.{Facts}
-use Rattle.facts.specs.Checks.{Outcome}
-use Rattle.facts.specs.Services.{Service, registerClient, deregisterClient, adjustResourceInfo, requestIrq, releaseIrq, requestIo, releaseIo, requestSocketMask, releaseSocketMask, Serves, serviceNumber, ruleOf, Call}
+use Rattle.facts.specs.Services.{Service, registerClient, deregisterClient, adjustResourceInfo, requestIrq, releaseIrq, requestIo, releaseIo}
+use Rattle.facts.specs.Services.{requestSocketMask, releaseSocketMask, Serves, serviceNumber, ruleOf, Call}
 use Rattle.layout.specs.Sound.{Accepted}
-use Rattle.layout.specs.Served.{Served}
-use Rattle.services.specs.declared.Answer.{Answer}
-use Rattle.services.specs.declared.Answer.the-variants.{Done, Refused}
-use Rattle.services.specs.Answers.{codeOf, handleOf}
-use Rattle.services.proofs.Serve.{kept, refusal}
-use Rattle.keeper.specs.Entries.{packed, Answers, built, Called}
+use Rattle.layout.specs.Served.{ServedBy, TableRefused}
+use Rattle.answers.specs.declared.Answer.{Answer}
+use Rattle.answers.specs.declared.Answer.the-variants.{Done, Refused}
+use Rattle.answers.specs.Answers.{codeOf, handleOf}
+use Rattle.answers.proofs.Serve.{kept, stays}
+use Rattle.irq.specs.declared.SharerCount.{SharerCount}
+use Rattle.irq.specs.declared.SharerCount.the-variants.{Number}
+use Rattle.irq.specs.declared.SharerCount.the-variants as sharers
+use Rattle.irq.specs.Sharing.{countOf}
+use Rattle.keeper.specs.Entries.{packed, built, CallAnswers, CardAnswers, SharersAnswers}
 
 -- no well-formed set has these bytes
-pub unformed : (R : Facts → Outcome → Type 0) (b p : List ℕ) (r : ℕ) → (Accepted b → ⊥) → r ≡ packed GeneralFailure 0 → Answers R b b p p r
-unformed R b p r n e =
-    record {
-      code = GeneralFailure;
-      handle = 0;
-      answer = e;
-      permitted = inr (record { unformed = n; code-is = refl; handle-is = refl; packet = refl; table = refl });
-    }
+module _ (b : List ℕ) (none : Accepted b → ⊥) where
+  stands : TableRefused b b GeneralFailure
+  stands = record { unformed = none; code-is = refl; table = refl }
 
--- ruled by the facts of the table
-pub served : (R : Facts → Outcome → Type 0) (b b′ p p′ : List ℕ) (code : Code) (handle r : ℕ) → Served R b b′ p′ code handle → r ≡ packed code handle
-    → Answers R b b′ p p′ r
-served R b b′ p p′ code handle r s e = record { code = code; handle = handle; answer = e; permitted = inl s }
+  pub call-unformed : (n h : ℕ) (p : List ℕ) (r : ℕ) → r ≡ numberOf GeneralFailure → CallAnswers n h b b p p r
+  call-unformed n h p r e = record { code = GeneralFailure; answered = 0; packs = e; permitted = inr (stands, refl, refl) }
 
--- what one rule permits another does
-pub served-as : {R Q : Facts → Outcome → Type 0} {b b′ p′ : List ℕ} {code : Code} {handle : ℕ} → ((F : Facts) (o : Outcome) → R F o → Q F o) → Served R b b′ p′ code handle
-    → Served Q b b′ p′ code handle
-served-as {code = k} {handle = h} f s =
-    record {
-      facts = s .facts;
-      formed = s .formed;
-      is = s .is;
-      after = s .after;
-      rule = f (s .facts) (record { code = k; handle = h; packet = _; facts = s .after }) (s .rule);
-      table = s .table;
-    }
+  pub card-unformed : (present : Bool) (s r : ℕ) → r ≡ numberOf GeneralFailure → CardAnswers present s b b r
+  card-unformed present s r e = record { code = GeneralFailure; is = e; permitted = inr stands }
+
+  pub sharers-unformed : (l r : ℕ) → r ≡ numberOf GeneralFailure → SharersAnswers l b r
+  sharers-unformed l r e = record { code = GeneralFailure; count = 0; packs = e; permitted = inr (stands, refl) }
 
 -- the numbers that are no built service's
-not-built : (n : ℕ) → n ≢ 2 → n ≢ 16 → Serves built n → ⊥
+not-built : (n : ℕ) → n ≢ serviceNumber deregisterClient → n ≢ serviceNumber registerClient → Serves built n → ⊥
 not-built n x y s = go (s .service) (s .is-built) (s .number-is)
   where
     go : (v : Service) → built v ≡ true → serviceNumber v ≡ n → ⊥
@@ -62,23 +52,52 @@ not-built n x y s = go (s .service) (s .is-built) (s .number-is)
     go requestSocketMask t e = false≢true t
     go releaseSocketMask t e = false≢true t
 
-pub unsupported : (b p : List ℕ) (n h r : ℕ) → Accepted b → n ≢ 2 → n ≢ 16 → r ≡ packed UnsupportedService 0 → Called n h b b p p r
+pub unsupported : (b p : List ℕ) (n h r : ℕ) → Accepted b → n ≢ serviceNumber deregisterClient → n ≢ serviceNumber registerClient
+    → r ≡ packed UnsupportedService 0
+    → CallAnswers n h b b p p r
 unsupported b p n h r a x y e =
-    served (λ (F : Facts). Call built n F h p) b b p p UnsupportedService 0 r
-    (refusal (λ (F : Facts). Call built n F h p) b p a UnsupportedService (inr (not-built n x y, refl, kept (a .facts) p UnsupportedService))) e
+    record {
+      code = UnsupportedService;
+      answered = 0;
+      packs = e;
+      permitted =
+          inl
+          (stays (λ (F G : Facts). Call built n F h p (record { code = UnsupportedService; handle = 0; packet = p; facts = G })) b a
+          (inr (not-built n x y, refl, kept (a .facts) p UnsupportedService)));
+    }
 
 -- a built service, by its number
-pub by-service : (v : Service) (t : built v ≡ true) (b b′ p p′ : List ℕ) (n h r : ℕ) (code : Code) (handle : ℕ) → n ≡ serviceNumber v
-    → Served (λ (F : Facts). ruleOf v F h p) b b′ p′ code handle
-    → r ≡ packed code handle
-    → Called n h b b′ p p′ r
-by-service v t b b′ p p′ n h r code handle i s e =
-    served (λ (F : Facts). Call built n F h p) b b′ p p′ code handle r
-    (served-as (λ F o x. inl (record { service = v; is-built = t; number-is = sym i }, x)) s) e
+pub by-service : (v : Service) (t : built v ≡ true) (b b′ p p′ : List ℕ) (n h r : ℕ) (a : Answer) → n ≡ serviceNumber v
+    → ServedBy (λ (F : Facts). ruleOf v F h p) b b′ p′ (codeOf a) (handleOf a)
+    → r ≡ packed (codeOf a) (handleOf a)
+    → CallAnswers n h b b′ p p′ r
+by-service v t b b′ p p′ n h r a i s e =
+    record {
+      code = codeOf a;
+      answered = handleOf a;
+      packs = e;
+      permitted =
+          inl
+          (record {
+            accepted = s .accepted;
+            after = s .after;
+            rule = inl (record { service = v; is-built = t; number-is = sym i }, s .rule);
+            table = s .table;
+          });
+    }
 
--- the answer's number
+-- the answers' numbers
 pub pack-done : (a : Answer) (h : ℕ) → a ≡ Done (record { 0 = h }) → 65536 * h ≡ packed (codeOf a) (handleOf a)
 pack-done a h e = sym (zero-add (65536 * h)) ∙ ap (λ (x : Answer). packed (codeOf x) (handleOf x)) (sym e)
 
 pub pack-refused : (a : Answer) (k : Code) (n : ℕ) → a ≡ Refused k → n ≡ numberOf k → n ≡ packed (codeOf a) (handleOf a)
 pack-refused a k n e m = m ∙ sym (add-zero (numberOf k)) ∙ ap (λ (x : Answer). packed (codeOf x) (handleOf x)) (sym e)
+
+abbrev countPacked : SharerCount → ℕ
+countPacked c = packed (countOf c .code) (countOf c .count)
+
+pub count-done : (c : SharerCount) (n : ℕ) → c ≡ Number n → 65536 * n ≡ countPacked c
+count-done c n e = sym (zero-add (65536 * n)) ∙ ap countPacked (sym e)
+
+pub count-refused : (c : SharerCount) (k : Code) (n : ℕ) → c ≡ sharers.Refused k → n ≡ numberOf k → n ≡ countPacked c
+count-refused c k n e m = m ∙ sym (add-zero (numberOf k)) ∙ ap countPacked (sym e)

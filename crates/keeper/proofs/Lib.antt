@@ -1,2 +1,2 @@
-pub mod Ends
-pub mod Entries
+mod Ends
+pub mod Laws

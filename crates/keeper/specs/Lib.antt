@@ -1,1 +1,4 @@
+-- What the entries promise, and the laws of those promises. Assumes nothing.
 pub mod Entries
+pub mod Checks
+pub mod Laws

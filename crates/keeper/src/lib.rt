@@ -1,18 +1,23 @@
 // The C boundary: numbers and lent bytes. Any bytes, service number, handle and packet get an answer.
+use answers::Answer;
+use answers::Size;
 use facts::Code;
 use facts::Handle;
 use facts::Socket;
-use image::Loaded;
+use irq::SharerCount;
 use layout::MOST_SOCKETS;
 use layout::TABLE_SIZE;
-use services::Answer;
+use scan::Loaded;
 ghost use mathlib.Core.Path.{_≡_};
 ghost use mathlib.Core.Bool.{true, false};
-ghost use Rattle.services.specs.Answers.{codeOf, handleOf};
-ghost use Rattle.keeper.specs.Entries.{packed, Called, Carded, Shared, Freshed};
+ghost use Rattle.facts.specs.Codes.{numberOf};
+ghost use Rattle.answers.specs.Answers.{codeOf, handleOf};
+ghost use Rattle.irq.specs.Sharing.{countOf};
+ghost use Rattle.keeper.specs.Checks.{SocketsAre};
+ghost use Rattle.keeper.specs.Entries.{packed, CallAnswers, CardAnswers, SharersAnswers, FreshAnswers};
 
 // code + 65536 * handle.
-pub fn pack(a: Answer) -> u32
+fn pack(a: Answer) -> u32
     ensures { λ r. ⌜ r ≡ packed (codeOf a) (handleOf a) ⌝ }
 {
     match a {
@@ -24,76 +29,101 @@ pub fn pack(a: Answer) -> u32
     }
 }
 
+// code + 65536 * count.
+fn pack_count(c: SharerCount) -> u32
+    ensures { λ r. ⌜ r ≡ packed (countOf c .code) (countOf c .count) ⌝ }
+{
+    match c {
+        SharerCount::Number(n) => 65536 * (n as u32),
+        SharerCount::Refused(code) => facts::number(code),
+    }
+}
+
 // The answer where no well-formed set has the table's bytes.
 fn unformed() -> u32
-    ensures { λ r. ⌜ r ≡ packed Code.GeneralFailure 0 ⌝ }
+    ensures { λ r. ⌜ r ≡ numberOf Code.GeneralFailure ⌝ }
 {
-    pack(Answer::Refused(Code::GeneralFailure))
+    facts::number(Code::GeneralFailure)
+}
+
+// Whether a table may have so many sockets.
+pub enum SocketCount {
+    Allowed(u8),
+    Outside,
+}
+
+fn socket_count(sockets: u32) -> SocketCount
+    ensures { λ r. ⌜ SocketsAre sockets r ⌝ }
+{
+    if sockets == 0 {
+        return SocketCount::Outside;
+    }
+    if MOST_SOCKETS < sockets as usize {
+        return SocketCount::Outside;
+    }
+    SocketCount::Allowed(sockets as u8)
 }
 
 #[no_mangle]
-pub extern "C" fn cs_fresh(table: &mut [u8], sockets: u8) -> u32
-    ensures { λ r. ⌜ Freshed sockets (now (table .entry)) (now (table .exit)) r ⌝ }
+pub extern "C" fn cs_fresh(table: &mut [u8], sockets: u32) -> u32
+    ensures { λ r. ⌜ FreshAnswers sockets (now (table .entry)) (now (table .exit)) r ⌝ }
 {
-    if table.len() != TABLE_SIZE {
+    let Size::Right = answers::sized(table, TABLE_SIZE) else {
         return unformed();
-    }
-    if sockets == 0 {
+    };
+    let SocketCount::Allowed(n) = socket_count(sockets) else {
         return unformed();
-    }
-    if MOST_SOCKETS < sockets as usize {
-        return unformed();
-    }
-    image::make_fresh(table, sockets);
+    };
+    image::make_fresh(table, n);
     facts::number(Code::Success)
 }
 
 #[no_mangle]
 pub extern "C" fn cs_call(table: &mut [u8], service: u16, handle: u16, packet: &mut [u8]) -> u32
-    ensures { λ r. ⌜ Called service handle (now (table .entry)) (now (table .exit)) (now (packet .entry)) (now (packet .exit)) r ⌝ }
+    ensures { λ r. ⌜ CallAnswers service handle (now (table .entry)) (now (table .exit)) (now (packet .entry)) (now (packet .exit)) r ⌝ }
 {
-    let Loaded::Formed = image::load(table) else {
+    let Loaded::Formed = scan::load(table) else {
         return unformed();
     };
     // DeregisterClient, RegisterClient, and every other number.
     match service {
-        0x02 => pack(services::clients::deregister(table, Handle(handle), packet)),
-        0x10 => pack(services::clients::register(table, packet)),
+        0x02 => pack(clients::deregister(table, Handle(handle), packet)),
+        0x10 => pack(clients::register(table, packet)),
         0x00..=0x01 | 0x03..=0x0F | 0x11..=0xFFFF => pack(Answer::Refused(
             Code::UnsupportedService,
         )),
     }
 }
 
-fn card(table: &mut [u8], socket: u16, present: bool) -> u32
-    ensures { λ r. ⌜ Carded present socket (now (table .entry)) (now (table .exit)) r ⌝ }
+fn card(table: &mut [u8], socket: Socket, present: bool) -> u32
+    ensures { λ r. ⌜ CardAnswers present (socket .0) (now (table .entry)) (now (table .exit)) r ⌝ }
 {
-    let Loaded::Formed = image::load(table) else {
+    let Loaded::Formed = scan::load(table) else {
         return unformed();
     };
-    pack(services::sockets::card(table, Socket(socket), present))
+    facts::number(sockets::card(table, socket, present))
 }
 
 #[no_mangle]
-pub extern "C" fn cs_card_in(table: &mut [u8], socket: u16) -> u32
-    ensures { λ r. ⌜ Carded true socket (now (table .entry)) (now (table .exit)) r ⌝ }
+pub extern "C" fn cs_card_in(table: &mut [u8], socket: u32) -> u32
+    ensures { λ r. ⌜ CardAnswers true socket (now (table .entry)) (now (table .exit)) r ⌝ }
 {
-    card(table, socket, true)
+    card(table, Socket(socket as usize), true)
 }
 
 #[no_mangle]
-pub extern "C" fn cs_card_out(table: &mut [u8], socket: u16) -> u32
-    ensures { λ r. ⌜ Carded false socket (now (table .entry)) (now (table .exit)) r ⌝ }
+pub extern "C" fn cs_card_out(table: &mut [u8], socket: u32) -> u32
+    ensures { λ r. ⌜ CardAnswers false socket (now (table .entry)) (now (table .exit)) r ⌝ }
 {
-    card(table, socket, false)
+    card(table, Socket(socket as usize), false)
 }
 
 #[no_mangle]
-pub extern "C" fn cs_sharers(table: &[u8], level: u16) -> u32
-    ensures { λ r. ⌜ Shared level (now (table .entry)) r ⌝ }
+pub extern "C" fn cs_sharers(table: &[u8], level: u32) -> u32
+    ensures { λ r. ⌜ SharersAnswers level (now (table .entry)) r ⌝ }
 {
-    let Loaded::Formed = image::load(table) else {
+    let Loaded::Formed = scan::load(table) else {
         return unformed();
     };
-    pack(services::irq::sharers(table, level))
+    pack_count(irq::sharers(table, level))
 }

@@ -2,36 +2,28 @@
 use mathlib.Core.Path.{_≡_, refl, ap, sym, _∙_}
 use mathlib.Core.Logic.{_⊎_, inl, inr, _≢_}
 use mathlib.Core.List.{List, [], _∷_, _++_}
-use mathlib.Core.Bool.{Bool, cond}
-use mathlib.Core.Option.{Option, none, some, Option·some-injective, Option·none-ne-some}
-use Prim.Native.Nat.{ℕ, zero, suc, _+_, _*_, _-_, _/_, _%_, _≤_, _<_}
-use native.Mathlib.Nat.{not-suc-le-zero, le-of-suc-le-suc}
+use mathlib.Core.Bool.{Bool}
+use mathlib.Core.Option.{Option, none, some}
+use Prim.Native.Nat.{ℕ, suc, _+_, _*_, _-_, _/_, _%_, _≤_, _<_}
 use native.Mathlib.Decide.{decLt, ℕ-discrete}
 use native.Mathlib.Omega.{arith}
 use lib.ListN.{length, getD, getElem?, length-append}
-use borrow.Author.Tests.{eq-eqb, ne-eqb}
 use Rattle.facts.specs.Table
 use Rattle.facts.specs.Table.{Facts, Client, fresh}
 use Rattle.facts.specs.Sets.{put}
 use Rattle.facts.specs.Packets.{byte}
-use Rattle.facts.specs.Clients.{registered, withClients, without}
+use Rattle.facts.specs.Clients.{registered, newClient, withClients, withoutClient}
 use Rattle.facts.specs.Sockets.{withCard}
+use Rattle.facts.proofs.Sets.{put-same, put-other}
 use Rattle.layout.specs.Layout
 use Rattle.layout.specs.Layout.{mark, two, maskBytes, clientBytes, levelBytes, head}
 use Rattle.layout.specs.Reading.{irqPlace, ioPlace, levelPlace, rangePlace, clientPlace}
 use Rattle.layout.specs.Changed.{lastClient}
 use Rattle.layout.proofs.Parts.{below-at}
-use Rattle.layout.proofs.Lists.{at-left, at-end, at-past}
+use Rattle.layout.proofs.Lists.{at-left, at-end, at-past, Fewer, without-at}
 use Rattle.layout.proofs.RoundTrip.{mask-bytes}
 use Rattle.layout.proofs.Grants.{zeros}
 use Rattle.layout.proofs.Shows.{Shows}
-
--- what is put in its place, and what stays
-pub put-same : {A : Type 0} (f : ℕ → A) (k : ℕ) (x : A) → put f k x k ≡ x
-put-same f k x = ap (λ (t : Bool). cond t x (f k)) (eq-eqb k k refl)
-
-pub put-other : {A : Type 0} (f : ℕ → A) (k : ℕ) (x : A) (j : ℕ) → j ≢ k → put f k x j ≡ f j
-put-other f k x j d = ap (λ (t : Bool). cond t x (f j)) (ne-eqb j k d)
 
 -- a card's byte
 pub card-shown : (F : Facts) (b b′ : List ℕ) (s : ℕ) (v : Bool) → Shows F b → s < Table.mostSockets → length b′ ≡ length b
@@ -66,11 +58,7 @@ no-masks c h j l m =
     place : j ≡ 6 + ((j - 6) / 2 * 2 + (j - 6) % 2)
     place = omega arith
 
--- the client that is registered
-abbrev pub newClient : Facts → ℕ → ℕ → Client
-newClient F attributes events = record { handle = F .issued + 1; attributes = attributes; events = events; mask = λ s. none }
-
--- its first six bytes
+-- the first six bytes of the client that is registered
 abbrev pub newBytes : Facts → ℕ → ℕ → List ℕ
 newBytes F attributes events = two (F .issued + 1) ++ two attributes ++ two events
 
@@ -82,7 +70,8 @@ pub record Left (F : Facts) (p : ℕ) : Type 0 where
   pub place : (p < clientPlace (length (F .clients))) ⊎ (clientPlace (length (F .clients)) + 6 ≤ p)
 
 -- a client registered: the number of clients, the handles issued and the next record are written
-module _ (F : Facts) (b b′ : List ℕ) (attributes events : ℕ) (w : Shows F b) (room : length (F .clients) < Table.mostClients) (size : length b′ ≡ length b)
+module _ (F : Facts) (b b′ : List ℕ) (attributes events : ℕ) (w : Shows F b) (room : length (F .clients) < Table.mostClients)
+    (size : length b′ ≡ length b)
     (count : byte b′ 1 ≡ length (F .clients) + 1) (low : byte b′ 3 ≡ (F .issued + 1) % 256) (high : byte b′ 4 ≡ (F .issued + 1) / 256)
     (six : (j : ℕ) → j < 6 → byte b′ (clientPlace (length (F .clients)) + j) ≡ getD (newBytes F attributes events) j 0)
     (other : (p : ℕ) → Left F p → byte b′ p ≡ byte b p) where
@@ -113,7 +102,8 @@ module _ (F : Facts) (b b′ : List ℕ) (attributes events : ℕ) (w : Shows F 
       )
 
   -- the new record
-  new-record : (j : ℕ) → j < Layout.clientSize → getD (clientBytes (some (newClient F attributes events))) j 0 ≡ byte b′ (clientPlace (length (F .clients)) + j)
+  new-record : (j : ℕ) → j < Layout.clientSize → getD (clientBytes (some (newClient F attributes events))) j 0 ≡ byte b′
+      (clientPlace (length (F .clients)) + j)
   new-record j m = go (decLt j 6)
     where
       go : Dec (j < 6) → getD (clientBytes (some (newClient F attributes events))) j 0 ≡ byte b′ (clientPlace (length (F .clients)) + j)
@@ -127,13 +117,15 @@ module _ (F : Facts) (b b′ : List ℕ) (attributes events : ℕ) (w : Shows F 
           ∙ w .clients-are (length (F .clients)) j room m
           ∙ sym (after (clientPlace (length (F .clients)) + j) (omega arith))
 
-  records : (i j : ℕ) → i < Table.mostClients → j < Layout.clientSize → getD (clientBytes (getElem? (registered F attributes events .clients) i)) j 0 ≡ byte b′ (clientPlace i + j)
+  records : (i j : ℕ) → i < Table.mostClients → j < Layout.clientSize
+      → getD (clientBytes (getElem? (registered F attributes events .clients) i)) j 0 ≡ byte b′ (clientPlace i + j)
   records i j l m = go (decLt i (length (F .clients))) (ℕ-discrete i (length (F .clients)))
     where
       new : Client
       new = newClient F attributes events
 
-      go : Dec (i < length (F .clients)) → Dec (i ≡ length (F .clients)) → getD (clientBytes (getElem? (F .clients ++ (new ∷ [])) i)) j 0 ≡ byte b′ (clientPlace i + j)
+      go : Dec (i < length (F .clients)) → Dec (i ≡ length (F .clients))
+          → getD (clientBytes (getElem? (F .clients ++ (new ∷ [])) i)) j 0 ≡ byte b′ (clientPlace i + j)
       go (yes h) d =
           ap (λ (o : Option Client). getD (clientBytes o) j 0) (at-left (F .clients) (new ∷ []) i h) ∙ w .clients-are i j l m
           ∙ sym (before (clientPlace i + j) (omega arith) (omega arith))
@@ -163,53 +155,28 @@ module _ (F : Facts) (b b′ : List ℕ) (attributes events : ℕ) (w : Shows F 
         rest-is = λ i m n. after i (omega arith) ∙ w .rest-is i m n;
       }
 
--- the clients but the kth
-without-at : (h : ℕ) (cs : List Client) (k : ℕ) (c : Client) → getElem? cs k ≡ some c → c .handle ≡ h
-    → ((i : ℕ) (x : Client) → i < k → getElem? cs i ≡ some x → x .handle ≢ h)
-    → ((i : ℕ) → i < k → getElem? (without h cs) i ≡ getElem? cs i) × ((i : ℕ) → k ≤ i → getElem? (without h cs) i ≡ getElem? cs (suc i))
-    × (suc (length (without h cs)) ≡ length cs)
-without-at h [] k c e is first = absurd (Option·none-ne-some c e)
-without-at h (x ∷ cs) zero c e is first =
-    let same = ap (λ (t : Bool). cond t cs (x ∷ without h cs)) (eq-eqb (x .handle) h (ap (λ (y : Client). y .handle) (Option·some-injective x c e) ∙ is)) in
-    ((λ i l. absurd (not-suc-le-zero l)), (λ i l. ap (λ (l : List Client). getElem? l i) same), ap (λ (l : List Client). suc (length l)) same)
-without-at h (x ∷ cs) (suc k) c e is first =
-    let same = ap (λ (t : Bool). cond t cs (x ∷ without h cs)) (ne-eqb (x .handle) h (first zero x (omega arith) refl)) in
-    let rest = without-at h cs k c e is (λ i y l q. first (suc i) y (omega arith) q) in
-    (at-front same (rest .0), at-back same (rest .1), ap (λ (l : List Client). suc (length l)) same ∙ ap suc (rest .2))
-  where
-    at-front : without h (x ∷ cs) ≡ x ∷ without h cs → ((i : ℕ) → i < k → getElem? (without h cs) i ≡ getElem? cs i)
-        → (i : ℕ) → i < suc k → getElem? (without h (x ∷ cs)) i ≡ getElem? (x ∷ cs) i
-    at-front same below zero l = ap (λ (l : List Client). getElem? l zero) same
-    at-front same below (suc i) l = ap (λ (l : List Client). getElem? l (suc i)) same ∙ below i (le-of-suc-le-suc l)
-
-    at-back : without h (x ∷ cs) ≡ x ∷ without h cs → ((i : ℕ) → k ≤ i → getElem? (without h cs) i ≡ getElem? cs (suc i))
-        → (i : ℕ) → suc k ≤ i → getElem? (without h (x ∷ cs)) i ≡ getElem? (x ∷ cs) (suc i)
-    at-back same past zero l = absurd (not-suc-le-zero l)
-    at-back same past (suc i) l = ap (λ (l : List Client). getElem? l (suc i)) same ∙ past i (le-of-suc-le-suc l)
-
 -- a client deregistered: the number of clients is written, and the records past the kth move one place down
-module _ (F : Facts) (b b′ : List ℕ) (h k : ℕ) (c : Client) (w : Shows F b) (most : length (F .clients) ≤ Table.mostClients) (here : getElem? (F .clients) k ≡ some c)
+module _ (F : Facts) (b b′ : List ℕ) (h k : ℕ) (c : Client) (w : Shows F b) (most : length (F .clients) ≤ Table.mostClients)
+    (here : getElem? (F .clients) k ≡ some c)
     (is : c .handle ≡ h) (first : (i : ℕ) (x : Client) → i < k → getElem? (F .clients) i ≡ some x → x .handle ≢ h) (size : length b′ ≡ length b)
     (count : byte b′ 1 + 1 ≡ length (F .clients)) (moved : (p : ℕ) → clientPlace k ≤ p → p < lastClient → byte b′ p ≡ byte b (p + Layout.clientSize))
     (last : (p : ℕ) → lastClient ≤ p → p < Layout.rangesAt → byte b′ p ≡ 0)
     (other : (p : ℕ) → p ≢ 1 → (p < clientPlace k) ⊎ (Layout.rangesAt ≤ p) → byte b′ p ≡ byte b p) where
   G : Facts
-  G = withClients F (without h (F .clients))
+  G = withClients F (withoutClient h (F .clients))
 
-  fewer : ((i : ℕ) → i < k → getElem? (without h (F .clients)) i ≡ getElem? (F .clients) i)
-      × ((i : ℕ) → k ≤ i → getElem? (without h (F .clients)) i ≡ getElem? (F .clients) (suc i))
-      × (suc (length (without h (F .clients))) ≡ length (F .clients))
-  fewer = without-at h (F .clients) k c here is first
+  fewer : Fewer (F .clients) (withoutClient h (F .clients)) k
+  fewer = without-at (λ (x : Client). x .handle) h (F .clients) k c here is first
 
   stays : (p : ℕ) → p ≢ 1 → p < Layout.clientsAt → byte b′ p ≡ byte b p
   stays p d l = other p d (inl (omega arith))
 
-  heads-less : (j : ℕ) → j < 5 → getD (head (withClients F (without h (F .clients)))) j 0 ≡ byte b′ j
+  heads-less : (j : ℕ) → j < 5 → getD (head (withClients F (withoutClient h (F .clients)))) j 0 ≡ byte b′ j
   unfolding head
   heads-less =
-      below-at 5 (λ j. getD (head (withClients F (without h (F .clients)))) j 0 ≡ byte b′ j) (
+      below-at 5 (λ j. getD (head (withClients F (withoutClient h (F .clients)))) j 0 ≡ byte b′ j) (
         (
-          (((tt, keep 0 (omega arith) (λ e. omega (arith, e))), omega (arith, fewer .2, count)), keep 2 (omega arith) (λ e. omega (arith, e))),
+          (((tt, keep 0 (omega arith) (λ e. omega (arith, e))), omega (arith, fewer .one-less, count)), keep 2 (omega arith) (λ e. omega (arith, e))),
           keep 3 (omega arith) (λ e. omega (arith, e)),
         ),
         keep 4 (omega arith) (λ e. omega (arith, e)),
@@ -218,24 +185,27 @@ module _ (F : Facts) (b b′ : List ℕ) (h k : ℕ) (c : Client) (w : Shows F b
       keep : (j : ℕ) → j < 5 → j ≢ 1 → getD (head F) j 0 ≡ byte b′ j
       keep j l d = w .head-is j l ∙ sym (stays j d (omega arith))
 
-  records-less : (i j : ℕ) → i < Table.mostClients → j < Layout.clientSize → getD (clientBytes (getElem? (without h (F .clients)) i)) j 0 ≡ byte b′ (clientPlace i + j)
+  records-less : (i j : ℕ) → i < Table.mostClients → j < Layout.clientSize
+      → getD (clientBytes (getElem? (withoutClient h (F .clients)) i)) j 0 ≡ byte b′ (clientPlace i + j)
   records-less i j l m = go (decLt i k) (decLt (suc i) Table.mostClients)
     where
-      go : Dec (i < k) → Dec (suc i < Table.mostClients) → getD (clientBytes (getElem? (without h (F .clients)) i)) j 0 ≡ byte b′ (clientPlace i + j)
+      go : Dec (i < k) → Dec (suc i < Table.mostClients) → getD (clientBytes (getElem? (withoutClient h (F .clients)) i)) j 0 ≡ byte b′
+          (clientPlace i + j)
       go (yes x) d =
-          ap (λ (o : Option Client). getD (clientBytes o) j 0) (fewer .0 i x) ∙ w .clients-are i j l m
+          ap (λ (o : Option Client). getD (clientBytes o) j 0) (fewer .ahead i x) ∙ w .clients-are i j l m
           ∙ sym (other (clientPlace i + j) (λ e. omega (arith, e)) (inl (omega arith)))
       go (no x) (yes y) =
-          ap (λ (o : Option Client). getD (clientBytes o) j 0) (fewer .1 i (omega arith)) ∙ w .clients-are (suc i) j (omega arith) m
+          ap (λ (o : Option Client). getD (clientBytes o) j 0) (fewer .behind i (omega arith)) ∙ w .clients-are (suc i) j (omega arith) m
           ∙ ap (byte b) next ∙ sym (moved (clientPlace i + j) (omega arith) (omega arith))
         where
           next : clientPlace (suc i) + j ≡ clientPlace i + j + Layout.clientSize
           next = omega arith
       go (no x) (no y) =
-          ap (λ (o : Option Client). getD (clientBytes o) j 0) (fewer .1 i (omega arith) ∙ at-past (F .clients) (suc i) (omega arith)) ∙ zeros Layout.clientSize j m
+          ap (λ (o : Option Client). getD (clientBytes o) j 0) (fewer .behind i (omega arith) ∙ at-past (F .clients) (suc i) (omega arith))
+          ∙ zeros Layout.clientSize j m
           ∙ sym (last (clientPlace i + j) (omega arith) (omega arith))
 
-  pub deregister-shown : Shows (withClients F (without h (F .clients))) b′
+  pub deregister-shown : Shows (withClients F (withoutClient h (F .clients))) b′
   deregister-shown =
       record {
         size = size ∙ w .size;
@@ -250,7 +220,8 @@ module _ (F : Facts) (b b′ : List ℕ) (h k : ℕ) (c : Client) (w : Shows F b
       }
 
 -- a fresh table: the socket count, and zero
-pub fresh-shown : (n : ℕ) (b : List ℕ) → length b ≡ Layout.tableSize → byte b 0 ≡ n → ((p : ℕ) → 1 ≤ p → p < Layout.tableSize → byte b p ≡ 0) → Shows (fresh n) b
+pub fresh-shown : (n : ℕ) (b : List ℕ) → length b ≡ Layout.tableSize → byte b 0 ≡ n → ((p : ℕ) → 1 ≤ p → p < Layout.tableSize → byte b p ≡ 0)
+    → Shows (fresh n) b
 unfolding head
 fresh-shown n b size count zero-past =
     record {
@@ -263,7 +234,8 @@ fresh-shown n b size count zero-past =
         sym (zero-past 4 (omega arith) (omega arith)),
       );
       cards-are = λ s l. sym (zero-past (Layout.cardsAt + s) (omega arith) (omega arith));
-      levels-are = λ l j h m. below-at 2 (λ j. getD (levelBytes (fresh n .level l)) j 0 ≡ 0) ((tt, refl), refl) j m ∙ sym (zero-past (levelPlace l + j) (omega arith) (omega arith));
+      levels-are = λ l j h m. below-at 2 (λ j. getD (levelBytes (fresh n .level l)) j 0 ≡ 0) ((tt, refl), refl) j m
+          ∙ sym (zero-past (levelPlace l + j) (omega arith) (omega arith));
       ios-are = λ s j h m. zeros Layout.ioSize j m ∙ sym (zero-past (ioPlace s + j) (omega arith) (omega arith));
       irqs-are = λ s j h m. zeros Layout.irqSize j m ∙ sym (zero-past (irqPlace s + j) (omega arith) (omega arith));
       clients-are = λ i j h m. zeros Layout.clientSize j m ∙ sym (zero-past (clientPlace i + j) (omega arith) (omega arith));

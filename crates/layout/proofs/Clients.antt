@@ -9,7 +9,7 @@ use lib.ListN.{length, getD, length-set}
 use Rattle.facts.specs.Table
 use Rattle.facts.specs.Table.{Facts}
 use Rattle.facts.specs.Packets.{byte, withWord}
-use Rattle.facts.specs.Clients.{registered, withClients, without}
+use Rattle.facts.specs.Clients.{registered, withClients, withoutClient}
 use Rattle.layout.specs.Layout
 use Rattle.layout.specs.Layout.{image, two}
 use Rattle.layout.specs.Reading.{clientsIn, handleIn, clientPlace}
@@ -22,7 +22,8 @@ use Rattle.layout.proofs.Written.{byte-same, byte-other, word-length, w
 use Rattle.layout.proofs.Changes.{register-shown, deregister-shown}
 
 -- the bytes of a table with a new client
-module _ (b : List ℕ) (n h attributes events : ℕ) (size : length b ≡ Layout.tableSize) (room : n < Table.mostClients) (low : h < 65536) (lowa : attributes < 65536) (lowe : events < 65536) where
+module _ (b : List ℕ) (n h attributes events : ℕ) (size : length b ≡ Layout.tableSize) (room : n < Table.mostClients) (low : h < 65536)
+    (lowa : attributes < 65536) (lowe : events < 65536) where
   w1 : List ℕ
   w1 = withWord b (clientPlace n) h
 
@@ -113,7 +114,8 @@ module _ (b : List ℕ) (n h attributes events : ℕ) (size : length b ≡ Layou
       ∙ below-at 6 (λ j. byte w3 (clientPlace n + j) ≡ getD (two h ++ two attributes ++ two events) j 0)
       ((((((tt, ap (byte w3) (add-zero (clientPlace n)) ∙ at0), at1), at2), at3), at4), at5) j l
 
-  pub entered-other : (p : ℕ) → p ≢ 1 → p ≢ 3 → p ≢ 4 → (p < clientPlace n) ⊎ (clientPlace n + 6 ≤ p) → byte (entered b n h attributes events) p ≡ byte b p
+  pub entered-other : (p : ℕ) → p ≢ 1 → p ≢ 3 → p ≢ 4 → (p < clientPlace n) ⊎ (clientPlace n + 6 ≤ p)
+      → byte (entered b n h attributes events) p ≡ byte b p
   unfolding entered w1 w2 w3 w4
   entered-other p x y z o =
       byte-other w4 1 (n + 1) p x ∙ word-other w3 3 h p y z
@@ -126,7 +128,8 @@ module _ (b : List ℕ) (n h attributes events : ℕ) (size : length b ≡ Layou
       apart j (inr l) h e = omega (arith, e)
 
 -- the facts with the new client
-pub entered-image : (F : Facts) (b : List ℕ) (attributes events : ℕ) → Shows F b → length (F .clients) < Table.mostClients → F .issued < Table.mostIssued
+pub entered-image : (F : Facts) (b : List ℕ) (attributes events : ℕ) → Shows F b → length (F .clients) < Table.mostClients
+    → F .issued < Table.mostIssued
     → attributes < 65536
     → events < 65536
     → image (registered F attributes events) ≡ entered b (length (F .clients)) (F .issued + 1) attributes events
@@ -147,10 +150,11 @@ entered-image F b attributes events w room left lowa lowe =
     low = omega arith
 
 -- the facts without the client in the place i
-pub withdrawn-image : (b b′ : List ℕ) (a : Accepted b) (i h : ℕ) → i < clientsIn b → handleIn b i ≡ h → ((k : ℕ) → k < i → handleIn b k ≡ h → ⊥) → Withdrawn b b′ i
-    → image (withClients (a .facts) (without h (a .facts .clients))) ≡ b′
+pub withdrawn-image : (b b′ : List ℕ) (a : Accepted b) (i h : ℕ) → i < clientsIn b → handleIn b i ≡ h → ((k : ℕ) → k < i → handleIn b k ≡ h → ⊥)
+    → Withdrawn b b′ i
+    → image (withClients (a .facts) (withoutClient h (a .facts .clients))) ≡ b′
 withdrawn-image b b′ a i h l e first d =
     let c = Of.client-of b a i l in
-    shows-image (withClients (a .facts) (without h (a .facts .clients))) b′
+    shows-image (withClients (a .facts) (withoutClient h (a .facts .clients))) b′
     (deregister-shown (a .facts) b b′ h i (c .0) (Of.shows-in b a) (a .formed .clients-most) (c .1) (sym (Of.handle-of b a i (c .0) (c .1) l) ∙ e)
     (λ k x m q r. first k m (Of.handle-of b a k x q (omega arith) ∙ r)) (d .size) (d .count ∙ Of.clients-in b a) (d .moved) (d .last) (d .other))

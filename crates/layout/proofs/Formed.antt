@@ -15,7 +15,8 @@ use Rattle.facts.specs.Packets.{byte, word}
 use Rattle.facts.specs.WellFormed.{WellFormed, ClientFits, IoFits, IrqFits, Live, EventsAllowed, IoCompany, IrqCompany}
 use Rattle.facts.proofs.Company.{meet-symmetric, together-symmetric}
 use Rattle.layout.specs.Layout
-use Rattle.layout.specs.Reading.{socketsIn, clientsIn, rangesIn, below, marked, maskOf, maskPlace, levelPlace, ioPlace, irqPlace, clientIn, rangeIn, levelIn, ioIn, irqIn, ioHere, irqHere, factsIn}
+use Rattle.layout.specs.Reading.{socketsIn, clientsIn, rangesIn, below, marked, maskOf, maskPlace, levelPlace, ioPlace, irqPlace, clientIn}
+use Rattle.layout.specs.Reading.{rangeIn, levelIn, ioIn, irqIn, ioHere, irqHere, factsIn}
 use Rattle.layout.specs.Sound.{Sound, MaskSound, LiveIn, ManagedIn, IoUsed, IrqUsed, IoSound, IrqSound}
 use Rattle.layout.proofs.Lists.{below-in, below-past, upTo-in, in-upTo, upTo-length, rising-upTo, apart-upTo}
 use Rattle.layout.proofs.Grants.{nonzero, read}
@@ -52,7 +53,9 @@ module _ (b : List ℕ) (bytes : Bytes b) (s : Sound b) where
   card-formed t e = go (decLt t Table.mostSockets)
     where
       go : Dec (t < Table.mostSockets) → t < socketsIn b
-      go (yes l) = s .cards t l .socket (marked-is (byte b (Layout.cardsAt + t)) (sym (below-in Table.mostSockets false (λ t. marked (byte b (Layout.cardsAt + t))) t l) ∙ e))
+      go (yes l) =
+          s .cards t l .socket (marked-is (byte b (Layout.cardsAt + t))
+          (sym (below-in Table.mostSockets false (λ t. marked (byte b (Layout.cardsAt + t))) t l) ∙ e))
       go (no l) = absurd (false≢true (sym (below-past Table.mostSockets false (λ t. marked (byte b (Layout.cardsAt + t))) t (omega arith)) ∙ e))
 
   mask-formed : (i t m : ℕ) → i < clientsIn b → clientIn b i .mask t ≡ some m → (t < socketsIn b) × EventsAllowed m
@@ -104,12 +107,14 @@ module _ (b : List ℕ) (bytes : Bytes b) (s : Sound b) where
       none-managed = record { managed = false; reserved = false }
 
       go : Dec (l < Table.allLevels) → (l < Table.allLevels) × (byte b (levelPlace l) ≡ 1)
-      go (yes h) = (h, marked-is (byte b (levelPlace l)) (sym (ap (λ (v : Level). v .managed) (below-in Table.allLevels none-managed (levelIn b) l h)) ∙ e))
+      go (yes h) =
+          (h, marked-is (byte b (levelPlace l)) (sym (ap (λ (v : Level). v .managed) (below-in Table.allLevels none-managed (levelIn b) l h)) ∙ e))
       go (no h) = absurd (false≢true (sym (ap (λ (v : Level). v .managed) (below-past Table.allLevels none-managed (levelIn b) l (omega arith))) ∙ e))
 
   level-managed : (l : ℕ) → l < Table.allLevels → byte b (levelPlace l) ≡ 1 → factsIn b .level l .managed ≡ true
   unfolding factsIn levelIn
-  level-managed l h e = ap (λ (v : Level). v .managed) (below-in Table.allLevels (record { managed = false; reserved = false }) (levelIn b) l h) ∙ marked-one (byte b (levelPlace l)) e
+  level-managed l h e = ap (λ (v : Level). v .managed) (below-in Table.allLevels (record { managed = false; reserved = false }) (levelIn b) l h)
+      ∙ marked-one (byte b (levelPlace l)) e
 
   level-reserved : (l : ℕ) → factsIn b .level l .reserved ≡ true → factsIn b .level l .managed ≡ true
   unfolding factsIn levelIn
@@ -120,10 +125,11 @@ module _ (b : List ℕ) (bytes : Bytes b) (s : Sound b) where
 
       go : Dec (l < Table.allLevels) → below Table.allLevels none-managed (levelIn b) l .managed ≡ true
       go (yes h) =
-          let r = marked-is (byte b (levelPlace l + 1)) (sym (ap (λ (v : Level). v .reserved) (below-in Table.allLevels none-managed (levelIn b) l h)) ∙ e) in
-          ap (λ (v : Level). v .managed) (below-in Table.allLevels none-managed (levelIn b) l h)
-          ∙ marked-one (byte b (levelPlace l)) (omega (arith, r, s .levels l h .managed, s .levels l h .reserved))
-      go (no h) = absurd (false≢true (sym (ap (λ (v : Level). v .reserved) (below-past Table.allLevels none-managed (levelIn b) l (omega arith))) ∙ e))
+          let here = below-in Table.allLevels none-managed (levelIn b) l h in
+          let r = marked-is (byte b (levelPlace l + 1)) (sym (ap (λ (v : Level). v .reserved) here) ∙ e) in
+          ap (λ (v : Level). v .managed) here ∙ marked-one (byte b (levelPlace l)) (omega (arith, r, s .levels l h .managed, s .levels l h .reserved))
+      go (no h) =
+          absurd (false≢true (sym (ap (λ (v : Level). v .reserved) (below-past Table.allLevels none-managed (levelIn b) l (omega arith))) ∙ e))
 
   -- a grant that is read is the record of a socket that is used
   io-there : (t : ℕ) (g : IoGrant) → factsIn b .io t ≡ some g → (t < Table.mostSockets) × IoUsed b t × IoSound b t × (ioIn b t ≡ g)
@@ -158,7 +164,11 @@ module _ (b : List ℕ) (bytes : Bytes b) (s : Sound b) where
   irq-fits : (t : ℕ) → IrqSound b t → IrqFits (factsIn b) t (irqIn b t)
   unfolding factsIn irqIn
   irq-fits t u =
-      record { client = live-of (word b (irqPlace t)) (u .client); socket = u .socket; managed = level-managed (byte b (irqPlace t + 2)) (u .level) (u .managed) }
+      record {
+        client = live-of (word b (irqPlace t)) (u .client);
+        socket = u .socket;
+        managed = level-managed (byte b (irqPlace t + 2)) (u .level) (u .managed);
+      }
 
   io-keeps : (t u : ℕ) → t < Table.mostSockets → u < Table.mostSockets → t ≢ u → IoUsed b t → IoUsed b u → IoCompany (ioIn b t) (ioIn b u)
   io-keeps t u l m d x y = go (decLt u t)

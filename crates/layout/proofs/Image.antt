@@ -12,7 +12,8 @@ use Rattle.facts.specs.Table
 use Rattle.facts.specs.Table.{Facts, Client, Range, IoGrant, IrqGrant}
 use Rattle.facts.specs.Packets.{byte, word}
 use Rattle.layout.specs.Layout
-use Rattle.layout.specs.Layout.{each, mark, maskBytes, clientBytes, levelBytes, rangeBytes, ioBytes, irqBytes, head, cards, levels, ios, irqs, clients, ranges, rest, image}
+use Rattle.layout.specs.Layout.{each, mark, maskBytes, clientBytes, levelBytes, rangeBytes, ioBytes, irqBytes, head, cards, levels, ios, irqs}
+use Rattle.layout.specs.Layout.{clients, ranges, rest, image}
 use Rattle.layout.proofs.Parts.{each-length, each-at, record-below}
 
 -- the size of each record
@@ -63,7 +64,8 @@ module _ (F : Facts) where
 
   pub clients-length : length (clients F) ≡ Table.mostClients * Layout.clientSize
   unfolding clients
-  clients-length = each-length Layout.clientSize (λ i. clientBytes (getElem? (F .clients) i)) (λ i. client-size (getElem? (F .clients) i)) Table.mostClients
+  clients-length =
+      each-length Layout.clientSize (λ i. clientBytes (getElem? (F .clients) i)) (λ i. client-size (getElem? (F .clients) i)) Table.mostClients
 
   pub ranges-length : length (ranges F) ≡ Table.mostRanges * Layout.rangeSize
   unfolding ranges
@@ -79,13 +81,18 @@ module _ (F : Facts) where
   from-cards = refl
 
   pub from-levels : drop Layout.levelsAt (image F) ≡ levels F ++ (ios F ++ (irqs F ++ (clients F ++ (ranges F ++ rest))))
-  from-levels = past (image F) (cards F) (levels F ++ (ios F ++ (irqs F ++ (clients F ++ (ranges F ++ rest))))) Layout.cardsAt (Table.mostSockets * Layout.cardSize) from-cards cards-length
+  from-levels =
+      past (image F) (cards F) (levels F ++ (ios F ++ (irqs F ++ (clients F ++ (ranges F ++ rest))))) Layout.cardsAt
+      (Table.mostSockets * Layout.cardSize) from-cards cards-length
 
   pub from-ios : drop Layout.iosAt (image F) ≡ ios F ++ (irqs F ++ (clients F ++ (ranges F ++ rest)))
-  from-ios = past (image F) (levels F) (ios F ++ (irqs F ++ (clients F ++ (ranges F ++ rest)))) Layout.levelsAt (Table.allLevels * Layout.levelSize) from-levels levels-length
+  from-ios =
+      past (image F) (levels F) (ios F ++ (irqs F ++ (clients F ++ (ranges F ++ rest)))) Layout.levelsAt
+      (Table.allLevels * Layout.levelSize) from-levels levels-length
 
   pub from-irqs : drop Layout.irqsAt (image F) ≡ irqs F ++ (clients F ++ (ranges F ++ rest))
-  from-irqs = past (image F) (ios F) (irqs F ++ (clients F ++ (ranges F ++ rest))) Layout.iosAt (Table.mostSockets * Layout.ioSize) from-ios ios-length
+  from-irqs =
+      past (image F) (ios F) (irqs F ++ (clients F ++ (ranges F ++ rest))) Layout.iosAt (Table.mostSockets * Layout.ioSize) from-ios ios-length
 
   pub from-clients : drop Layout.clientsAt (image F) ≡ clients F ++ (ranges F ++ rest)
   from-clients = past (image F) (irqs F) (clients F ++ (ranges F ++ rest)) Layout.irqsAt (Table.mostSockets * Layout.irqSize) from-irqs irqs-length
@@ -102,7 +109,8 @@ module _ (F : Facts) where
       simp (length-append, cards-length, levels-length, ios-length, irqs-length, clients-length, ranges-length, rest-length)
 
 -- records of k bytes stand at a place of b, n of them
-module _ (b C : List ℕ) (place k n : ℕ) (f : ℕ → List ℕ) (sized : (i : ℕ) → length (f i) ≡ k) (here : drop place b ≡ each n f ++ C) (i : ℕ) (l : i < n) where
+module _ (b C : List ℕ) (place k n : ℕ) (f : ℕ → List ℕ) (sized : (i : ℕ) → length (f i) ≡ k) (here : drop place b ≡ each n f ++ C) (i : ℕ)
+    (l : i < n) where
   -- byte j of record i
   pub byte-of : (j : ℕ) → j < k → byte b (place + i * k + j) ≡ getD (f i) j 0
   byte-of j h =
@@ -130,31 +138,43 @@ module _ (F : Facts) where
   unfolding cards
   card-at s l =
       ap (byte (image F)) (omega arith)
-      ∙ byte-of (image F) (levels F ++ (ios F ++ (irqs F ++ (clients F ++ (ranges F ++ rest))))) Layout.cardsAt Layout.cardSize Table.mostSockets (λ s. mark (F .card s) ∷ []) (λ s. refl) (from-cards F) s l 0 (omega arith)
+      ∙ byte-of (image F) (levels F ++ (ios F ++ (irqs F ++ (clients F ++ (ranges F ++ rest))))) Layout.cardsAt Layout.cardSize Table.mostSockets
+      (λ s. mark (F .card s) ∷ []) (λ s. refl) (from-cards F) s l 0 (omega arith)
 
-  pub level-at : (l : ℕ) → l < Table.allLevels → (j : ℕ) → j < 2 → byte (image F) (Layout.levelsAt + l * Layout.levelSize + j) ≡ getD (levelBytes (F .level l)) j 0
+  pub level-at : (l : ℕ) → l < Table.allLevels → (j : ℕ) → j < 2
+      → byte (image F) (Layout.levelsAt + l * Layout.levelSize + j) ≡ getD (levelBytes (F .level l)) j 0
   unfolding levels
-  level-at = byte-of (image F) (ios F ++ (irqs F ++ (clients F ++ (ranges F ++ rest)))) Layout.levelsAt Layout.levelSize Table.allLevels (λ l. levelBytes (F .level l)) (λ l. refl) (from-levels F)
+  level-at =
+      byte-of (image F) (ios F ++ (irqs F ++ (clients F ++ (ranges F ++ rest)))) Layout.levelsAt Layout.levelSize Table.allLevels
+      (λ l. levelBytes (F .level l)) (λ l. refl) (from-levels F)
 
-  pub io-at : (s : ℕ) → s < Table.mostSockets → (j : ℕ) → j < Layout.ioSize → byte (image F) (Layout.iosAt + s * Layout.ioSize + j) ≡ getD (ioBytes (F .io s)) j 0
+  pub io-at : (s : ℕ) → s < Table.mostSockets → (j : ℕ) → j < Layout.ioSize
+      → byte (image F) (Layout.iosAt + s * Layout.ioSize + j) ≡ getD (ioBytes (F .io s)) j 0
   unfolding ios
-  io-at = byte-of (image F) (irqs F ++ (clients F ++ (ranges F ++ rest))) Layout.iosAt Layout.ioSize Table.mostSockets (λ s. ioBytes (F .io s)) (λ s. io-size (F .io s)) (from-ios F)
+  io-at =
+      byte-of (image F) (irqs F ++ (clients F ++ (ranges F ++ rest))) Layout.iosAt Layout.ioSize Table.mostSockets (λ s. ioBytes (F .io s))
+      (λ s. io-size (F .io s)) (from-ios F)
 
-  pub irq-at : (s : ℕ) → s < Table.mostSockets → (j : ℕ) → j < Layout.irqSize → byte (image F) (Layout.irqsAt + s * Layout.irqSize + j) ≡ getD (irqBytes (F .irq s)) j 0
+  pub irq-at : (s : ℕ) → s < Table.mostSockets → (j : ℕ) → j < Layout.irqSize
+      → byte (image F) (Layout.irqsAt + s * Layout.irqSize + j) ≡ getD (irqBytes (F .irq s)) j 0
   unfolding irqs
-  irq-at = byte-of (image F) (clients F ++ (ranges F ++ rest)) Layout.irqsAt Layout.irqSize Table.mostSockets (λ s. irqBytes (F .irq s)) (λ s. irq-size (F .irq s)) (from-irqs F)
+  irq-at =
+      byte-of (image F) (clients F ++ (ranges F ++ rest)) Layout.irqsAt Layout.irqSize Table.mostSockets (λ s. irqBytes (F .irq s))
+      (λ s. irq-size (F .irq s)) (from-irqs F)
 
   pub client-at : (i : ℕ) → i < Table.mostClients → (j : ℕ) → j < Layout.clientSize
       → byte (image F) (Layout.clientsAt + i * Layout.clientSize + j) ≡ getD (clientBytes (getElem? (F .clients) i)) j 0
   unfolding clients
   client-at =
-      byte-of (image F) (ranges F ++ rest) Layout.clientsAt Layout.clientSize Table.mostClients (λ i. clientBytes (getElem? (F .clients) i)) (λ i. client-size (getElem? (F .clients) i)) (from-clients F)
+      byte-of (image F) (ranges F ++ rest) Layout.clientsAt Layout.clientSize Table.mostClients (λ i. clientBytes (getElem? (F .clients) i))
+      (λ i. client-size (getElem? (F .clients) i)) (from-clients F)
 
   pub range-at : (i : ℕ) → i < Table.mostRanges → (j : ℕ) → j < Layout.rangeSize
       → byte (image F) (Layout.rangesAt + i * Layout.rangeSize + j) ≡ getD (rangeBytes (getElem? (F .ranges) i)) j 0
   unfolding ranges
   range-at =
-      byte-of (image F) rest Layout.rangesAt Layout.rangeSize Table.mostRanges (λ i. rangeBytes (getElem? (F .ranges) i)) (λ i. range-size (getElem? (F .ranges) i)) (from-ranges F)
+      byte-of (image F) rest Layout.rangesAt Layout.rangeSize Table.mostRanges (λ i. rangeBytes (getElem? (F .ranges) i))
+      (λ i. range-size (getElem? (F .ranges) i)) (from-ranges F)
 
   pub rest-at : (i : ℕ) → Layout.restAt ≤ i → i < Layout.tableSize → byte (image F) i ≡ 0
   unfolding rest

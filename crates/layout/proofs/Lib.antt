@@ -12,4 +12,3 @@ pub mod Of
 pub mod Written
 pub mod Changes
 pub mod Clients
-pub mod Stays

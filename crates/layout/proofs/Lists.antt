@@ -1,6 +1,6 @@
 -- Laws of listed facts: members, places, order, and facts that stand below a bound. Assumes nothing.
 use mathlib.Core.Path.{_≡_, refl, ap, ap₂, sym, _∙_, subst, subst₂}
-use mathlib.Core.Logic.{_⊎_, inl, inr}
+use mathlib.Core.Logic.{_⊎_, inl, inr, _≢_}
 use mathlib.Core.List.{List, [], _∷_, _++_}
 use mathlib.Core.Bool.{Bool, cond}
 use mathlib.Core.Option.{Option, none, some, Option·some-injective, Option·none-ne-some}
@@ -11,8 +11,9 @@ use native.Mathlib.Omega.{arith}
 use lib.ListN.{length, getElem?, length-append}
 use borrow.Author.Tests.{lt-ltb, le-ltb}
 use Rattle.facts.specs.Table.{Client, Range}
-use Rattle.facts.specs.Sets.{_∈_}
+use Rattle.facts.specs.Sets.{_∈_, without}
 use Rattle.facts.specs.WellFormed.{Rising, Apart}
+use Rattle.facts.proofs.Sets.{in-left, in-right, in-either, by-number, rising-over, rising-more}
 use Rattle.layout.specs.Reading.{upTo, below}
 use Rattle.layout.proofs.Parts.{last-or-below}
 
@@ -28,25 +29,6 @@ module _ {A : Type 0} where
   unfolding upTo
   upTo-length zero f = refl
   upTo-length (suc n) f = length-append (upTo n f) (f n ∷ []) ∙ omega (arith, upTo-length n f)
-
-  -- a member of a list joined
-  pub in-left : (x : A) (s t : List A) → x ∈ s → x ∈ (s ++ t)
-  in-left x [] t m = absurd m
-  in-left x (y ∷ s) t (inl e) = inl e
-  in-left x (y ∷ s) t (inr m) = inr (in-left x s t m)
-
-  pub in-right : (x : A) (s t : List A) → x ∈ t → x ∈ (s ++ t)
-  in-right x [] t m = m
-  in-right x (y ∷ s) t m = inr (in-right x s t m)
-
-  pub in-either : (x : A) (s t : List A) → x ∈ (s ++ t) → (x ∈ s) ⊎ (x ∈ t)
-  in-either x [] t m = inr m
-  in-either x (y ∷ s) t (inl e) = inl (inl e)
-  in-either x (y ∷ s) t (inr m) = go (in-either x s t m)
-    where
-      go : (x ∈ s) ⊎ (x ∈ t) → (x ∈ (y ∷ s)) ⊎ (x ∈ t)
-      go (inl n) = inl (inr n)
-      go (inr n) = inr n
 
   -- the members of what f gives are what it gives
   pub upTo-in : (n : ℕ) (f : ℕ → A) (i : ℕ) → i < n → f i ∈ upTo n f
@@ -104,7 +86,8 @@ module _ {A : Type 0} where
       go : (i < n) ⊎ (i ≡ n) → (i < n → getElem? (upTo n f) i ≡ some (f i)) → getElem? (upTo n f ++ (f n ∷ [])) i ≡ some (f i)
       go (inl h) ih = at-left (upTo n f) (f n ∷ []) i (subst (λ (m : ℕ). i < m) (sym (upTo-length n f)) h) ∙ ih h
       go (inr e) ih =
-          ap (getElem? (upTo n f ++ (f n ∷ []))) (e ∙ sym (upTo-length n f)) ∙ at-end (upTo n f) (f n) ∙ ap {B = Option A} (λ (m : ℕ). some (f m)) (sym e)
+          ap (getElem? (upTo n f ++ (f n ∷ []))) (e ∙ sym (upTo-length n f)) ∙ at-end (upTo n f) (f n)
+          ∙ ap {B = Option A} (λ (m : ℕ). some (f m)) (sym e)
 
   -- lists that agree at each place are one
   pub same-places : (s t : List A) → ((i : ℕ) → getElem? s i ≡ getElem? t i) → s ≡ t
@@ -128,23 +111,39 @@ module _ {A : Type 0} where
   in-at x (y ∷ l) (inl e) = (zero, omega arith, ap {B = Option A} some (sym e))
   in-at x (y ∷ l) (inr m) = let r = in-at x l m in (suc (r .0), omega (arith, r .1), r .2)
 
--- in order: each handle is over the bound, each range has a port
-pub rising-over : (lo : ℕ) (cs : List Client) → Rising lo cs → (c : Client) → c ∈ cs → lo < c .handle
-rising-over lo [] r c m = absurd m
-rising-over lo (x ∷ cs) r c (inl e) = subst (λ (y : Client). lo < y .handle) (sym e) (r .0)
-rising-over lo (x ∷ cs) r c (inr m) = omega (arith, r .0, rising-over (x .handle) cs (r .1) c m)
+-- the list t is s without its kth
+pub record Fewer {A : Type 0} (s t : List A) (k : ℕ) : Type 0 where
+  pub ahead : (i : ℕ) → i < k → getElem? t i ≡ getElem? s i
+  pub behind : (i : ℕ) → k ≤ i → getElem? t i ≡ getElem? s (suc i)
+  pub one-less : suc (length t) ≡ length s
 
-pub apart-port : (lo : ℕ) (rs : List Range) → Apart lo rs → (r : Range) → r ∈ rs → 1 ≤ r .count
-apart-port lo [] a r m = absurd m
-apart-port lo (x ∷ rs) a r (inl e) = subst (λ (y : Range). 1 ≤ y .count) (sym e) (a .1)
-apart-port lo (x ∷ rs) a r (inr m) = apart-port (x .base + x .count) rs (a .2) r m
+-- the first whose number is n, left out, is the kth
+pub without-at : {A : Type 0} (number : A → ℕ) (n : ℕ) (s : List A) (k : ℕ) (x : A) → getElem? s k ≡ some x → number x ≡ n
+    → ((i : ℕ) (y : A) → i < k → getElem? s i ≡ some y → number y ≢ n)
+    → Fewer s (without number n s) k
+without-at number n [] k x e is first = absurd (Option·none-ne-some x e)
+without-at number n (y ∷ s) zero x e is first =
+    by-number number n (λ t. Fewer (y ∷ s) t zero) y s
+    (λ _. record { ahead = λ i l. absurd (not-suc-le-zero l); behind = λ i l. refl; one-less = refl })
+    (λ d. absurd (d (ap number (Option·some-injective y x e) ∙ is)))
+without-at {A} number n (y ∷ s) (suc k) x e is first =
+    by-number number n (λ t. Fewer (y ∷ s) t (suc k)) y s (λ h. absurd (first zero y (omega arith) refl h))
+    (λ _. later (without-at number n s k x e is (λ i z l q. first (suc i) z (omega arith) q)))
+  where
+    later : Fewer s (without number n s) k → Fewer (y ∷ s) (y ∷ without number n s) (suc k)
+    later f = record { ahead = front; behind = back; one-less = ap suc (f .one-less) }
+      where
+        front : (i : ℕ) → i < suc k → getElem? (y ∷ without number n s) i ≡ getElem? (y ∷ s) i
+        front zero l = refl
+        front (suc i) l = f .ahead i (le-of-suc-le-suc l)
+
+        back : (i : ℕ) → suc k ≤ i → getElem? (y ∷ without number n s) i ≡ getElem? (y ∷ s) (suc i)
+        back zero l = absurd (not-suc-le-zero l)
+        back (suc i) l = f .behind i (le-of-suc-le-suc l)
 
 -- one more at the end of what is in order
-pub rising-more : (lo : ℕ) (cs : List Client) (c : Client) → Rising lo cs → lo < c .handle → ((x : Client) → x ∈ cs → x .handle < c .handle) → Rising lo (cs ++ (c ∷ []))
-rising-more lo [] c r l h = (l, tt)
-rising-more lo (x ∷ cs) c r l h = (r .0, rising-more (x .handle) cs c (r .1) (h x (inl refl)) (λ y m. h y (inr m)))
-
-apart-more : (lo : ℕ) (rs : List Range) (r : Range) → Apart lo rs → lo ≤ r .base → 1 ≤ r .count → ((x : Range) → x ∈ rs → x .base + x .count ≤ r .base)
+apart-more : (lo : ℕ) (rs : List Range) (r : Range) → Apart lo rs → lo ≤ r .base → 1 ≤ r .count
+    → ((x : Range) → x ∈ rs → x .base + x .count ≤ r .base)
     → Apart lo (rs ++ (r ∷ []))
 apart-more lo [] r a l p h = (l, p, tt)
 apart-more lo (x ∷ rs) r a l p h = (a .0, a .1, apart-more (x .base + x .count) rs r (a .2) (h x (inl refl)) p (λ y m. h y (inr m)))
@@ -181,7 +180,8 @@ pub apart-upTo : (n : ℕ) (f : ℕ → Range) → ((i : ℕ) → i < n → 1 �
 unfolding upTo
 apart-upTo zero f p h = tt
 apart-upTo (suc n) f p h =
-    apart-more 0 (upTo n f) (f n) (apart-upTo n f (λ i l. p i (omega arith)) (λ i l. h i (omega arith))) zero-le (p n (omega arith)) (λ x m. above x (in-upTo x n f m))
+    apart-more 0 (upTo n f) (f n) (apart-upTo n f (λ i l. p i (omega arith)) (λ i l. h i (omega arith))) zero-le (p n (omega arith))
+    (λ x m. above x (in-upTo x n f m))
   where
     before : (k : ℕ) → k ≤ n → (i : ℕ) → i < k → f i .base + f i .count ≤ f k .base
     before zero l i b = absurd (not-suc-le-zero b)
@@ -195,14 +195,16 @@ apart-upTo (suc n) f p h =
     above x m = subst (λ (y : Range). y .base + y .count ≤ f n .base) (sym (m .2)) (before n (omega arith) (m .0) (m .1))
 
 -- neighbours in what is in order
-pub rising-next : (lo : ℕ) (cs : List Client) (i : ℕ) (x y : Client) → Rising lo cs → getElem? cs i ≡ some x → getElem? cs (suc i) ≡ some y → x .handle < y .handle
+pub rising-next : (lo : ℕ) (cs : List Client) (i : ℕ) (x y : Client) → Rising lo cs → getElem? cs i ≡ some x → getElem? cs (suc i) ≡ some y
+    → x .handle < y .handle
 rising-next lo [] i x y r e f = absurd (Option·none-ne-some x e)
 rising-next lo (c ∷ []) zero x y r e f = absurd (Option·none-ne-some y f)
 rising-next lo (c ∷ d ∷ cs) zero x y r e f =
     subst₂ (λ (u v : Client). u .handle < v .handle) (Option·some-injective c x e) (Option·some-injective d y f) (r .1 .0)
 rising-next lo (c ∷ cs) (suc i) x y r e f = rising-next (c .handle) cs i x y (r .1) e f
 
-pub apart-next : (lo : ℕ) (rs : List Range) (i : ℕ) (x y : Range) → Apart lo rs → getElem? rs i ≡ some x → getElem? rs (suc i) ≡ some y → x .base + x .count ≤ y .base
+pub apart-next : (lo : ℕ) (rs : List Range) (i : ℕ) (x y : Range) → Apart lo rs → getElem? rs i ≡ some x → getElem? rs (suc i) ≡ some y
+    → x .base + x .count ≤ y .base
 apart-next lo [] i x y a e f = absurd (Option·none-ne-some x e)
 apart-next lo (c ∷ []) zero x y a e f = absurd (Option·none-ne-some y f)
 apart-next lo (c ∷ d ∷ rs) zero x y a e f =
@@ -210,7 +212,8 @@ apart-next lo (c ∷ d ∷ rs) zero x y a e f =
 apart-next lo (c ∷ rs) (suc i) x y a e f = apart-next (c .base + c .count) rs i x y (a .2) e f
 
 -- the later of two clients listed has the greater handle
-pub rising-before : (lo : ℕ) (cs : List Client) (i j : ℕ) (x y : Client) → Rising lo cs → i < j → getElem? cs i ≡ some x → getElem? cs j ≡ some y → x .handle < y .handle
+pub rising-before : (lo : ℕ) (cs : List Client) (i j : ℕ) (x y : Client) → Rising lo cs → i < j → getElem? cs i ≡ some x → getElem? cs j ≡ some y
+    → x .handle < y .handle
 rising-before lo [] i j x y r l e f = absurd (Option·none-ne-some x e)
 rising-before lo (c ∷ cs) i zero x y r l e f = absurd (not-suc-le-zero l)
 rising-before lo (c ∷ cs) zero (suc j) x y r l e f =

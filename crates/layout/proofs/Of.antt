@@ -80,7 +80,8 @@ module _ (b : List ℕ) (a : Accepted b) where
       record { client = x .0; listed = at-in (a .facts .clients) i (x .1); handle = sym (handle-of i (x .0) (x .1) l) ∙ e }
 
   -- handles differ: a client with the handle of the ith is the ith
-  pub same-client : (i j : ℕ) (x y : Client) → getElem? (a .facts .clients) i ≡ some x → getElem? (a .facts .clients) j ≡ some y → x .handle ≡ y .handle → i ≡ j
+  pub same-client : (i j : ℕ) (x y : Client) → getElem? (a .facts .clients) i ≡ some x → getElem? (a .facts .clients) j ≡ some y
+      → x .handle ≡ y .handle → i ≡ j
   same-client i j x y p q e = go (decLt i j) (decLt j i)
     where
       go : Dec (i < j) → Dec (j < i) → i ≡ j

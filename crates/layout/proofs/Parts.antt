@@ -59,7 +59,8 @@ module _ (k : ℕ) (f : ℕ → List ℕ) (sized : (i : ℕ) → length (f i) �
       go (inl below) ih =
           List·getD-append (each n f) (f n) 0 (i * k + j) (subst⁻¹ (λ (m : ℕ). i * k + j < m) (each-length n) (record-below below l)) ∙ ih below
       go (inr e) ih =
-          ap (λ (m : ℕ). getD (each n f ++ f n) (m * k + j) 0) e ∙ skip (each n f) (f n) (n * k) j (each-length n) ∙ ap (λ (m : ℕ). getD (f m) j 0) (sym e)
+          ap (λ (m : ℕ). getD (each n f ++ f n) (m * k + j) 0) e ∙ skip (each n f) (f n) (n * k) j (each-length n)
+          ∙ ap (λ (m : ℕ). getD (f m) j 0) (sym e)
 
   -- records that are the parts of a list make the list
   pub each-parts : (n : ℕ) (x : List ℕ) → length x ≡ n * k

@@ -16,12 +16,15 @@ use Rattle.facts.specs.Table
 use Rattle.facts.specs.Table.{Facts, Client, Range, IoGrant, IrqGrant}
 use Rattle.facts.specs.Packets.{byte, word, long}
 use Rattle.facts.specs.WellFormed.{WellFormed, Live}
+use Rattle.facts.proofs.Sets.{rising-over}
 use Rattle.layout.specs.Layout
-use Rattle.layout.specs.Layout.{each, mark, two, maskBytes, clientBytes, levelBytes, rangeBytes, ioBytes, irqBytes, mannerByte, cards, levels, ios, irqs, clients, ranges, head, image}
-use Rattle.layout.specs.Reading.{below, marked, maskOf, maskPlace, mannerOf, clientPlace, rangePlace, levelPlace, ioPlace, irqPlace, clientIn, rangeIn, levelIn, ioIn, irqIn, ioHere, irqHere, factsIn}
+use Rattle.layout.specs.Layout.{each, mark, two, maskBytes, clientBytes, levelBytes, rangeBytes, ioBytes, irqBytes, mannerByte, cards, levels}
+use Rattle.layout.specs.Layout.{ios, irqs, clients, ranges, head, image}
+use Rattle.layout.specs.Reading.{below, marked, maskOf, maskPlace, mannerOf, clientPlace, rangePlace, levelPlace, ioPlace, irqPlace, clientIn}
+use Rattle.layout.specs.Reading.{rangeIn, levelIn, ioIn, irqIn, ioHere, irqHere, factsIn}
 use Rattle.layout.proofs.Image
 use Rattle.layout.proofs.Parts.{skip, each-at}
-use Rattle.layout.proofs.Lists.{below-in, below-past, at-in, listed, rising-over}
+use Rattle.layout.proofs.Lists.{below-in, below-past, at-in, listed}
 
 -- numbers of two and four bytes
 pub two-back : (n : ℕ) → n % 256 + 256 * (n / 256) ≡ n
@@ -51,12 +54,15 @@ positive-test n x y l = ap (λ (t : Bool). cond t x y) (ne-eqb n 0 (λ e. omega 
 pub mask-back : (o : Option ℕ) (w : ℕ) → w ≡ getD (maskBytes o) 0 0 + 256 * getD (maskBytes o) 1 0 → maskOf w ≡ o
 mask-back none w e = zero-test w none (some (w - Table.allEvents)) e
 mask-back (some m) w e =
-    positive-test w none (some (w - Table.allEvents)) (omega (arith, two-back (Table.allEvents + m))) ∙ ap {B = Option ℕ} some (omega (arith, two-back (Table.allEvents + m)))
+    positive-test w none (some (w - Table.allEvents)) (omega (arith, two-back (Table.allEvents + m)))
+    ∙ ap {B = Option ℕ} some (omega (arith, two-back (Table.allEvents + m)))
 
 -- the bytes of a client's masks
-pub mask-bytes : (c : Client) (s r : ℕ) → s < Table.mostSockets → r < 2 → getD (clientBytes (some c)) (6 + (s * Layout.maskSize + r)) 0 ≡ getD (maskBytes (c .mask s)) r 0
+pub mask-bytes : (c : Client) (s r : ℕ) → s < Table.mostSockets → r < 2
+    → getD (clientBytes (some c)) (6 + (s * Layout.maskSize + r)) 0 ≡ getD (maskBytes (c .mask s)) r 0
 mask-bytes c s r h l =
-    skip (two (c .handle) ++ two (c .attributes) ++ two (c .events)) (each Table.mostSockets (λ s. maskBytes (c .mask s))) 6 (s * Layout.maskSize + r) refl
+    skip (two (c .handle) ++ two (c .attributes) ++ two (c .events)) (each Table.mostSockets (λ s. maskBytes (c .mask s))) 6
+    (s * Layout.maskSize + r) refl
     ∙ each-at Layout.maskSize (λ s. maskBytes (c .mask s)) (λ s. Image.mask-size (c .mask s)) Table.mostSockets s r h l
 
 module _ (b : List ℕ) (i : ℕ) (c : Client) (at : (j : ℕ) → j < Layout.clientSize → byte b (clientPlace i + j) ≡ getD (clientBytes (some c)) j 0) where
@@ -81,14 +87,16 @@ module _ (b : List ℕ) (i : ℕ) (c : Client) (at : (j : ℕ) → j < Layout.cl
       e = Image.word-of b (clientPlace i) Layout.clientSize (clientBytes (some c)) at 4 (omega arith) ∙ two-back (c .events)
 
       at-socket : (s : ℕ) → Dec (s < Table.mostSockets) → below Table.mostSockets none (λ s. maskOf (word b (maskPlace i s))) s ≡ c .mask s
-      at-socket s (yes l) = below-in Table.mostSockets none (λ s. maskOf (word b (maskPlace i s))) s l ∙ mask-back (c .mask s) (word b (maskPlace i s)) (mask-word s l)
+      at-socket s (yes l) = below-in Table.mostSockets none (λ s. maskOf (word b (maskPlace i s))) s l
+          ∙ mask-back (c .mask s) (word b (maskPlace i s)) (mask-word s l)
       at-socket s (no l) = below-past Table.mostSockets none (λ s. maskOf (word b (maskPlace i s))) s (omega arith) ∙ sym (past s (omega arith))
 
       m : below Table.mostSockets none (λ s. maskOf (word b (maskPlace i s))) ≡ c .mask
       m = fun-ext (λ s. at-socket s (decLt s Table.mostSockets))
 
 -- a range's record is the range
-pub range-back : (b : List ℕ) (i : ℕ) (r : Range) → ((j : ℕ) → j < Layout.rangeSize → byte b (rangePlace i + j) ≡ getD (rangeBytes (some r)) j 0) → rangeIn b i ≡ r
+pub range-back : (b : List ℕ) (i : ℕ) (r : Range) → ((j : ℕ) → j < Layout.rangeSize → byte b (rangePlace i + j) ≡ getD (rangeBytes (some r)) j 0)
+    → rangeIn b i ≡ r
 unfolding rangeIn
 range-back b i r at = λ k. record { base = base k; count = count k; reserved = reserved k }
   where
@@ -100,7 +108,8 @@ range-back b i r at = λ k. record { base = base k; count = count k; reserved = 
 
     count : long b (rangePlace i + 2) ≡ r .count
     count =
-        ap₂ (λ (y z : ℕ). y + 65536 * z) (Image.word-of b (rangePlace i) Layout.rangeSize (rangeBytes (some r)) at 2 (omega arith)) high ∙ four-back (r .count)
+        ap₂ (λ (y z : ℕ). y + 65536 * z) (Image.word-of b (rangePlace i) Layout.rangeSize (rangeBytes (some r)) at 2 (omega arith)) high
+        ∙ four-back (r .count)
 
     reserved : marked (byte b (rangePlace i + 6)) ≡ r .reserved
     reserved = ap marked (at 6 (omega arith)) ∙ mark-back (r .reserved)
@@ -110,8 +119,10 @@ pub io-back : (b : List ℕ) (s : ℕ) (o : Option IoGrant) → ((g : IoGrant) �
     → ((j : ℕ) → j < Layout.ioSize → byte b (ioPlace s + j) ≡ getD (ioBytes o) j 0)
     → ioHere b s ≡ o
 unfolding ioHere ioIn
-io-back b s none live at = zero-test (word b (ioPlace s)) none (some (ioIn b s)) (Image.first-word b (ioPlace s) Layout.ioSize (ioBytes none) at (omega arith))
-io-back b s (some g) live at = positive-test (word b (ioPlace s)) none (some (ioIn b s)) (omega (arith, client, live g refl)) ∙ ap {B = Option IoGrant} some whole
+io-back b s none live at =
+    zero-test (word b (ioPlace s)) none (some (ioIn b s)) (Image.first-word b (ioPlace s) Layout.ioSize (ioBytes none) at (omega arith))
+io-back b s (some g) live at = positive-test (word b (ioPlace s)) none (some (ioIn b s)) (omega (arith, client, live g refl))
+    ∙ ap {B = Option IoGrant} some whole
   where
     client : word b (ioPlace s) ≡ g .client
     client = Image.first-word b (ioPlace s) Layout.ioSize (ioBytes (some g)) at (omega arith) ∙ two-back (g .client)
@@ -123,14 +134,21 @@ io-back b s (some g) live at = positive-test (word b (ioPlace s)) none (some (io
     shared = ap marked (at 6 (omega arith)) ∙ mark-back (g .shared)
 
     whole : ioIn b s ≡ g
-    whole = λ k. record { client = client k; ports = record { base = base k; count = at 4 (omega arith) k; lines = at 5 (omega arith) k }; shared = shared k }
+    whole =
+        λ k. record {
+          client = client k;
+          ports = record { base = base k; count = at 4 (omega arith) k; lines = at 5 (omega arith) k };
+          shared = shared k;
+        }
 
 pub irq-back : (b : List ℕ) (s : ℕ) (o : Option IrqGrant) → ((g : IrqGrant) → o ≡ some g → 0 < g .client)
     → ((j : ℕ) → j < Layout.irqSize → byte b (irqPlace s + j) ≡ getD (irqBytes o) j 0)
     → irqHere b s ≡ o
 unfolding irqHere irqIn
-irq-back b s none live at = zero-test (word b (irqPlace s)) none (some (irqIn b s)) (Image.first-word b (irqPlace s) Layout.irqSize (irqBytes none) at (omega arith))
-irq-back b s (some g) live at = positive-test (word b (irqPlace s)) none (some (irqIn b s)) (omega (arith, client, live g refl)) ∙ ap {B = Option IrqGrant} some whole
+irq-back b s none live at =
+    zero-test (word b (irqPlace s)) none (some (irqIn b s)) (Image.first-word b (irqPlace s) Layout.irqSize (irqBytes none) at (omega arith))
+irq-back b s (some g) live at = positive-test (word b (irqPlace s)) none (some (irqIn b s)) (omega (arith, client, live g refl))
+    ∙ ap {B = Option IrqGrant} some whole
   where
     client : word b (irqPlace s) ≡ g .client
     client = Image.first-word b (irqPlace s) Layout.irqSize (irqBytes (some g)) at (omega arith) ∙ two-back (g .client)
@@ -158,7 +176,8 @@ absent (some x) h = absurd (h x refl)
 module _ (F : Facts) (w : WellFormed F) where
   cards-back : (s : ℕ) → Dec (s < Table.mostSockets) → below Table.mostSockets false (λ s. marked (byte (image F) (Layout.cardsAt + s))) s ≡ F .card s
   cards-back s (yes l) =
-      below-in Table.mostSockets false (λ s. marked (byte (image F) (Layout.cardsAt + s))) s l ∙ ap marked (Image.card-at F s l) ∙ mark-back (F .card s)
+      below-in Table.mostSockets false (λ s. marked (byte (image F) (Layout.cardsAt + s))) s l ∙ ap marked (Image.card-at F s l)
+      ∙ mark-back (F .card s)
   cards-back s (no l) =
       below-past Table.mostSockets false (λ s. marked (byte (image F) (Layout.cardsAt + s))) s (omega arith)
       ∙ unmarked (F .card s) (λ e. omega (arith, w .cards s e, w .sockets-most))
@@ -168,14 +187,17 @@ module _ (F : Facts) (w : WellFormed F) where
   level-back l h = λ k. record { managed = m k; reserved = r k }
     where
       m : marked (byte (image F) (levelPlace l)) ≡ F .level l .managed
-      m = ap marked (Image.first-byte (image F) (levelPlace l) Layout.levelSize (levelBytes (F .level l)) (Image.level-at F l h) (omega arith)) ∙ mark-back (F .level l .managed)
+      m = ap marked (Image.first-byte (image F) (levelPlace l) Layout.levelSize (levelBytes (F .level l)) (Image.level-at F l h) (omega arith))
+          ∙ mark-back (F .level l .managed)
 
       r : marked (byte (image F) (levelPlace l + 1)) ≡ F .level l .reserved
       r = ap marked (Image.level-at F l h 1 (omega arith)) ∙ mark-back (F .level l .reserved)
 
-  levels-back : (l : ℕ) → Dec (l < Table.allLevels) → below Table.allLevels (record { managed = false; reserved = false }) (levelIn (image F)) l ≡ F .level l
+  levels-back : (l : ℕ) → Dec (l < Table.allLevels) → below Table.allLevels (record { managed = false; reserved = false })
+      (levelIn (image F)) l ≡ F .level l
   levels-back l (yes h) = below-in Table.allLevels (record { managed = false; reserved = false }) (levelIn (image F)) l h ∙ level-back l h
-  levels-back l (no h) = below-past Table.allLevels (record { managed = false; reserved = false }) (levelIn (image F)) l (omega arith) ∙ (λ k. record { managed = m k; reserved = r k })
+  levels-back l (no h) = below-past Table.allLevels (record { managed = false; reserved = false }) (levelIn (image F)) l (omega arith)
+      ∙ (λ k. record { managed = m k; reserved = r k })
     where
       m : false ≡ F .level l .managed
       m = unmarked (F .level l .managed) (λ e. omega (arith, w .levels l e))
@@ -188,14 +210,16 @@ module _ (F : Facts) (w : WellFormed F) where
       below-in Table.mostSockets none (ioHere (image F)) s l
       ∙ io-back (image F) s (F .io s) (λ g e. live-positive w (w .ios s g e .client)) (Image.io-at F s l)
   ios-back s (no l) =
-      below-past Table.mostSockets none (ioHere (image F)) s (omega arith) ∙ absent (F .io s) (λ g e. omega (arith, w .ios s g e .socket, w .sockets-most))
+      below-past Table.mostSockets none (ioHere (image F)) s (omega arith)
+      ∙ absent (F .io s) (λ g e. omega (arith, w .ios s g e .socket, w .sockets-most))
 
   pub irqs-back : (s : ℕ) → Dec (s < Table.mostSockets) → below Table.mostSockets none (irqHere (image F)) s ≡ F .irq s
   irqs-back s (yes l) =
       below-in Table.mostSockets none (irqHere (image F)) s l
       ∙ irq-back (image F) s (F .irq s) (λ g e. live-positive w (w .irqs s g e .client)) (Image.irq-at F s l)
   irqs-back s (no l) =
-      below-past Table.mostSockets none (irqHere (image F)) s (omega arith) ∙ absent (F .irq s) (λ g e. omega (arith, w .irqs s g e .socket, w .sockets-most))
+      below-past Table.mostSockets none (irqHere (image F)) s (omega arith)
+      ∙ absent (F .irq s) (λ g e. omega (arith, w .irqs s g e .socket, w .sockets-most))
 
   -- the bytes of the ith client's record
   pub client-bytes : (i : ℕ) (c : Client) → getElem? (F .clients) i ≡ some c → i < length (F .clients)
@@ -228,6 +252,6 @@ module _ (F : Facts) (w : WellFormed F) where
         irq = fun-ext (λ s. irqs-back s (decLt s Table.mostSockets)) k;
       }
 
--- "no two share one"
+-- no two well-formed sets share an image
 pub image-injective : (F G : Facts) → WellFormed F → WellFormed G → image F ≡ image G → F ≡ G
 image-injective F G w v e = sym (read-back F w) ∙ ap factsIn e ∙ read-back G v

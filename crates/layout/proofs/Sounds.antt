@@ -14,13 +14,17 @@ use Rattle.facts.specs.Table.{Facts, Client, Range, IoGrant, IrqGrant}
 use Rattle.facts.specs.Ports.{Managed}
 use Rattle.facts.specs.Packets.{byte, word}
 use Rattle.facts.specs.WellFormed.{WellFormed, AttributesAllowed, Live, IoCompany, IrqCompany}
+use Rattle.facts.proofs.Sets.{rising-over, apart-port}
 use Rattle.layout.specs.Layout
 use Rattle.layout.specs.Layout.{mark, maskBytes, clientBytes, rangeBytes, levelBytes, ioBytes, irqBytes, mannerByte, head, image}
-use Rattle.layout.specs.Reading.{socketsIn, clientsIn, rangesIn, issuedIn, maskPlace, clientPlace, rangePlace, levelPlace, ioPlace, irqPlace, handleIn, clientIn, rangeIn, ioIn, irqIn, ioHere, irqHere}
-use Rattle.layout.specs.Sound.{Sound, Zero, CardSound, LevelSound, ClientSound, RangeSound, MaskSound, LiveIn, ManagedIn, IoUsed, IrqUsed, IoSound, IrqSound, IoPlaceSound, IrqPlaceSound, IoPairSound, IrqPairSound, handleBefore, endBefore, baseIn, countIn}
+use Rattle.layout.specs.Reading.{socketsIn, clientsIn, rangesIn, issuedIn, maskPlace, clientPlace, rangePlace, levelPlace, ioPlace, irqPlace}
+use Rattle.layout.specs.Reading.{handleIn, clientIn, rangeIn, ioIn, irqIn, ioHere, irqHere}
+use Rattle.layout.specs.Sound.{Sound, Zero, CardSound, LevelSound, ClientSound, RangeSound, MaskSound, LiveIn, ManagedIn, IoUsed, IrqUsed}
+use Rattle.layout.specs.Sound.{IoSound, IrqSound, IoPlaceSound, IrqPlaceSound, IoPairSound, IrqPairSound, handleBefore, endBefore, rangeBase}
+use Rattle.layout.specs.Sound.{rangeCount}
 use Rattle.layout.proofs.Image
 use Rattle.layout.proofs.Parts.{below-at}
-use Rattle.layout.proofs.Lists.{below-in, at-below, at-past, at-in, in-at, rising-over, rising-next, apart-port, apart-next}
+use Rattle.layout.proofs.Lists.{below-in, at-below, at-past, at-in, in-at, rising-next, apart-next}
 use Rattle.layout.proofs.RoundTrip.{two-back, mask-word, client-bytes, client-is, range-is, ios-back, irqs-back}
 use Rattle.layout.proofs.Grants.{zeros, nonzero, none-zero, placed, used}
 
@@ -80,7 +84,8 @@ module _ (F : Facts) (w : WellFormed F) where
   unfolding clientIn
   handle-is i c e l = ap (λ (x : Client). x .handle) (client-is F w i c e l)
 
-  pub mask-sound : (i : ℕ) (c : Client) → getElem? (F .clients) i ≡ some c → i < length (F .clients) → (s : ℕ) → s < Table.mostSockets → MaskSound (image F) i s
+  pub mask-sound : (i : ℕ) (c : Client) → getElem? (F .clients) i ≡ some c → i < length (F .clients) → (s : ℕ) → s < Table.mostSockets
+      → MaskSound (image F) i s
   mask-sound i c e l s h = go (c .mask s) refl
     where
       is : word (image F) (maskPlace i s) ≡ getD (maskBytes (c .mask s)) 0 0 + 256 * getD (maskBytes (c .mask s)) 1 0
@@ -117,7 +122,8 @@ module _ (F : Facts) (w : WellFormed F) where
   clients-end : Zero (image F) (clientPlace (clientsIn (image F))) Layout.rangesAt
   clients-end k l m =
       ap (byte (image F)) place ∙ Image.client-at F i (omega arith) j (omega arith)
-      ∙ ap (λ (o : Option Client). getD (clientBytes o) j 0) (at-past (F .clients) i (omega (arith, clients-is))) ∙ zeros Layout.clientSize j (omega arith)
+      ∙ ap (λ (o : Option Client). getD (clientBytes o) j 0) (at-past (F .clients) i (omega (arith, clients-is)))
+      ∙ zeros Layout.clientSize j (omega arith)
     where
       i : ℕ
       i = (k - Layout.clientsAt) / Layout.clientSize
@@ -128,7 +134,8 @@ module _ (F : Facts) (w : WellFormed F) where
       place : k ≡ clientPlace i + j
       place = omega arith
 
-  base-is : (i : ℕ) (r : Range) → getElem? (F .ranges) i ≡ some r → i < length (F .ranges) → (baseIn (image F) i ≡ r .base) × (countIn (image F) i ≡ r .count)
+  base-is : (i : ℕ) (r : Range) → getElem? (F .ranges) i ≡ some r → i < length (F .ranges)
+      → (rangeBase (image F) i ≡ r .base) × (rangeCount (image F) i ≡ r .count)
   unfolding rangeIn
   base-is i r e l = (ap (λ (x : Range). x .base) (range-is F w i r e l), ap (λ (x : Range). x .count) (range-is F w i r e l))
 
@@ -171,7 +178,8 @@ module _ (F : Facts) (w : WellFormed F) where
       go : Dec (k < Layout.restAt) → byte (image F) k ≡ 0
       go (yes h) =
           ap (byte (image F)) place ∙ Image.range-at F i (omega arith) j (omega arith)
-          ∙ ap (λ (o : Option Range). getD (rangeBytes o) j 0) (at-past (F .ranges) i (omega (arith, ranges-is))) ∙ zeros Layout.rangeSize j (omega arith)
+          ∙ ap (λ (o : Option Range). getD (rangeBytes o) j 0) (at-past (F .ranges) i (omega (arith, ranges-is)))
+          ∙ zeros Layout.rangeSize j (omega arith)
       go (no h) = Image.rest-at F k (omega arith) m
 
   pub live-in : (h : ℕ) → Live F h → LiveIn (image F) h
@@ -192,7 +200,8 @@ module _ (F : Facts) (w : WellFormed F) where
   pub io-is : (s : ℕ) (g : IoGrant) → s < Table.mostSockets → F .io s ≡ some g → (0 < word (image F) (ioPlace s)) × (ioIn (image F) s ≡ g)
   unfolding ioHere
   io-is s g l e =
-      nonzero (word (image F) (ioPlace s)) (ioIn (image F) s) g (sym (below-in Table.mostSockets none (ioHere (image F)) s l) ∙ ios-back F w s (yes l) ∙ e)
+      nonzero (word (image F) (ioPlace s)) (ioIn (image F) s) g
+      (sym (below-in Table.mostSockets none (ioHere (image F)) s l) ∙ ios-back F w s (yes l) ∙ e)
 
   io-spare : (s : ℕ) (g : IoGrant) → s < Table.mostSockets → F .io s ≡ some g → Zero (image F) (ioPlace s + 7) (ioPlace s + Layout.ioSize)
   io-spare s g l e k h m =
@@ -220,7 +229,8 @@ module _ (F : Facts) (w : WellFormed F) where
         line = omega (arith, lines, fits .line);
         lines = omega (arith, lines, fits .lines);
         decoded = subst₂ (λ (n k : ℕ). n ≤ 2 ^ k) (sym count) (sym lines) (fits .decoded);
-        managed = λ p h. managed-in p (fits .managed p (record { from = omega (arith, base, h .from); below = omega (arith, base, count, h .below) }));
+        managed =
+            λ p h. managed-in p (fits .managed p (record { from = omega (arith, base, h .from); below = omega (arith, base, count, h .below) }));
         mark = omega (arith, Image.io-at F s l 6 (omega arith) ∙ ap (λ (o : Option IoGrant). getD (ioBytes o) 6 0) e, mark-most (g .shared));
         spare = io-spare s g l e;
       }
@@ -243,11 +253,13 @@ module _ (F : Facts) (w : WellFormed F) where
   pub irq-is : (s : ℕ) (g : IrqGrant) → s < Table.mostSockets → F .irq s ≡ some g → (0 < word (image F) (irqPlace s)) × (irqIn (image F) s ≡ g)
   unfolding irqHere
   irq-is s g l e =
-      nonzero (word (image F) (irqPlace s)) (irqIn (image F) s) g (sym (below-in Table.mostSockets none (irqHere (image F)) s l) ∙ irqs-back F w s (yes l) ∙ e)
+      nonzero (word (image F) (irqPlace s)) (irqIn (image F) s) g
+      (sym (below-in Table.mostSockets none (irqHere (image F)) s l) ∙ irqs-back F w s (yes l) ∙ e)
 
   level-byte : (l : ℕ) → F .level l .managed ≡ true → byte (image F) (levelPlace l) ≡ 1
   level-byte l e =
-      Image.first-byte (image F) (levelPlace l) Layout.levelSize (levelBytes (F .level l)) (Image.level-at F l (w .levels l e)) (omega arith) ∙ ap mark e
+      Image.first-byte (image F) (levelPlace l) Layout.levelSize (levelBytes (F .level l)) (Image.level-at F l (w .levels l e)) (omega arith)
+      ∙ ap mark e
 
   irq-sound : (s : ℕ) (g : IrqGrant) → s < Table.mostSockets → F .irq s ≡ some g → IrqSound (image F) s
   unfolding irqIn
@@ -267,7 +279,9 @@ module _ (F : Facts) (w : WellFormed F) where
   irq-place s l = placed (image F) (irqPlace s) Layout.irqSize (omega arith) (F .irq s) (irq-zero s l) (λ g e. (irq-is s g l e .0, irq-sound s g l e))
 
   irq-used : (s : ℕ) → s < Table.mostSockets → IrqUsed (image F) s → (g : IrqGrant) × (F .irq s ≡ some g) × (irqIn (image F) s ≡ g)
-  irq-used s l u = let x = used (image F) (irqPlace s) Layout.irqSize (omega arith) (F .irq s) (irq-zero s l) u in (x .0, x .1, irq-is s (x .0) l (x .1) .1)
+  irq-used s l u =
+      let x = used (image F) (irqPlace s) Layout.irqSize (omega arith) (F .irq s) (irq-zero s l) u in
+      (x .0, x .1, irq-is s (x .0) l (x .1) .1)
 
   irq-pair : (s t : ℕ) → s < Table.mostSockets → t < s → IrqPairSound (image F) s t
   irq-pair s t l m u v =

@@ -14,7 +14,8 @@ use Rattle.facts.specs.Table.{Level, IoGrant, IrqGrant}
 use Rattle.facts.specs.Packets.{byte, word, long}
 use Rattle.layout.specs.Layout
 use Rattle.layout.specs.Layout.{mark, two, maskBytes, clientBytes, levelBytes, rangeBytes, ioBytes, irqBytes, mannerByte, head, image}
-use Rattle.layout.specs.Reading.{clientsIn, rangesIn, upTo, marked, maskOf, maskPlace, mannerOf, clientPlace, rangePlace, levelPlace, ioPlace, irqPlace, clientIn, rangeIn, levelIn, ioIn, irqIn, ioHere, irqHere, factsIn}
+use Rattle.layout.specs.Reading.{clientsIn, rangesIn, upTo, marked, maskOf, maskPlace, mannerOf, clientPlace, rangePlace, levelPlace, ioPlace}
+use Rattle.layout.specs.Reading.{irqPlace, clientIn, rangeIn, levelIn, ioIn, irqIn, ioHere, irqHere, factsIn}
 use Rattle.layout.specs.Sound.{Sound, Zero, MaskSound}
 use Rattle.layout.proofs.Parts.{below-at}
 use Rattle.layout.proofs.Grants.{zeros, read-bytes}
@@ -62,7 +63,8 @@ module _ (b : List ℕ) (bytes : Bytes b) where
   module _ (s : Sound b) where
     card-bytes : (i : ℕ) → i < Table.mostSockets → mark (factsIn b .card i) ≡ byte b (Layout.cardsAt + i)
     unfolding factsIn
-    card-bytes i l = ap mark (below-in Table.mostSockets false (λ s. marked (byte b (Layout.cardsAt + s))) i l) ∙ mark-of (byte b (Layout.cardsAt + i)) (s .cards i l .mark)
+    card-bytes i l = ap mark (below-in Table.mostSockets false (λ s. marked (byte b (Layout.cardsAt + s))) i l)
+        ∙ mark-of (byte b (Layout.cardsAt + i)) (s .cards i l .mark)
 
     level-bytes : (i j : ℕ) → i < Table.allLevels → j < 2 → getD (levelBytes (factsIn b .level i)) j 0 ≡ byte b (levelPlace i + j)
     unfolding factsIn levelIn
@@ -73,7 +75,8 @@ module _ (b : List ℕ) (bytes : Bytes b) where
           mark-of (byte b (levelPlace i + 1)) (omega (arith, s .levels i l .managed, s .levels i l .reserved)),
         ) j m
 
-    io-used : (i j : ℕ) → j < Layout.ioSize → byte b (ioPlace i + 6) ≤ 1 → Zero b (ioPlace i + 7) (ioPlace i + Layout.ioSize) → getD (ioBytes (some (ioIn b i))) j 0 ≡ byte b (ioPlace i + j)
+    io-used : (i j : ℕ) → j < Layout.ioSize → byte b (ioPlace i + 6) ≤ 1 → Zero b (ioPlace i + 7) (ioPlace i + Layout.ioSize)
+        → getD (ioBytes (some (ioIn b i))) j 0 ≡ byte b (ioPlace i + j)
     unfolding ioIn
     io-used i j m shared spare =
         below-at Layout.ioSize (λ j. getD (ioBytes (some (ioIn b i))) j 0 ≡ byte b (ioPlace i + j)) (
@@ -81,7 +84,17 @@ module _ (b : List ℕ) (bytes : Bytes b) where
             (
               (
                 (
-                  ((((((tt, low p ∙ ap (byte b) (sym (add-zero p))), high p), low (p + 2)), high (p + 2) ∙ ap (byte b) (add-assoc p 2 1)), refl), refl),
+                  (
+                    (
+                      (
+                        (((tt, low p ∙ ap (byte b) (sym (add-zero p))), high p), low (p + 2)),
+                        high (p + 2)
+                            ∙ ap (byte b) (add-assoc p 2 1),
+                      ),
+                      refl,
+                    ),
+                    refl,
+                  ),
                   mark-of (byte b (p + 6)) shared,
                 ),
                 sym (spare (p + 7) (omega arith) (omega arith)),
@@ -105,8 +118,10 @@ module _ (b : List ℕ) (bytes : Bytes b) where
     irq-used : (i j : ℕ) → j < Layout.irqSize → byte b (irqPlace i + 3) ≤ 3 → getD (irqBytes (some (irqIn b i))) j 0 ≡ byte b (irqPlace i + j)
     unfolding irqIn
     irq-used i j m manner =
-        below-at 4 (λ j. getD (irqBytes (some (irqIn b i))) j 0 ≡ byte b (irqPlace i + j))
-        ((((tt, low (irqPlace i) ∙ ap (byte b) (sym (add-zero (irqPlace i)))), high (irqPlace i)), refl), mannerByte-of (byte b (irqPlace i + 3)) manner) j m
+        below-at 4 (λ j. getD (irqBytes (some (irqIn b i))) j 0 ≡ byte b (irqPlace i + j)) (
+          (((tt, low (irqPlace i) ∙ ap (byte b) (sym (add-zero (irqPlace i)))), high (irqPlace i)), refl),
+          mannerByte-of (byte b (irqPlace i + 3)) manner,
+        ) j m
 
     irq-bytes : (i j : ℕ) → i < Table.mostSockets → j < Layout.irqSize → getD (irqBytes (factsIn b .irq i)) j 0 ≡ byte b (irqPlace i + j)
     unfolding factsIn irqHere
@@ -114,7 +129,8 @@ module _ (b : List ℕ) (bytes : Bytes b) where
         ap (λ (o : Option IrqGrant). getD (irqBytes o) j 0) (below-in Table.mostSockets none (irqHere b) i l)
         ∙ read-bytes b (irqPlace i) Layout.irqSize (omega arith) irqBytes refl (irqIn b i) (s .irqs i l) (λ u j m. irq-used i j m (u .manner)) j m
 
-    range-used : (i j : ℕ) → j < Layout.rangeSize → byte b (rangePlace i + 6) ≤ 1 → getD (rangeBytes (some (rangeIn b i))) j 0 ≡ byte b (rangePlace i + j)
+    range-used : (i j : ℕ) → j < Layout.rangeSize → byte b (rangePlace i + 6) ≤ 1
+        → getD (rangeBytes (some (rangeIn b i))) j 0 ≡ byte b (rangePlace i + j)
     unfolding rangeIn
     range-used i j m reserved =
         below-at Layout.rangeSize (λ j. getD (rangeBytes (some (rangeIn b i))) j 0 ≡ byte b (rangePlace i + j)) (
@@ -159,7 +175,8 @@ module _ (b : List ℕ) (bytes : Bytes b) where
         listed-bytes (rangesIn b) (rangeIn b) Layout.rangeSize rangeBytes refl i j m (byte b (rangePlace i + j))
         (λ h. range-used i j m (s .ranges i h .mark)) (λ h. s .ranges-end (rangePlace i + j) (omega arith) (omega arith))
 
-    mask-two : (i t r : ℕ) → t < Table.mostSockets → r < 2 → MaskSound b i t → getD (maskBytes (maskOf (word b (maskPlace i t)))) r 0 ≡ byte b (maskPlace i t + r)
+    mask-two : (i t r : ℕ) → t < Table.mostSockets → r < 2 → MaskSound b i t
+        → getD (maskBytes (maskOf (word b (maskPlace i t)))) r 0 ≡ byte b (maskPlace i t + r)
     mask-two i t r l m (inl e) =
         ap (λ (o : Option ℕ). getD (maskBytes o) r 0) (zero-test w none (some (w - Table.allEvents)) e)
         ∙ below-at 2 (λ r. getD (maskBytes none) r 0 ≡ byte b (maskPlace i t + r))
@@ -179,7 +196,8 @@ module _ (b : List ℕ) (bytes : Bytes b) where
         back : Table.allEvents + (w - Table.allEvents) ≡ w
         back = omega (arith, u .0)
 
-    client-used : (i j : ℕ) → j < Layout.clientSize → ((t : ℕ) → t < Table.mostSockets → MaskSound b i t) → getD (clientBytes (some (clientIn b i))) j 0 ≡ byte b (clientPlace i + j)
+    client-used : (i j : ℕ) → j < Layout.clientSize → ((t : ℕ) → t < Table.mostSockets → MaskSound b i t)
+        → getD (clientBytes (some (clientIn b i))) j 0 ≡ byte b (clientPlace i + j)
     unfolding clientIn
     client-used i j m masks = go (decLt j 6)
       where

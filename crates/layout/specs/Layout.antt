@@ -56,7 +56,7 @@ rangesAt = clientsAt + Table.mostClients * clientSize
 abbrev pub restAt : ℕ
 restAt = rangesAt + Table.mostRanges * rangeSize
 
--- "One byte for each mark, 0 or 1"
+-- a mark is one byte, 0 or 1
 abbrev pub mark : Bool → ℕ
 mark false = 0
 mark true = 1

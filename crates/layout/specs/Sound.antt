@@ -10,7 +10,8 @@ use Rattle.facts.specs.Packets.{byte, word, long}
 use Rattle.facts.specs.Ports.{Within}
 use Rattle.facts.specs.WellFormed.{WellFormed, AttributesAllowed, EventsAllowed, IoCompany, IrqCompany}
 use Rattle.layout.specs.Layout
-use Rattle.layout.specs.Reading.{socketsIn, clientsIn, rangesIn, issuedIn, clientPlace, rangePlace, levelPlace, ioPlace, irqPlace, handleIn, maskPlace, ioIn, irqIn}
+use Rattle.layout.specs.Reading.{socketsIn, clientsIn, rangesIn, issuedIn, clientPlace, rangePlace, levelPlace, ioPlace, irqPlace, handleIn}
+use Rattle.layout.specs.Reading.{maskPlace, ioIn, irqIn}
 
 -- the bytes are the image of some well-formed set
 pub record Accepted (b : List ℕ) : Type 0 where
@@ -36,7 +37,9 @@ handleBefore b zero = 0
 handleBefore b (suc i) = handleIn b i
 
 abbrev pub MaskSound : List ℕ → ℕ → ℕ → Type 0
-MaskSound b i s = (word b (maskPlace i s) ≡ 0) ⊎ ((Table.allEvents ≤ word b (maskPlace i s)) × (word b (maskPlace i s) < Table.allEvents + Table.allEvents) × (s < socketsIn b))
+MaskSound b i s =
+    (word b (maskPlace i s) ≡ 0) ⊎ ((Table.allEvents ≤ word b (maskPlace i s)) × (word b (maskPlace i s) < Table.allEvents + Table.allEvents)
+    × (s < socketsIn b))
 
 -- the ith client's record, whose handle is over low
 pub record ClientSound (b : List ℕ) (low i : ℕ) : Type 0 where
@@ -46,30 +49,34 @@ pub record ClientSound (b : List ℕ) (low i : ℕ) : Type 0 where
   pub events : EventsAllowed (word b (clientPlace i + 4))
   pub masks : (s : ℕ) → s < Table.mostSockets → MaskSound b i s
 
-abbrev pub baseIn : List ℕ → ℕ → ℕ
-baseIn b i = word b (rangePlace i)
+abbrev pub rangeBase : List ℕ → ℕ → ℕ
+rangeBase b i = word b (rangePlace i)
 
-abbrev pub countIn : List ℕ → ℕ → ℕ
-countIn b i = long b (rangePlace i + 2)
+abbrev pub rangeCount : List ℕ → ℕ → ℕ
+rangeCount b i = long b (rangePlace i + 2)
 
 -- where the range listed before the ith ends, or 0
 abbrev pub endBefore : List ℕ → ℕ → ℕ
 endBefore b zero = 0
-endBefore b (suc i) = baseIn b i + countIn b i
+endBefore b (suc i) = rangeBase b i + rangeCount b i
 
 -- the ith range's record, which starts at or past low
 pub record RangeSound (b : List ℕ) (low i : ℕ) : Type 0 where
-  pub from : low ≤ baseIn b i
-  pub port : 1 ≤ countIn b i
-  pub within : baseIn b i + countIn b i ≤ Table.allPorts
+  pub from : low ≤ rangeBase b i
+  pub port : 1 ≤ rangeCount b i
+  pub within : rangeBase b i + rangeCount b i ≤ Table.allPorts
   pub mark : byte b (rangePlace i + 6) ≤ 1
+
+-- every range's record, each at or past the end of the one before it
+abbrev pub RangesSound : List ℕ → Type 0
+RangesSound b = (i : ℕ) → i < rangesIn b → RangeSound b (endBefore b i) i
 
 -- h is the handle of one of the clients listed, and p a port of one of the ranges
 abbrev pub LiveIn : List ℕ → ℕ → Type 0
 LiveIn b h = (i : ℕ) × (i < clientsIn b) × (handleIn b i ≡ h)
 
 abbrev pub ManagedIn : List ℕ → ℕ → Type 0
-ManagedIn b p = (i : ℕ) × (i < rangesIn b) × Within p (baseIn b i) (countIn b i)
+ManagedIn b p = (i : ℕ) × (i < rangesIn b) × Within p (rangeBase b i) (rangeCount b i)
 
 -- the record of the I/O grant of the socket s
 pub record IoSound (b : List ℕ) (s : ℕ) : Type 0 where
@@ -122,7 +129,7 @@ pub record Sound (b : List ℕ) : Type 0 where
   pub clients : (i : ℕ) → i < clientsIn b → ClientSound b (handleBefore b i) i
   pub clients-end : Zero b (clientPlace (clientsIn b)) Layout.rangesAt
   pub ranges-most : rangesIn b ≤ Table.mostRanges
-  pub ranges : (i : ℕ) → i < rangesIn b → RangeSound b (endBefore b i) i
+  pub ranges : RangesSound b
   pub ranges-end : Zero b (rangePlace (rangesIn b)) Layout.tableSize
   pub ios : (s : ℕ) → s < Table.mostSockets → IoPlaceSound b s
   pub irqs : (s : ℕ) → s < Table.mostSockets → IrqPlaceSound b s

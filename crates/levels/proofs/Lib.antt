@@ -1,2 +1,3 @@
--- The table of the sharing rule: its law. Assumes nothing.
+-- The table of the sharing rule: one test over its entries, and its law. Assumes nothing.
+pub mod Table
 pub mod Rule

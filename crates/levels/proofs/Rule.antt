@@ -1,19 +1,24 @@
 -- The table of the sharing rule is the rule at every pair of manners. Assumes nothing.
-use mathlib.Core.Path.{refl, ap}
-use mathlib.Core.Logic.{_≢_}
+use mathlib.Core.Path.{_≡_, refl, ap, sym, _∙_}
 use mathlib.Core.List.{List, [], _∷_}
-use mathlib.Core.Bool.{Bool, true, false}
+use mathlib.Core.Bool.{Bool, true, false, cond, not}
 use Prim.Native.Nat.{ℕ, _<_}
 use native.Mathlib.Omega.{arith}
-use lib.ListN.{getD}
+use lib.Dec.{T, eqb, eqb→eq}
+use lib.ListN.{length, getD}
 use Rattle.facts.specs.Says.{Says}
 use Rattle.facts.specs.Levels.{Together}
-use Rattle.facts.proofs.Says.{says-true, says-false}
+use Rattle.facts.proofs.Says.{says-false, says-as, says-eq, says-not}
 use Rattle.facts.specs.declared.Manner.{Manner}
 use Rattle.facts.specs.declared.Manner.the-variants.{Exclusive, TimeMultiplexed, DynamicLevel, DynamicPulse}
 use Rattle.levels.specs.Places.{placeOf}
+use Rattle.levels.proofs.Table.{both, both-left, both-right, every, at}
 
-abbrev pub table : List (List Bool)
+-- how many manners there are
+abbrev manners : ℕ
+manners = 4
+
+abbrev table : List (List Bool)
 table =
     (false ∷ false ∷ false ∷ false ∷ [])
     ∷ (false ∷ true ∷ false ∷ false ∷ [])
@@ -21,35 +26,65 @@ table =
     ∷ (false ∷ false ∷ false ∷ true ∷ [])
     ∷ []
 
-abbrev pub entry : ℕ → ℕ → Bool
+abbrev entry : ℕ → ℕ → Bool
 entry i j = getD (getD table i []) j false
 
-pub place-lt : (m : Manner) → placeOf m < 4
+-- "only equal ones, and never exclusive": of the places of two manners
+abbrev rule : ℕ → ℕ → Bool
+rule i j = both (eqb i j) (not (eqb i 0))
+
+abbrev same : Bool → Bool → Bool
+same true b = b
+same false b = not b
+
+same-eq : (a b : Bool) → T (same a b) → a ≡ b
+same-eq true true t = refl
+same-eq true false t = absurd t
+same-eq false true t = absurd t
+same-eq false false t = refl
+
+abbrev right : ℕ → ℕ → Bool → Bool
+right i j x = same x (rule i j)
+
+abbrev row-right : ℕ → List Bool → Bool
+row-right i row = both (eqb (length row) manners) (every (right i) 0 row)
+
+-- the test of all sixteen entries
+all-right : T (every row-right 0 table)
+all-right = tt
+
+entry-rule : (i j : ℕ) → i < manners → j < manners → entry i j ≡ rule i j
+entry-rule i j h l =
+    let row : List Bool = getD table i [] in
+    let t : T (row-right i row) = at row-right [] table all-right i h in
+    let e = eqb→eq (length row) manners (both-left (eqb (length row) manners) (every (right i) 0 row) t) in
+    same-eq (entry i j) (rule i j) (at (right i) false row (both-right (eqb (length row) manners) (every (right i) 0 row) t) j (omega (arith, e)))
+
+abbrev mannerAt : ℕ → Manner
+mannerAt n = cond (eqb n 0) Exclusive (cond (eqb n 1) TimeMultiplexed (cond (eqb n 2) DynamicLevel DynamicPulse))
+
+manner-at : (m : Manner) → mannerAt (placeOf m) ≡ m
+manner-at Exclusive = refl
+manner-at TimeMultiplexed = refl
+manner-at DynamicLevel = refl
+manner-at DynamicPulse = refl
+
+pub place-lt : (m : Manner) → placeOf m < manners
 place-lt Exclusive = omega arith
 place-lt TimeMultiplexed = omega arith
 place-lt DynamicLevel = omega arith
 place-lt DynamicPulse = omega arith
 
-apart : (a b : Manner) → placeOf a ≢ placeOf b → Says false (Together a b)
-apart a b n = says-false (λ t. n (ap placeOf (t .equal)))
+place-injective : (a b : Manner) → placeOf a ≡ placeOf b → a ≡ b
+place-injective a b e = sym (manner-at a) ∙ ap mannerAt e ∙ manner-at b
 
-shared : (a : Manner) → placeOf a ≢ 0 → Says true (Together a a)
-shared a n = says-true (record { equal = refl; shares = λ e. n (ap placeOf e) })
+says-both : (p q : Bool) {P Q : Type 0} → Says p P → Says q Q → Says (both p q) (P × Q)
+says-both true q s s′ = says-as s′ (λ y. (s .holds refl, y)) (λ x. x .1)
+says-both false q s s′ = says-false (λ x. s .fails refl (x .0))
 
-pub rule : (a b : Manner) → Says (entry (placeOf a) (placeOf b)) (Together a b)
-rule Exclusive Exclusive = says-false (λ t. t .shares refl)
-rule Exclusive TimeMultiplexed = apart _ _ (omega arith)
-rule Exclusive DynamicLevel = apart _ _ (omega arith)
-rule Exclusive DynamicPulse = apart _ _ (omega arith)
-rule TimeMultiplexed Exclusive = apart _ _ (omega arith)
-rule TimeMultiplexed TimeMultiplexed = shared _ (omega arith)
-rule TimeMultiplexed DynamicLevel = apart _ _ (omega arith)
-rule TimeMultiplexed DynamicPulse = apart _ _ (omega arith)
-rule DynamicLevel Exclusive = apart _ _ (omega arith)
-rule DynamicLevel TimeMultiplexed = apart _ _ (omega arith)
-rule DynamicLevel DynamicLevel = shared _ (omega arith)
-rule DynamicLevel DynamicPulse = apart _ _ (omega arith)
-rule DynamicPulse Exclusive = apart _ _ (omega arith)
-rule DynamicPulse TimeMultiplexed = apart _ _ (omega arith)
-rule DynamicPulse DynamicLevel = apart _ _ (omega arith)
-rule DynamicPulse DynamicPulse = shared _ (omega arith)
+pub rule-says : (a b : Manner) → Says (entry (placeOf a) (placeOf b)) (Together a b)
+rule-says a b =
+    rw (entry-rule (placeOf a) (placeOf b) (place-lt a) (place-lt b))
+    (says-as (says-both _ _ (says-eq (placeOf a) (placeOf b)) (says-not (says-eq (placeOf a) 0)))
+    (λ x. record { equal = place-injective a b (x .0); shares = λ e. x .1 (ap placeOf e) })
+    (λ t. (ap placeOf (t .equal), λ e. t .shares (place-injective a Exclusive e))))

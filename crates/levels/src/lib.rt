@@ -5,8 +5,8 @@ ghost use Rattle.facts.specs.Says.{Says};
 ghost use Rattle.facts.specs.Levels.{Together};
 ghost use Rattle.levels.specs.Places.{placeOf};
 
-// "Two manners go together by a four by four table: only equal ones, and never exclusive." Rows and columns stand in the order of the manners: exclusive,
-// time-multiplexed, dynamic level, dynamic pulse.
+// "Two manners go together by a four by four table: only equal ones, and never exclusive." Rows and columns stand in the order of the manners:
+// exclusive, time-multiplexed, dynamic level, dynamic pulse.
 const TOGETHER: [[bool; 4]; 4] = [
     [false, false, false, false],
     [false, true, false, false],

@@ -1,6 +1,4 @@
--- Laws of what the loops decide, of zero bytes, of the order of records, of managed ports and of grants. Assumes nothing.
-pub mod All
+-- Laws of zero bytes, of the order of records and of grants. Assumes nothing.
 pub mod Zeros
 pub mod Order
-pub mod Passing
 pub mod Grants

@@ -2,16 +2,17 @@
 use mathlib.Core.Path.{_≡_, _∙_, ap, refl}
 use mathlib.Core.Logic.{_⊎_, inl, inr, ⊎-elim, _≢_}
 use mathlib.Core.List.{List}
-use mathlib.Core.Bool.{Bool}
+use mathlib.Core.Bool.{Bool, false}
 use Prim.Native.Nat.{ℕ, _+_, _≤_, _<_}
 use native.Mathlib.Nat.{eq-or-lt-of-le}
 use native.Mathlib.Omega.{arith}
 use lib.Bits.{bitOr, or-add-and, and-le-l, and-le-r}
 use lib.Dec.{eqb}
 use Rattle.facts.specs.Says.{Says}
-use Rattle.facts.specs.Packets.{byte, word}
-use Rattle.facts.proofs.Says.{says-as, says-eq}
-use Rattle.layout.specs.Sound.{Zero}
+use Rattle.facts.specs.Packets.{byte}
+use Rattle.facts.proofs.Says.{says-false, says-as, says-eq}
+use Rattle.layout.specs.Sound.{Zero, LiveIn}
+use Rattle.scan.specs.Parts.{ClientsSound}
 
 or-zero-left : (x y : ℕ) → bitOr x y ≡ 0 → x ≡ 0
 or-zero-left x y e = omega (arith, or-add-and x y, and-le-r x y)
@@ -48,17 +49,14 @@ module _ (b : List ℕ) (from : ℕ) where
   pub gathered-says : (i to all : ℕ) → i ≡ to → Gathered b from i all → Says (eqb all 0) (Zero b from to)
   gathered-says i to all s g = rw s at (says-as (says-eq all 0) (g .only) (g .each))
 
-zero-word : (b : List ℕ) (at to : ℕ) → at + 2 ≤ to → Zero b at to → word b at ≡ 0
-zero-word b at to h z = omega (arith, z at (omega arith) (omega arith), z (at + 1) (omega arith) (omega arith))
+-- a record that is zero, or is used and is P: where it isn't zero, P decides
+module _ {Zeroed Used P : Type 0} (not-zero : Zeroed → ⊥) where
+  pub place-false : (P → ⊥) → Says false (Zeroed ⊎ (Used × P))
+  place-false n = says-false (⊎-elim not-zero (λ p. n (p .1)))
 
--- a record that is zero, or has a client and is P
-abbrev pub Place : List ℕ → ℕ → ℕ → Type 0 → Type 0
-Place b at to P = Zero b at to ⊎ ((word b at ≢ 0) × P)
+  pub place-says : {r : Bool} {Q : Type 0} → Says r Q → (Q → Used × P) → (P → Q) → Says r (Zeroed ⊎ (Used × P))
+  place-says s f g = says-as s (λ q. inr (f q)) (⊎-elim (λ z. absurd (not-zero z)) (λ p. g (p .1)))
 
--- whether its client is 0 says which
-module _ {r : Bool} (b : List ℕ) (at to : ℕ) (P : Type 0) where
-  pub unused-says : word b at ≡ 0 → Says r (Zero b at to) → Says r (Place b at to P)
-  unused-says e s = says-as s inl (⊎-elim (λ z. z) (λ p. absurd (p .0 e)))
-
-  pub used-says : at + 2 ≤ to → word b at ≢ 0 → Says r P → Says r (Place b at to P)
-  used-says h n s = says-as s (λ p. inr (n, p)) (⊎-elim (λ z. absurd (n (zero-word b at to h z))) (λ p. p .1))
+-- the handle of a live client is not 0
+pub live-used : (b : List ℕ) {h : ℕ} → ClientsSound b → LiveIn b h → h ≢ 0
+live-used b s l e = omega (arith, s (l .0) (l .1) .over, l .2, e)

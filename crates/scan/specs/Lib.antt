@@ -1,3 +1,3 @@
 -- What the contracts of `scan` cite. Assumes nothing.
 pub mod Parts
-pub mod Finding
+pub mod Loading

@@ -1,8 +1,6 @@
-// The clients: their records, in the order of their handles, and the search for one.
-use crate::Found;
-use crate::attributes_allowed;
-use crate::byte;
-use crate::word;
+// The clients: their records, in the order of their handles.
+use facts::Handle;
+use facts::Socket;
 use layout::ALL_EVENTS;
 use layout::CLIENT_ATTRIBUTES;
 use layout::CLIENT_EVENTS;
@@ -21,22 +19,20 @@ ghost use Rattle.facts.specs.Table;
 ghost use Rattle.facts.specs.Says.{Says};
 ghost use Rattle.layout.specs.Layout.{tableSize};
 ghost use Rattle.layout.specs.Reading.{clientsIn};
-ghost use Rattle.layout.specs.Sound.{MaskSound, ClientSound};
-ghost use Rattle.scan.specs.Parts.{MasksSound, ClientsSound};
-ghost use Rattle.scan.specs.Finding.{Finds};
+ghost use Rattle.layout.specs.Sound.{MaskSound, ClientSound, handleBefore};
+ghost use Rattle.scan.specs.Parts.{MasksSound, HandleSound, ClientsSound};
 
 // A socket's mask is 0, or 4,096 and itself.
 const ALL_MASKS: usize = ALL_EVENTS + ALL_EVENTS;
 
 // A client's mask at the socket `s`: none, or one at a socket below the count.
-fn mask_sound(t: &[u8], i: usize, s: usize) -> bool
-    requires { ⌜ (length (now t) ≡ tableSize) × (i < Table.mostClients) × (s < Table.mostSockets) ⌝ }
-    ensures { λ r. ⌜ Says r (MaskSound (now (t .entry)) i s) ⌝ }
+fn mask_sound(t: &[u8], i: usize, s: Socket) -> bool
+    requires { ⌜ (length (now t) ≡ tableSize) × (i < Table.mostClients) × (s .0 < Table.mostSockets) ⌝ }
+    ensures { λ r. ⌜ Says r (MaskSound (now (t .entry)) i (s .0)) ⌝ }
 {
-    let mask = word(
-        t,
-        CLIENTS_AT + i * CLIENT_SIZE + CLIENT_MASKS + s * MASK_SIZE,
-    );
+    let number = s.0;
+    let at = CLIENTS_AT + i * CLIENT_SIZE + CLIENT_MASKS + number * MASK_SIZE;
+    let mask = reading::word(t, at);
     if mask == 0 {
         return true;
     }
@@ -46,41 +42,60 @@ fn mask_sound(t: &[u8], i: usize, s: usize) -> bool
     if ALL_MASKS <= mask {
         return false;
     }
-    let sockets = byte(t, SOCKETS_IN);
-    s < sockets
+    let sockets = reading::byte(t, SOCKETS_IN);
+    number < sockets
 }
 
 fn masks_sound(t: &[u8], i: usize) -> bool
     requires { ⌜ (length (now t) ≡ tableSize) × (i < Table.mostClients) ⌝ }
     ensures { λ r. ⌜ Says r (MasksSound (now (t .entry)) i) ⌝ }
 {
-    let mut s = 0;
-    while s < MOST_SOCKETS {
-        if !mask_sound(t, i, s) {
+    for s in 0..MOST_SOCKETS {
+        if !mask_sound(t, i, Socket(s)) {
             return false;
         }
-        s += 1;
     }
     true
 }
 
-// The record of the client `i`, whose handle is over `low`.
-fn client_sound(t: &[u8], low: usize, i: usize) -> bool
+// The handle of the client listed before the client `i`, or 0.
+fn handle_before(t: &[u8], i: usize) -> Handle
     requires { ⌜ (length (now t) ≡ tableSize) × (i < Table.mostClients) ⌝ }
-    ensures { λ r. ⌜ Says r (ClientSound (now (t .entry)) low i) ⌝ }
+    ensures { λ r. ⌜ r .0 ≡ handleBefore (now (t .entry)) i ⌝ }
+{
+    if i == 0 {
+        return Handle(0);
+    }
+    reading::handle(t, CLIENTS_AT + (i - 1) * CLIENT_SIZE)
+}
+
+// "live handles differ, aren't 0 and aren't over the number issued": the handle of the client `i` is over that of the one before it.
+fn handle_sound(t: &[u8], i: usize) -> bool
+    requires { ⌜ (length (now t) ≡ tableSize) × (i < Table.mostClients) ⌝ }
+    ensures { λ r. ⌜ Says r (HandleSound (now (t .entry)) i) ⌝ }
+{
+    let handle = reading::handle(t, CLIENTS_AT + i * CLIENT_SIZE);
+    let before = handle_before(t, i);
+    if handle.0 <= before.0 {
+        return false;
+    }
+    handle.0 as usize <= reading::word(t, ISSUED_IN)
+}
+
+// The record of the client `i`.
+fn client_sound(t: &[u8], i: usize) -> bool
+    requires { ⌜ (length (now t) ≡ tableSize) × (i < Table.mostClients) ⌝ }
+    ensures { λ r. ⌜ Says r (ClientSound (now (t .entry)) (handleBefore (now (t .entry)) i) i) ⌝ }
 {
     let at = CLIENTS_AT + i * CLIENT_SIZE;
-    let handle = word(t, at);
-    if handle <= low {
+    let attributes = reading::word(t, at + CLIENT_ATTRIBUTES);
+    if !reading::attributes_allowed(attributes) {
         return false;
     }
-    if word(t, ISSUED_IN) < handle {
+    if ALL_EVENTS <= reading::word(t, at + CLIENT_EVENTS) {
         return false;
     }
-    if !attributes_allowed(word(t, at + CLIENT_ATTRIBUTES)) {
-        return false;
-    }
-    if ALL_EVENTS <= word(t, at + CLIENT_EVENTS) {
+    if !handle_sound(t, i) {
         return false;
     }
     masks_sound(t, i)
@@ -90,31 +105,11 @@ pub fn clients_sound(t: &[u8]) -> bool
     requires { ⌜ (length (now t) ≡ tableSize) × (clientsIn (now t) ≤ Table.mostClients) ⌝ }
     ensures { λ r. ⌜ Says r (ClientsSound (now (t .entry))) ⌝ }
 {
-    let n = byte(t, CLIENTS_IN);
-    let mut low = 0;
-    let mut i = 0;
-    while i < n {
-        if !client_sound(t, low, i) {
+    let clients = reading::byte(t, CLIENTS_IN);
+    for i in 0..clients {
+        if !client_sound(t, i) {
             return false;
         }
-        low = word(t, CLIENTS_AT + i * CLIENT_SIZE);
-        i += 1;
     }
     true
-}
-
-// The first client listed whose handle is `h`.
-pub fn find(t: &[u8], h: usize) -> Found
-    requires { ⌜ (length (now t) ≡ tableSize) × (clientsIn (now t) ≤ Table.mostClients) ⌝ }
-    ensures { λ r. ⌜ Finds (now (t .entry)) h r ⌝ }
-{
-    let n = byte(t, CLIENTS_IN);
-    let mut i = 0;
-    while i < n {
-        if word(t, CLIENTS_AT + i * CLIENT_SIZE) == h {
-            return Found::At(i);
-        }
-        i += 1;
-    }
-    Found::Nobody
 }

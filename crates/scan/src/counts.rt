@@ -1,5 +1,4 @@
 // The numbers of sockets, clients and ranges, and what lies past the last client and the last range.
-use crate::byte;
 use crate::zero;
 use layout::CLIENT_SIZE;
 use layout::CLIENTS_AT;
@@ -23,17 +22,17 @@ pub fn counts_sound(t: &[u8]) -> bool
     requires { ⌜ length (now t) ≡ tableSize ⌝ }
     ensures { λ r. ⌜ Says r (CountsSound (now (t .entry))) ⌝ }
 {
-    let sockets = byte(t, SOCKETS_IN);
+    let sockets = reading::byte(t, SOCKETS_IN);
     if sockets == 0 {
         return false;
     }
     if MOST_SOCKETS < sockets {
         return false;
     }
-    if MOST_CLIENTS < byte(t, CLIENTS_IN) {
+    if MOST_CLIENTS < reading::byte(t, CLIENTS_IN) {
         return false;
     }
-    byte(t, RANGES_IN) <= MOST_RANGES
+    reading::byte(t, RANGES_IN) <= MOST_RANGES
 }
 
 // Whether what no client and no range uses is zero.
@@ -41,10 +40,10 @@ pub fn ends_sound(t: &[u8]) -> bool
     requires { ⌜ (length (now t) ≡ tableSize) × CountsSound (now t) ⌝ }
     ensures { λ r. ⌜ Says r (EndsSound (now (t .entry))) ⌝ }
 {
-    let clients_end = CLIENTS_AT + byte(t, CLIENTS_IN) * CLIENT_SIZE;
+    let clients_end = CLIENTS_AT + reading::byte(t, CLIENTS_IN) * CLIENT_SIZE;
     if !zero(t, clients_end, RANGES_AT) {
         return false;
     }
-    let ranges_end = RANGES_AT + byte(t, RANGES_IN) * RANGE_SIZE;
+    let ranges_end = RANGES_AT + reading::byte(t, RANGES_IN) * RANGE_SIZE;
     zero(t, ranges_end, TABLE_SIZE)
 }

@@ -28,8 +28,9 @@ loop-less c = omega arith
 
 loop-again : tie.Need-loop-again Inv-loop μ-loop
 loop-again c =
-    let inv = c .before .loop .inv in
-    (omega arith, omega arith, cleared-more (c .before .before .args .t .now) (c .before .loop .t) (c .before .before .args .from) (c .before .loop .i) (inv .0) (omega arith) (inv .2))
+    let a = c .before .before .args in
+    let at = c .before .loop in
+    (omega arith, omega arith, cleared-more (a .t .now) (at .t) (a .from) (at .i) (at .inv .0) (omega arith) (at .inv .2))
 
 same-length : tie.Need-same-length Inv-loop μ-loop
 same-length c = c .before .loop .inv .2 .size

@@ -1,4 +1,4 @@
--- `image::move_down` meets its contract. The invariant: from the start up to `i` the bytes are those from `far` above, and all others are as they were.
+-- `image::move_down` meets its contract. The invariant: from the start up to `i` the bytes are those from `far` above, all others are as they were.
 -- Assumes nothing.
 use mathlib.Core.Path.{subst}
 use Prim.Native.Nat.{ℕ, _≤_, _-_}
@@ -34,11 +34,13 @@ loop-less c = omega arith
 
 loop-again : tie.Need-loop-again Inv-loop μ-loop
 loop-again c =
-    let a = c .before .before .before .args in
-    let inv = c .before .before .loop .inv in (
+    let turn = c .before .before in
+    let start = turn .before in
+    let at = turn .loop in
+    let a = start .args in (
       omega arith,
       omega arith,
-      moved-more (a .t .now) (c .before .before .loop .t) (a .from) (c .before .before .loop .i) (a .far) (inv .0) (omega arith) (c .before .before .before .pre .2) (inv .2),
+      moved-more (a .t .now) (at .t) (a .from) (at .i) (a .far) (at .inv .0) (omega arith) (start .pre .2) (at .inv .2),
     )
 
 same-length : tie.Need-same-length Inv-loop μ-loop

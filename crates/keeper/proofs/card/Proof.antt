@@ -1,15 +1,31 @@
 -- `keeper::card` meets its contract: the table is not well formed, or the rule of card in and card out holds.
 -- Assumes nothing.
 use mathlib.Core.Path.{subst}
-use mathlib.Core.List.{[]}
+use mathlib.Core.List.{List}
+use mathlib.Core.Logic.{inl}
+use Prim.Native.Nat.{ℕ}
 use borrow.Author.Needs.{needs}
-use Rattle.facts.specs.Table.{Facts}
-use Rattle.facts.specs.Sockets.{CardTo}
-use Rattle.image.specs.Loading.{LoadedIs}
-use Rattle.services.specs.Answers.{codeOf, handleOf}
-use Rattle.keeper.proofs.Ends.{unformed, served}
+use denote.Ref.{now}
+use Rattle.layout.specs.Sound.{Accepted}
+use Rattle.scan.specs.Loading.{LoadedIs}
+use Rattle.keeper.proofs.Ends.{card-unformed}
 use Rattle.keeper.proofs.card.Statement.{statement}
 use Rattle.keeper.proofs.card.Tie as tie
+
+-- where the call began, and its table
+abbrev start : tie.After-load → tie.Start
+start c = c .before .before .before
+
+abbrev table : tie.After-load → List ℕ
+table c = now (start c .args .table)
+
+-- the table is the image of a well-formed set
+formed : (c : tie.After-enum-told) → Accepted (table (c .before .before))
+formed c = subst (LoadedIs (table (c .before .before))) (c .enum-told .given .1) (c .before .before .load .ensures)
+
+-- or it is not
+unformed : (c : tie.After-enum-told2) → Accepted (table (c .before .before)) → ⊥
+unformed c = subst (LoadedIs (table (c .before .before))) (c .enum-told2 .given .1) (c .before .before .load .ensures)
 
 load-requires : tie.Need-load-requires
 load-requires c κs = search needs
@@ -28,26 +44,23 @@ same-length c = search needs
 
 returns : tie.Need-returns
 returns c =
-    let s = c .before .before .before .before .before .before in
-    unformed (λ (F : Facts). CardTo (s .args .present) F (s .args .socket)) (s .args .table .now) [] (c .unformed .result) (subst (LoadedIs (s .args .table .now)) (c .before .enum-told2 .given .1) (c .before .before .before .load .ensures)) (c .unformed .ensures)
+    let loaded = c .before .before .before in
+    card-unformed (table loaded) (unformed (c .before)) (start loaded .args .present) (start loaded .args .socket .0) (c .unformed .result)
+    (c .unformed .ensures)
 
 card-requires : tie.Need-card-requires
-card-requires c κs =
-    let s = c .before .before .before .before .before .before in
-    subst (LoadedIs (s .args .table .now)) (c .before .enum-told .given .1) (c .before .before .before .load .ensures)
+card-requires c κs = formed (c .before)
 
-pack-requires : tie.Need-pack-requires
-pack-requires c κs = search needs
+number-requires : tie.Need-number-requires
+number-requires c κs = search needs
 
 same-length-2 : tie.Need-same-length-2
 same-length-2 c = search needs
 
 returns-2 : tie.Need-returns-2
 returns-2 c =
-    let s = c .before .before .before .before .before .before .before .before .before .before in
-    let a = c .before .before .before .card .result in
-    served (λ (F : Facts). CardTo (s .args .present) F (s .args .socket)) (s .args .table .now) (c .before .before .before .card .last .0) [] [] (codeOf a) (handleOf a) (c .pack .result)
-    (c .before .before .before .card .ensures) (c .pack .ensures)
+    let called = c .before .before .before in
+    record { code = called .card .result; is = c .number .ensures; permitted = inl (called .card .ensures) }
 
 pub card-spec : {M : Type 1} → statement M
 card-spec =
@@ -60,6 +73,6 @@ card-spec =
     same-length
     returns
     card-requires
-    pack-requires
+    number-requires
     same-length-2
     returns-2)

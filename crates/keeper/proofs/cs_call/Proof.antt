@@ -1,15 +1,44 @@
 -- `keeper::cs_call` meets its contract: the table is not well formed, or the service rules, or the number is no built service's.
 -- Assumes nothing.
 use mathlib.Core.Path.{refl, subst}
+use mathlib.Core.List.{List}
+use Prim.Native.Nat.{ℕ}
 use borrow.Author.Needs.{needs}
-use Rattle.facts.specs.Table.{Facts}
-use Rattle.facts.specs.Services.{registerClient, deregisterClient, Call}
-use Rattle.image.specs.Loading.{LoadedIs}
-use Rattle.services.specs.Answers.{codeOf, handleOf}
-use Rattle.keeper.specs.Entries.{built}
-use Rattle.keeper.proofs.Ends.{unformed, unsupported, by-service}
+use denote.Ref.{now}
+use Rattle.layout.specs.Sound.{Accepted}
+use Rattle.scan.specs.Loading.{LoadedIs}
+use Rattle.facts.specs.Services.{registerClient, deregisterClient}
+use Rattle.keeper.proofs.Ends.{call-unformed, unsupported, by-service}
 use Rattle.keeper.proofs.cs_call.Statement.{statement}
 use Rattle.keeper.proofs.cs_call.Tie as tie
+
+-- where the call began, its table and its packet
+abbrev lent : tie.After-load → tie.After-slice-known
+lent c = c .before .before .before
+
+abbrev start : tie.After-load → tie.Start
+start c = lent c .before
+
+abbrev table : tie.After-load → List ℕ
+table c = now (start c .args .table)
+
+abbrev packet : tie.After-load → List ℕ
+packet c = now (start c .args .packet)
+
+-- the table is the image of a well-formed set
+formed : (c : tie.After-enum-told) → Accepted (table (c .before .before))
+formed c = subst (LoadedIs (table (c .before .before))) (c .enum-told .given .1) (c .before .before .load .ensures)
+
+-- or it is not
+unformed : (c : tie.After-enum-told2) → Accepted (table (c .before .before)) → ⊥
+unformed c = subst (LoadedIs (table (c .before .before))) (c .enum-told2 .given .1) (c .before .before .load .ensures)
+
+-- a built service's number leads to it
+abbrev chosen1 : tie.After-deregister → tie.At-match2-keys1
+chosen1 c = c .before .before .before
+
+abbrev chosen2 : tie.After-register → tie.At-match2-keys2
+chosen2 c = c .before .before .before
 
 load-requires : tie.Need-load-requires
 load-requires c κs = search needs
@@ -28,22 +57,18 @@ same-length c = search needs
 
 returns : tie.Need-returns
 returns c =
-    let s = c .before .before .before .before .before .before .before in
-    unformed (λ (F : Facts). Call built (s .args .service) F (s .args .handle) (s .args .packet .now)) (s .args .table .now) (s .args .packet .now) (c .unformed .result)
-    (subst (LoadedIs (s .args .table .now)) (c .before .enum-told2 .given .1) (c .before .before .before .load .ensures)) (c .unformed .ensures)
+    let loaded = c .before .before .before in
+    let a = start loaded .args in
+    call-unformed (table loaded) (unformed (c .before)) (a .service) (a .handle) (packet loaded) (c .unformed .result) (c .unformed .ensures)
 
 deregister-requires : tie.Need-deregister-requires
-deregister-requires c κs =
-    let s = c .before .before .before .before .before .before .before .before .before in
-    subst (LoadedIs (s .args .table .now)) (c .before .before .before .enum-told .given .1) (c .before .before .before .before .before .load .ensures)
+deregister-requires c κs = formed (c .before .before .before)
 
 pack-requires : tie.Need-pack-requires
 pack-requires c κs = search needs
 
 register-requires : tie.Need-register-requires
-register-requires c κs =
-    let s = c .before .before .before .before .before .before .before .before .before in
-    subst (LoadedIs (s .args .table .now)) (c .before .before .before .enum-told .given .1) (c .before .before .before .before .before .load .ensures)
+register-requires c κs = formed (c .before .before .before)
 
 pack-requires-2 : tie.Need-pack-requires-2
 pack-requires-2 c κs = search needs
@@ -59,10 +84,12 @@ same-length-3 c = search needs
 
 returns-2 : tie.Need-returns-2
 returns-2 c =
-    let s = c .before .before .before .before .before .before .before .before .before .before .before .before .before in
-    let a = c .before .before .before .deregister .result in
-    by-service deregisterClient refl (s .args .table .now) (c .before .before .before .deregister .last .0) (s .args .packet .now) (s .args .packet .now) (s .args .service) (s .args .handle)
-    (c .pack .result) (codeOf a) (handleOf a) (c .before .before .before .before .before .before .match2 .keys1) (c .before .before .before .deregister .ensures) (c .pack .ensures)
+    let called = c .before .before .before in
+    let loaded = chosen1 called .before .before .before in
+    let a = start loaded .args in
+    by-service deregisterClient refl (table loaded) (called .deregister .last .0) (packet loaded) (packet loaded) (a .service) (a .handle)
+    (c .pack .result)
+    (called .deregister .result) (chosen1 called .match2 .keys1) (called .deregister .ensures) (c .pack .ensures)
 
 same-length-4 : tie.Need-same-length-4
 same-length-4 c = search needs
@@ -72,19 +99,24 @@ same-length-5 c = search needs
 
 returns-3 : tie.Need-returns-3
 returns-3 c =
-    let s = c .before .before .before .before .before .before .before .before .before .before .before .before .before in
-    let a = c .before .before .before .register .result in
-    by-service registerClient refl (s .args .table .now) (c .before .before .before .register .last .0) (s .args .packet .now) (s .args .packet .now) (s .args .service) (s .args .handle)
-    (c .pack2 .result) (codeOf a) (handleOf a) (c .before .before .before .before .before .before .match2 .keys2) (c .before .before .before .register .ensures) (c .pack2 .ensures)
+    let called = c .before .before .before in
+    let loaded = chosen2 called .before .before .before in
+    let a = start loaded .args in
+    by-service registerClient refl (table loaded) (called .register .last .0) (packet loaded) (packet loaded) (a .service) (a .handle)
+    (c .pack2 .result)
+    (called .register .result) (chosen2 called .match2 .keys2) (called .register .ensures) (c .pack2 .ensures)
 
 same-length-6 : tie.Need-same-length-6
 same-length-6 c = search needs
 
 returns-4 : tie.Need-returns-4
 returns-4 c =
-    let s = c .before .before .before .before .before .before .before .before in
-    unsupported (s .args .table .now) (s .args .packet .now) (s .args .service) (s .args .handle) (c .pack3 .result) (subst (LoadedIs (s .args .table .now)) (c .before .before .enum-told .given .1) (c .before .before .before .before .load .ensures))
-    (c .before .match2 .rest .0 .1) (c .before .match2 .rest .1) (c .pack3 .ensures)
+    let told = c .before .before in
+    let loaded = told .before .before in
+    let a = start loaded .args in
+    unsupported (table loaded) (packet loaded) (a .service) (a .handle) (c .pack3 .result) (formed told) (c .before .match2 .rest .0 .1)
+    (c .before .match2 .rest .1)
+    (c .pack3 .ensures)
 
 pub cs-call-spec : {M : Type 1} → statement M
 cs-call-spec =

@@ -1,15 +1,32 @@
 -- `keeper::cs_sharers` meets its contract: the table is not well formed, or the rule of sharers holds.
 -- Assumes nothing.
 use mathlib.Core.Path.{subst}
-use mathlib.Core.List.{[]}
+use mathlib.Core.List.{List}
+use mathlib.Core.Logic.{inl}
+use Prim.Native.Nat.{ℕ}
 use borrow.Author.Needs.{needs}
-use Rattle.facts.specs.Table.{Facts}
-use Rattle.facts.specs.Irq.{Sharers}
-use Rattle.image.specs.Loading.{LoadedIs}
-use Rattle.services.specs.Answers.{codeOf, handleOf}
-use Rattle.keeper.proofs.Ends.{unformed, served}
+use denote.Ref.{now}
+use Rattle.layout.specs.Sound.{Accepted}
+use Rattle.scan.specs.Loading.{LoadedIs}
+use Rattle.irq.specs.Sharing.{countOf}
+use Rattle.keeper.proofs.Ends.{sharers-unformed}
 use Rattle.keeper.proofs.cs_sharers.Statement.{statement}
 use Rattle.keeper.proofs.cs_sharers.Tie as tie
+
+-- where the call began, and its table
+abbrev start : tie.After-load → tie.Start
+start c = c .before .before
+
+abbrev table : tie.After-load → List ℕ
+table c = now (start c .args .table)
+
+-- the table is the image of a well-formed set
+formed : (c : tie.After-enum-told) → Accepted (table (c .before .before))
+formed c = subst (LoadedIs (table (c .before .before))) (c .enum-told .given .1) (c .before .before .load .ensures)
+
+-- or it is not
+unformed : (c : tie.After-enum-told2) → Accepted (table (c .before .before)) → ⊥
+unformed c = subst (LoadedIs (table (c .before .before))) (c .enum-told2 .given .1) (c .before .before .load .ensures)
 
 load-requires : tie.Need-load-requires
 load-requires c κs = search needs
@@ -25,23 +42,19 @@ unformed-requires c κs = search needs
 
 returns : tie.Need-returns
 returns c =
-    let s = c .before .before .before .before .before in
-    unformed (λ (F : Facts). Sharers F (s .args .level)) (s .args .table .now) [] (c .unformed .result) (subst (LoadedIs (s .args .table .now)) (c .before .enum-told2 .given .1) (c .before .before .before .load .ensures)) (c .unformed .ensures)
+    let loaded = c .before .before .before in
+    sharers-unformed (table loaded) (unformed (c .before)) (start loaded .args .level) (c .unformed .result) (c .unformed .ensures)
 
 sharers-requires : tie.Need-sharers-requires
-sharers-requires c κs =
-    let s = c .before .before .before .before in
-    subst (LoadedIs (s .args .table .now)) (c .enum-told .given .1) (c .before .before .load .ensures)
+sharers-requires c κs = formed c
 
-pack-requires : tie.Need-pack-requires
-pack-requires c κs = search needs
+pack-count-requires : tie.Need-pack-count-requires
+pack-count-requires c κs = search needs
 
 returns-2 : tie.Need-returns-2
 returns-2 c =
-    let s = c .before .before .before .before .before .before in
-    let a = c .before .sharers .result in
-    served (λ (F : Facts). Sharers F (s .args .level)) (s .args .table .now) (s .args .table .now) [] [] (codeOf a) (handleOf a) (c .pack .result)
-    (c .before .sharers .ensures) (c .pack .ensures)
+    let n = countOf (c .before .sharers .result) in
+    record { code = n .code; count = n .count; packs = c .pack-count .ensures; permitted = inl (c .before .sharers .ensures) }
 
 pub cs-sharers-spec : {M : Type 1} → statement M
 cs-sharers-spec =
@@ -53,5 +66,5 @@ cs-sharers-spec =
     unformed-requires
     returns
     sharers-requires
-    pack-requires
+    pack-count-requires
     returns-2)

@@ -2,7 +2,7 @@
 -- Assumes nothing.
 use borrow.Author.Needs.{needs}
 use native.Mathlib.Omega.{arith}
-use Rattle.levels.proofs.Rule.{place-lt, rule}
+use Rattle.levels.proofs.Rule.{place-lt, rule-says}
 use Rattle.levels.proofs.together.Statement.{statement}
 use Rattle.levels.proofs.together.Tie as tie
 
@@ -22,7 +22,9 @@ index-2-result : tie.Need-index-2-result
 index-2-result c = omega (arith, place-lt (c .before .before .args .b))
 
 returns : tie.Need-returns
-returns c = rw (c .before .before .place .ensures, c .before .place2 .ensures) (rule (c .before .before .before .args .a) (c .before .before .before .args .b))
+returns c =
+    let a = c .before .before .before .args in
+    rw (c .before .before .place .ensures, c .before .place2 .ensures) (rule-says (a .a) (a .b))
 
 pub together-spec : {M : Type 1} → statement M
 together-spec = tie.close (tie.spec place-requires place-requires-2 mul-result index-1-result index-2-result returns)

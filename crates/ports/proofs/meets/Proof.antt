@@ -15,6 +15,10 @@ Inv-loop base count lines base2 count2 lines2 decoded end left₀ left =
 abbrev μ-loop : tie.MeasureT-loop
 μ-loop base count lines base2 count2 lines2 decoded end left₀ left = left
 
+-- where the turn began in which a port was looked at
+abbrev turn : tie.After-hits Inv-loop μ-loop → tie.At-loop Inv-loop μ-loop
+turn c = c .before .before
+
 smaller-requires : tie.Need-smaller-requires Inv-loop μ-loop
 smaller-requires c κs = search needs
 
@@ -32,7 +36,7 @@ hits-requires c κs = omega arith
 
 returns : tie.Need-returns Inv-loop μ-loop
 returns c =
-    hit-meets _ _ _ (c .before .before .before .before .smaller .ensures) _ (record { from = omega arith; below = omega arith })
+    hit-meets _ _ _ (turn (c .before) .before .smaller .ensures) _ (record { from = omega arith; below = omega arith })
     (c .before .hits .ensures .holds (c .if1 .taken))
 
 sub-left : tie.Need-sub-left Inv-loop μ-loop
@@ -44,7 +48,7 @@ loop-less c = omega arith
 loop-again : tie.Need-loop-again Inv-loop μ-loop
 loop-again c = (
   omega arith,
-  missed-more _ _ _ _ (omega arith) (c .before .before .before .loop .inv .1) (c .before .hits .ensures .fails (c .if1 .left)),
+  missed-more _ _ _ _ (omega arith) (turn (c .before) .loop .inv .1) (c .before .hits .ensures .fails (c .if1 .left)),
 )
 
 returns-2 : tie.Need-returns-2 Inv-loop μ-loop

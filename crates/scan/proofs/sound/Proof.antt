@@ -1,20 +1,42 @@
 -- `scan::sound` meets its contract: each part decides a field or more of what soundness is.
 -- Assumes nothing.
+use mathlib.Core.List.{List}
+use Prim.Native.Nat.{ℕ}
 use borrow.Author.Needs.{needs}
 use denote.Ref.{now}
 use Rattle.facts.proofs.Says.{says-false, says-as, says-yes, says-false-by}
-use Rattle.scan.specs.Parts.{CountsSound, RangesSound, SocketsSound}
+use Rattle.layout.specs.Sound.{RangesSound}
+use Rattle.scan.specs.Parts.{CountsSound, ClientsSound}
 use Rattle.scan.proofs.sound.Statement.{statement}
 use Rattle.scan.proofs.sound.Tie as tie
 
-counts : (c : tie.Else2) → CountsSound (now (c .before .before .before .before .args .t))
+-- where one test had passed before another did
+abbrev first : tie.Else2 → tie.Else1
+first c = c .before .before
+
+abbrev second : tie.Else3 → tie.Else2
+second c = c .before .before
+
+abbrev third : tie.Else4 → tie.Else3
+third c = c .before .before
+
+abbrev fourth : tie.Else5 → tie.Else4
+fourth c = c .before .before
+
+abbrev fifth : tie.Else6 → tie.Else5
+fifth c = c .before .before
+
+abbrev bytes : tie.Else2 → List ℕ
+bytes c = now (first c .before .before .args .t)
+
+counts : (c : tie.Else2) → CountsSound (bytes c)
 counts c = says-yes (c .before .counts-sound .ensures) (c .if2 .left)
 
-ranges : (c : tie.Else5) → RangesSound (now (c .before .before .before .before .before .before .before .before .before .before .args .t))
-ranges c = says-yes (c .before .ranges-sound .ensures) (c .if5 .left)
+clients : (c : tie.Else4) → ClientsSound (bytes (second (third c)))
+clients c = says-yes (c .before .clients-sound .ensures) (c .if4 .left)
 
-sockets : (c : tie.Else6) → SocketsSound (now (c .before .before .before .before .before .before .before .before .before .before .before .before .args .t))
-sockets c = says-yes (c .before .sockets-sound .ensures) (c .if6 .left)
+ranges : (c : tie.Else5) → RangesSound (bytes (second (third (fourth c))))
+ranges c = says-yes (c .before .ranges-sound .ensures) (c .if5 .left)
 
 returns : tie.Need-returns
 returns c = says-false (λ s. c .if1 .taken (s .size))
@@ -34,58 +56,57 @@ returns-3 : tie.Need-returns-3
 returns-3 c = says-false-by (c .before .levels-sound .ensures) (c .if3 .taken) (λ s. s .levels)
 
 clients-sound-requires : tie.Need-clients-sound-requires
-clients-sound-requires c κs = (search needs, counts (c .before .before) .clients-most)
+clients-sound-requires c κs = (search needs, counts (second c) .clients-most)
 
 returns-4 : tie.Need-returns-4
 returns-4 c = says-false-by (c .before .clients-sound .ensures) (c .if4 .taken) (λ s. s .clients)
 
 ranges-sound-requires : tie.Need-ranges-sound-requires
-ranges-sound-requires c κs = (search needs, counts (c .before .before .before .before) .ranges-most)
+ranges-sound-requires c κs = (search needs, counts (second (third c)) .ranges-most)
 
 returns-5 : tie.Need-returns-5
 returns-5 c = says-false-by (c .before .ranges-sound .ensures) (c .if5 .taken) (λ s. s .ranges)
 
 sockets-sound-requires : tie.Need-sockets-sound-requires
-sockets-sound-requires c κs = (search needs, counts (c .before .before .before .before .before .before), ranges c)
+sockets-sound-requires c κs = (search needs, counts (second (third (fourth c))), clients (fourth c), ranges c)
 
 returns-6 : tie.Need-returns-6
 returns-6 c =
     says-false-by (c .before .sockets-sound .ensures) (c .if6 .taken)
-    (λ s i l. record { card = s .cards i l; io = s .ios i l; irq = s .irqs i l })
+    (λ s i l. record {
+      card = s .cards i l;
+      io = s .ios i l;
+      irq = s .irqs i l;
+      company = λ j m. record { io = s .io-company i j l m; irq = s .irq-company i j l m };
+    })
 
-pairs-sound-requires : tie.Need-pairs-sound-requires
-pairs-sound-requires c κs = (search needs, sockets c)
+ends-sound-requires : tie.Need-ends-sound-requires
+ends-sound-requires c κs = (search needs, counts (second (third (fourth (fifth c)))))
 
 returns-7 : tie.Need-returns-7
 returns-7 c =
-    says-false-by (c .before .pairs-sound .ensures) (c .if7 .taken)
-    (λ s i l j m. record { io = s .io-company i j l m; irq = s .irq-company i j l m })
-
-ends-sound-requires : tie.Need-ends-sound-requires
-ends-sound-requires c κs = (search needs, counts (c .before .before .before .before .before .before .before .before .before .before))
-
-returns-8 : tie.Need-returns-8
-returns-8 c =
-    let n = counts (c .before .before .before .before .before .before .before .before .before .before .before) in
-    let s = sockets (c .before .before .before) in
-    let p = says-yes (c .before .before .pairs-sound .ensures) (c .before .if7 .left) in
+    let sockets = says-yes (c .before .before .sockets-sound .ensures) (c .before .if6 .left) in
+    let ranged = fifth (c .before) in
+    let listed = fourth ranged in
+    let levelled = third listed in
+    let n = counts (second levelled) in
     says-as (c .ends-sound .ensures)
     (λ e. record {
-      size = search needs;
+      size = first (second levelled) .if1 .left;
       sockets-least = n .sockets-least;
       sockets-most = n .sockets-most;
-      cards = λ i l. s i l .card;
-      levels = says-yes (c .before .before .before .before .before .before .before .before .before .before .levels-sound .ensures) (c .before .before .before .before .before .before .before .before .before .if3 .left);
+      cards = λ i l. sockets i l .card;
+      levels = says-yes (levelled .before .levels-sound .ensures) (levelled .if3 .left);
       clients-most = n .clients-most;
-      clients = says-yes (c .before .before .before .before .before .before .before .before .clients-sound .ensures) (c .before .before .before .before .before .before .before .if4 .left);
+      clients = clients listed;
       clients-end = e .clients-end;
       ranges-most = n .ranges-most;
-      ranges = ranges (c .before .before .before .before .before);
+      ranges = ranges ranged;
       ranges-end = e .ranges-end;
-      ios = λ i l. s i l .io;
-      irqs = λ i l. s i l .irq;
-      io-company = λ i j l m. p i l j m .io;
-      irq-company = λ i j l m. p i l j m .irq;
+      ios = λ i l. sockets i l .io;
+      irqs = λ i l. sockets i l .irq;
+      io-company = λ i j l m. sockets i l .company j m .io;
+      irq-company = λ i j l m. sockets i l .company j m .irq;
     })
     (λ s. record { clients-end = s .clients-end; ranges-end = s .ranges-end })
 
@@ -104,7 +125,5 @@ sound-spec =
     returns-5
     sockets-sound-requires
     returns-6
-    pairs-sound-requires
-    returns-7
     ends-sound-requires
-    returns-8)
+    returns-7)

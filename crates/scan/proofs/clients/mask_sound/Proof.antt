@@ -8,20 +8,20 @@ use Rattle.facts.proofs.Says.{says-true, says-false}
 use Rattle.scan.proofs.clients.mask_sound.Statement.{statement}
 use Rattle.scan.proofs.clients.mask_sound.Tie as tie
 
-mul-word : tie.Need-mul-word
-mul-word c = search needs
+mul-at : tie.Need-mul-at
+mul-at c = search needs
 
-add-word : tie.Need-add-word
-add-word c = search needs
+add-at : tie.Need-add-at
+add-at c = search needs
 
-add-word-2 : tie.Need-add-word-2
-add-word-2 c = search needs
+add-at-2 : tie.Need-add-at-2
+add-at-2 c = search needs
 
-mul-word-2 : tie.Need-mul-word-2
-mul-word-2 c = search needs
+mul-at-2 : tie.Need-mul-at-2
+mul-at-2 c = search needs
 
-add-word-3 : tie.Need-add-word-3
-add-word-3 c = search needs
+add-at-3 : tie.Need-add-at-3
+add-at-3 c = search needs
 
 word-requires : tie.Need-word-requires
 word-requires c κs = search needs
@@ -46,11 +46,11 @@ pub mask-sound-spec : {M : Type 1} → statement M
 mask-sound-spec =
     tie.close
     (tie.spec
-    mul-word
-    add-word
-    add-word-2
-    mul-word-2
-    add-word-3
+    mul-at
+    add-at
+    add-at-2
+    mul-at-2
+    add-at-3
     word-requires
     returns
     returns-2

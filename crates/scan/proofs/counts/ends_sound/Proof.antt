@@ -10,7 +10,8 @@ use Rattle.layout.specs.Sound.{Zero}
 use Rattle.scan.proofs.counts.ends_sound.Statement.{statement}
 use Rattle.scan.proofs.counts.ends_sound.Tie as tie
 
-clients-end : (c : tie.After-zero) → let b = now (c .before .before .before .args .t) in Says (c .zero .result) (Zero b (clientPlace (clientsIn b)) rangesAt)
+clients-end : (c : tie.After-zero) → let b = now (c .before .before .before .args .t) in
+    Says (c .zero .result) (Zero b (clientPlace (clientsIn b)) rangesAt)
 clients-end c = rw (c .before .byte .ensures .0) at (c .zero .ensures)
 
 byte-requires : tie.Need-byte-requires

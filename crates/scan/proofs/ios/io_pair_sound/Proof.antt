@@ -2,10 +2,14 @@
 -- Assumes nothing.
 use borrow.Author.Needs.{needs}
 use denote.Ref.{now}
-use Rattle.facts.proofs.Says.{says-true, says-as, says-not, says-yes, says-no}
-use Rattle.scan.proofs.Grants.{marked-shared, shared-marked}
+use Rattle.facts.proofs.Says.{says-true, says-as, says-not}
+use Rattle.scan.proofs.Grants.{marked-shared, shared-marked, apart-says, company-says}
 use Rattle.scan.proofs.ios.io_pair_sound.Statement.{statement}
 use Rattle.scan.proofs.ios.io_pair_sound.Tie as tie
+
+-- where the call began
+abbrev begun : tie.Else1 → tie.Start
+begun c = c .before .before .before
 
 mul-at : tie.Need-mul-at
 mul-at c = search needs
@@ -23,28 +27,28 @@ both-used-requires : tie.Need-both-used-requires
 both-used-requires c κs = search needs
 
 returns : tie.Need-returns
-returns c = says-true (λ x y. absurd (says-no (c .before .both-used .ensures) (c .if1 .taken) (x, y)))
+returns c = apart-says (c .before .both-used .ensures) (c .if1 .taken)
 
 both-shared-requires : tie.Need-both-shared-requires
 both-shared-requires c κs = search needs
 
 returns-2 : tie.Need-returns-2
 returns-2 c =
-    let a = c .before .before .before .before .before .args in
+    let used = c .before .before in
+    let b = now (begun used .args .t) in
     let shared = c .before .both-shared .ensures .holds (c .if2 .taken) in
-    says-true (λ x y m. (marked-shared (now (a .t)) (a .s) (shared .0), marked-shared (now (a .t)) (a .u) (shared .1)))
+    says-true (λ x y m. (marked-shared b _ (shared .0), marked-shared b _ (shared .1)))
 
 ios-meet-requires : tie.Need-ios-meet-requires
 ios-meet-requires c κs = search needs
 
 returns-3 : tie.Need-returns-3
 returns-3 c =
-    let a = c .before .before .before .before .before .before .args in
-    let b = now (a .t) in
-    let used = says-yes (c .before .before .before .before .both-used .ensures) (c .before .before .before .if1 .left) in
-    says-as (says-not (c .ios-meet .ensures)) (λ n x y m. absurd (n m))
-    (λ p m. let shared = p (used .0) (used .1) m in
-    c .before .before .both-shared .ensures .fails (c .before .if2 .left) (shared-marked b (a .s) (shared .0), shared-marked b (a .u) (shared .1)))
+    let used = c .before .before .before in
+    let b = now (begun used .args .t) in
+    let not-shared = c .before .before .both-shared .ensures .fails (c .before .if2 .left) in
+    company-says (used .before .both-used .ensures) (used .if1 .left)
+    (says-as (says-not (c .ios-meet .ensures)) (λ n m. absurd (n m)) (λ p m. not-shared (shared-marked b _ (p m .0), shared-marked b _ (p m .1))))
 
 pub io-pair-sound-spec : {M : Type 1} → statement M
 io-pair-sound-spec =

@@ -1,12 +1,23 @@
 -- `scan::irqs::irq_pair_sound` meets its contract: only grants that are there and have one level need go together.
 -- Assumes nothing.
-use mathlib.Core.Path.{sym, _∙_}
+use mathlib.Core.Path.{_≡_, sym, _∙_}
 use borrow.Author.Needs.{needs}
 use denote.Ref.{now}
-use Rattle.facts.proofs.Says.{says-true, says-as, says-yes, says-no}
-use Rattle.scan.proofs.Grants.{level-read, manner-read}
+use Rattle.facts.proofs.Says.{says-true, says-as}
+use Rattle.layout.specs.Reading.{irqIn}
+use Rattle.scan.proofs.Grants.{level-read, manners-read, apart-says, company-says}
 use Rattle.scan.proofs.irqs.irq_pair_sound.Statement.{statement}
 use Rattle.scan.proofs.irqs.irq_pair_sound.Tie as tie
+
+-- where the call began
+abbrev begun : tie.Else1 → tie.Start
+begun c = c .before .before .before
+
+level : (c : tie.After-byte) → let a = begun (c .before) .args in c .byte .result ≡ irqIn (now (a .t)) (a .s .0) .level
+level c = level-read _ _ (c .byte .ensures .0)
+
+other-level : (c : tie.After-byte2) → let a = begun (c .before .before) .args in c .byte2 .result ≡ irqIn (now (a .t)) (a .u .0) .level
+other-level c = level-read _ _ (c .byte2 .ensures .0)
 
 mul-at : tie.Need-mul-at
 mul-at c = search needs
@@ -24,7 +35,7 @@ both-used-requires : tie.Need-both-used-requires
 both-used-requires c κs = search needs
 
 returns : tie.Need-returns
-returns c = says-true (λ x y. absurd (says-no (c .before .both-used .ensures) (c .if1 .taken) (x, y)))
+returns c = apart-says (c .before .both-used .ensures) (c .if1 .taken)
 
 add-byte : tie.Need-add-byte
 add-byte c = search needs
@@ -40,44 +51,20 @@ byte-requires-2 c κs = search needs
 
 returns-2 : tie.Need-returns-2
 returns-2 c =
-    let a = c .before .before .before .before .before .before .args in
-    let b = now (a .t) in
-    says-true
-    (λ x y e. absurd (c .if2 .taken (c .before .before .byte .ensures .0 ∙ sym (level-read b (a .s)) ∙ e ∙ level-read b (a .u) ∙ sym (c .before .byte2 .ensures .0))))
+    let read = c .before in
+    says-true (λ x y e. absurd (c .if2 .taken (level (read .before) ∙ e ∙ sym (other-level read))))
 
-add-byte-3 : tie.Need-add-byte-3
-add-byte-3 c = search needs
-
-byte-requires-3 : tie.Need-byte-requires-3
-byte-requires-3 c κs = search needs
-
-manner-of-requires : tie.Need-manner-of-requires
-manner-of-requires c κs = search needs
-
-add-byte-4 : tie.Need-add-byte-4
-add-byte-4 c = search needs
-
-byte-requires-4 : tie.Need-byte-requires-4
-byte-requires-4 c κs = search needs
-
-manner-of-requires-2 : tie.Need-manner-of-requires-2
-manner-of-requires-2 c κs = search needs
-
-together-requires : tie.Need-together-requires
-together-requires c κs = search needs
+manners-share-requires : tie.Need-manners-share-requires
+manners-share-requires c κs = search needs
 
 returns-3 : tie.Need-returns-3
 returns-3 c =
-    let a = c .before .before .before .before .before .before .before .before .before .before .before .args in
-    let b = now (a .t) in
-    let used = says-yes (c .before .before .before .before .before .before .before .before .before .both-used .ensures) (c .before .before .before .before .before .before .before .before .if1 .left) in
-    let level = c .before .before .before .before .before .before .before .byte .ensures .0 in
-    let level2 = c .before .before .before .before .before .before .byte2 .ensures .0 in
-    let manner = manner-read b (a .s) (c .before .before .before .manner-of .ensures) (c .before .before .before .before .byte3 .ensures .0) in
-    let manner2 = manner-read b (a .u) (c .before .manner-of2 .ensures) (c .before .before .byte4 .ensures .0) in
-    says-as (rw (manner, manner2) at (c .together .ensures))
-    (λ t x y e. t)
-    (λ p. p (used .0) (used .1) (level-read b (a .s) ∙ sym level ∙ c .before .before .before .before .before .if2 .left ∙ level2 ∙ sym (level-read b (a .u))))
+    let same = c .before in
+    let used = same .before .before .before in
+    let a = begun used .args in
+    company-says (used .before .both-used .ensures) (used .if1 .left)
+    (says-as (manners-read (now (a .t)) (a .s .0) (a .u .0) (c .manners-share .ensures)) (λ t e. t)
+    (λ p. p (sym (level (same .before .before)) ∙ same .if2 .left ∙ other-level (same .before))))
 
 pub irq-pair-sound-spec : {M : Type 1} → statement M
 irq-pair-sound-spec =
@@ -94,11 +81,5 @@ irq-pair-sound-spec =
     add-byte-2
     byte-requires-2
     returns-2
-    add-byte-3
-    byte-requires-3
-    manner-of-requires
-    add-byte-4
-    byte-requires-4
-    manner-of-requires-2
-    together-requires
+    manners-share-requires
     returns-3)

@@ -1,4 +1,4 @@
--- `scan::ranges::range_sound` meets its contract: each test decides fields of the record.
+-- `scan::ranges::range_sound` meets its contract: each test decides a field of the record.
 -- Assumes nothing.
 use native.Mathlib.Omega.{arith}
 use borrow.Author.Needs.{needs}
@@ -21,6 +21,9 @@ add-long c = search needs
 
 long-requires : tie.Need-long-requires
 long-requires c κs = search needs
+
+end-before-requires : tie.Need-end-before-requires
+end-before-requires c κs = search needs
 
 returns : tie.Need-returns
 returns c = says-false (λ p. omega arith)
@@ -52,6 +55,7 @@ range-sound-spec =
     word-requires
     add-long
     long-requires
+    end-before-requires
     returns
     returns-2
     add-if3

@@ -1,0 +1,161 @@
+/*
+ * stack.c: the stack that a call takes
+ *
+ * Makes each call on a painted stack and looks how far down the paint is gone:
+ * on a fresh table, on full ones and on random ones, each also broken. Ends
+ * with status 1 if a call takes as much as card_services.h says it doesn't.
+ */
+#define _XOPEN_SOURCE 700
+
+#include <stdio.h>
+#include <stdlib.h>
+#include <string.h>
+#include <ucontext.h>
+
+#include "layout.h"
+#include "sets.h"
+
+enum { HEADER_SAYS_LESS_THAN = 400, RANDOM_TABLES = 100 };
+
+static uint8_t table[CS_TABLE_SIZE];
+static volatile uint32_t answered;
+
+/* ---- The calls ---- */
+
+static void nothing(void)
+{
+    answered = CS_SUCCESS;
+}
+
+static void fresh(void)
+{
+    answered = cs_fresh(table, sizeof table, CS_SOCKETS);
+}
+
+static void card_in(void)
+{
+    answered = cs_card_in(table, sizeof table, 0);
+}
+
+static void card_out(void)
+{
+    answered = cs_card_out(table, sizeof table, 0);
+}
+
+static void sharers(void)
+{
+    answered = cs_sharers(table, sizeof table, 0);
+}
+
+static void register_client(void)
+{
+    static uint8_t packet[CS_REGISTER_CLIENT_LENGTH] = {CS_IO_CLIENT};
+    answered = cs_call(table, sizeof table, CS_REGISTER_CLIENT, 0, packet, sizeof packet);
+}
+
+static void deregister_client(void)
+{
+    answered = cs_call(table, sizeof table, CS_DEREGISTER_CLIENT, 1, NULL, 0);
+}
+
+static void no_service(void)
+{
+    answered = cs_call(table, sizeof table, 0xFFFF, 0, NULL, 0);
+}
+
+static void (*const calls[])(void) = {card_in,         card_out,          sharers,
+                                      register_client, deregister_client, no_service};
+enum { CALLS = sizeof calls / sizeof *calls };
+
+static void plain_c(void)
+{
+    static struct model m;
+    answered = model_read(table, sizeof table, &m) ? CS_SUCCESS : CS_GENERAL_FAILURE;
+}
+
+/* ---- A call on a painted stack ---- */
+
+static uint8_t stack[1 << 15];
+static ucontext_t outside, inside;
+
+static size_t touched(void (*once)(void), const uint8_t *image, int paint)
+{
+    size_t clean = 0;
+    memcpy(table, image, sizeof table);
+    memset(stack, paint, sizeof stack);
+    getcontext(&inside);
+    inside.uc_stack.ss_sp = stack;
+    inside.uc_stack.ss_size = sizeof stack;
+    inside.uc_link = &outside;
+    makecontext(&inside, once, 0);
+    swapcontext(&outside, &inside);
+    while (clean < sizeof stack && stack[clean] == (uint8_t)paint)
+        clean++;
+    return sizeof stack - clean;
+}
+
+/* With two paints, as a call may write the bytes of one; beyond what calling
+   nothing takes. */
+static size_t stack_of(void (*once)(void), const uint8_t *image)
+{
+    size_t first = touched(once, image, 0xA5), second = touched(once, image, 0x3C);
+    size_t base = touched(nothing, image, 0xA5);
+    return (first > second ? first : second) - base;
+}
+
+/* ---- The tables ---- */
+
+static size_t largest;
+
+static void note(size_t taken)
+{
+    if (taken > largest)
+        largest = taken;
+}
+
+static void measure(const uint8_t *image, bool good)
+{
+    for (unsigned i = 0; i < CALLS; i++) {
+        size_t taken = stack_of(calls[i], image);
+        calls[i]();
+        if ((CS_CODE(answered) != CS_GENERAL_FAILURE) != good) {
+            fprintf(stderr, "stack: call %u: answered %08lX\n", i, (unsigned long)answered);
+            exit(2);
+        }
+        note(taken);
+    }
+    note(stack_of(fresh, image));
+}
+
+static void measure_set(const struct model *m)
+{
+    static uint8_t image[CS_TABLE_SIZE];
+    model_image(m, image);
+    measure(image, true);
+    image[CS_TABLE_SIZE - 1] = 1;
+    measure(image, false);
+}
+
+int main(void)
+{
+    static struct model m;
+    static uint8_t image[CS_TABLE_SIZE];
+    struct chance c = {1};
+    model_fresh(&m, CS_SOCKETS);
+    measure_set(&m);
+    for (unsigned i = 0; i < RANDOM_TABLES; i++) {
+        random_set(&c, &m);
+        measure_set(&m);
+    }
+    full_set(&m, CS_CLIENTS - 1);
+    measure_set(&m);
+    full_set(&m, CS_CLIENTS);
+    measure_set(&m);
+    model_image(&m, image);
+    printf("largest stack use of a call: %lu bytes\n", (unsigned long)largest);
+    printf("stack use of plain C:        %lu bytes\n", (unsigned long)stack_of(plain_c, image));
+    if (largest < HEADER_SAYS_LESS_THAN)
+        return 0;
+    printf("stack: card_services.h says less than %d bytes\n", HEADER_SAYS_LESS_THAN);
+    return 1;
+}

@@ -1,0 +1,25 @@
+-- How a call on an accepted table is served: refused, or done. Assumes nothing.
+use mathlib.Core.Path.{_≡_, refl}
+use mathlib.Core.List.{List}
+use Prim.Native.Nat.{ℕ}
+use Rattle.facts.specs.declared.Code.{Code}
+use Rattle.facts.specs.declared.Code.the-variants.{Success}
+use Rattle.facts.specs.Table.{Facts}
+use Rattle.facts.specs.Checks.{Kept, Leaves}
+use Rattle.layout.specs.Layout.{image}
+use Rattle.layout.specs.Sound.{Accepted}
+use Rattle.layout.specs.Served.{Served}
+
+-- what is kept and what is left is as said
+pub kept : (F : Facts) (p : List ℕ) (k : Code) → Kept F p (record { code = k; handle = 0; packet = p; facts = F })
+kept F p k = record { handle = refl; packet = refl; facts = refl }
+
+pub left : (h : ℕ) (p : List ℕ) (F : Facts) → Leaves h p F (record { code = Success; handle = h; packet = p; facts = F })
+left h p F = record { handle = refl; packet = refl; facts = refl }
+
+-- what is permitted leaves the facts as they are, and every byte stays; or it leaves others, whose image the bytes are
+pub stays : (R : Facts → Facts → Type 0) (b : List ℕ) (a : Accepted b) → R (a .facts) (a .facts) → Served R b b
+stays R b a r = record { accepted = a; after = a .facts; rule = r; table = a .is }
+
+pub becomes : (R : Facts → Facts → Type 0) (b b′ : List ℕ) (a : Accepted b) (G : Facts) → R (a .facts) G → image G ≡ b′ → Served R b b′
+becomes R b b′ a G r e = record { accepted = a; after = G; rule = r; table = e }

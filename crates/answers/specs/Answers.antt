@@ -1,0 +1,34 @@
+-- What an answer's cases say. Assumes nothing.
+use mathlib.Core.Path.{_≡_}
+use mathlib.Core.Logic.{_≢_}
+use mathlib.Core.List.{List}
+use Prim.Native.Nat.{ℕ, _≤_, _<_}
+use lib.ListN.{length}
+use Rattle.facts.specs.declared.Code.{Code}
+use Rattle.facts.specs.declared.Code.the-variants.{Success}
+use Rattle.layout.specs.Reading.{socketsIn}
+use Rattle.answers.specs.declared.Answer.{Answer}
+use Rattle.answers.specs.declared.Answer.the-variants.{Done, Refused}
+use Rattle.answers.specs.declared.Size.{Size}
+use Rattle.answers.specs.declared.Size.the-variants.{Right, Wrong}
+use Rattle.answers.specs.declared.Counted.{Counted}
+use Rattle.answers.specs.declared.Counted.the-variants.{Below, Past}
+
+-- "It answers a code and a handle."; "a refusal answers 0"
+abbrev pub codeOf : Answer → Code
+codeOf (Done h) = Success
+codeOf (Refused k) = k
+
+abbrev pub handleOf : Answer → ℕ
+handleOf (Done h) = h .0
+handleOf (Refused k) = 0
+
+-- there are n bytes, or not
+abbrev pub SizeIs : List ℕ → ℕ → Size → Type 0
+SizeIs p n Right = length p ≡ n
+SizeIs p n Wrong = length p ≢ n
+
+-- the number is that of a socket below the count, or not
+abbrev pub CountedIs : List ℕ → ℕ → Counted → Type 0
+CountedIs b n (Below s) = (s .0 ≡ n) × (n < socketsIn b)
+CountedIs b n Past = socketsIn b ≤ n

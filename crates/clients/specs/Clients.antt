@@ -1,0 +1,59 @@
+-- What the checks of RegisterClient and DeregisterClient answer, said of the bytes. Assumes nothing.
+use mathlib.Core.Path.{_≡_}
+use mathlib.Core.Logic.{_⊎_, _≢_}
+use mathlib.Core.List.{List}
+use Prim.Native.Nat.{ℕ, _+_, _≤_, _<_}
+use Rattle.facts.specs.Table
+use Rattle.facts.specs.Packets.{word}
+use Rattle.facts.specs.WellFormed.{AttributesAllowed, EventsAllowed}
+use Rattle.layout.specs.Reading.{clientsIn, issuedIn, maskPlace, ioPlace, irqPlace}
+use Rattle.clients.specs.declared.Asked.{Asked}
+use Rattle.clients.specs.declared.Asked.the-variants.{Good, Bad}
+use Rattle.clients.specs.declared.Room.{Room}
+use Rattle.clients.specs.declared.Room.the-variants.{Next, Full}
+use Rattle.clients.specs.declared.Held.{Held}
+use Rattle.clients.specs.declared.Held.the-variants.{Nothing, Something}
+
+-- the attributes and the event mask of a registration, or one of them is not allowed
+pub record Asks (p : List ℕ) (attributes events : ℕ) : Type 0 where
+  pub attributes-are : attributes ≡ word p 0
+  pub events-are : events ≡ word p 2
+  pub attributes-allowed : AttributesAllowed (word p 0)
+  pub events-allowed : EventsAllowed (word p 2)
+
+abbrev pub AsksFor : List ℕ → Asked → Type 0
+AsksFor p (Good attributes events) = Asks p attributes events
+AsksFor p Bad = (AttributesAllowed (word p 0) → ⊥) ⊎ (AttributesAllowed (word p 0) × (EventsAllowed (word p 2) → ⊥))
+
+-- the place and the handle of the next client, or there is no room
+pub record NextIs (b : List ℕ) (n h : ℕ) : Type 0 where
+  pub place : n ≡ clientsIn b
+  pub room : n < Table.mostClients
+  pub handle : h ≡ issuedIn b + 1
+  pub left : issuedIn b < Table.mostIssued
+
+abbrev pub RoomIs : List ℕ → Room → Type 0
+RoomIs b (Next n h) = NextIs b n (h .0)
+RoomIs b Full = (Table.mostClients ≤ clientsIn b) ⊎ (Table.mostIssued ≤ issuedIn b)
+
+-- a socket's grant is the client's whose handle is h
+abbrev pub GrantIn : List ℕ → ℕ → ℕ → Type 0
+GrantIn b h s = (word b (ioPlace s) ≡ h) ⊎ (word b (irqPlace s) ≡ h)
+
+abbrev pub GrantHeldIn : List ℕ → ℕ → Type 0
+GrantHeldIn b h = (s : ℕ) × (s < Table.mostSockets) × GrantIn b h s
+
+-- the client listed in the place i has a mask for the socket s
+abbrev pub MaskIn : List ℕ → ℕ → ℕ → Type 0
+MaskIn b i s = word b (maskPlace i s) ≢ 0
+
+abbrev pub MaskHeldIn : List ℕ → ℕ → Type 0
+MaskHeldIn b i = (s : ℕ) × (s < Table.mostSockets) × MaskIn b i s
+
+-- the client listed in the place i, whose handle is h, holds something
+abbrev pub HoldsSome : List ℕ → ℕ → ℕ → Type 0
+HoldsSome b i h = GrantHeldIn b h ⊎ MaskHeldIn b i
+
+abbrev pub HeldIs : List ℕ → ℕ → ℕ → Held → Type 0
+HeldIs b i h Something = HoldsSome b i h
+HeldIs b i h Nothing = HoldsSome b i h → ⊥

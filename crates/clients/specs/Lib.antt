@@ -1,0 +1,2 @@
+-- What the contracts of `clients` cite. Assumes nothing.
+pub mod Clients

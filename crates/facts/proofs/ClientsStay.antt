@@ -1,0 +1,166 @@
+-- RegisterClient, DeregisterClient, socket masks, card in and card out leave a well-formed set well formed. Assumes nothing.
+use mathlib.Core.Path.{_≡_, refl, sym, _∙_, subst}
+use mathlib.Core.Logic.{_⊎_, inl, inr, _≢_}
+use mathlib.Core.List.{List, [], _∷_}
+use mathlib.Core.Bool.{Bool, cond, true, false}
+use mathlib.Core.Option.{Option, none, some, Option·some-injective, Option·none-ne-some}
+use Prim.Native.Nat.{ℕ, _<_}
+use native.Mathlib.Decide.{decLt}
+use native.Mathlib.Omega.{arith}
+use lib.Dec.{eqb}
+use lib.ListN.{length, length-append}
+use Rattle.facts.specs.Table
+use Rattle.facts.specs.Table.{Facts, Client}
+use Rattle.facts.specs.Sets.{_∈_, put}
+use Rattle.facts.specs.Packets.{word}
+use Rattle.facts.specs.WellFormed.{WellFormed, ClientFits, Live, EventsAllowed}
+use Rattle.facts.specs.Checks.{Check, Outcome, Passed}
+use Rattle.facts.specs.Clients.{Register, Deregister, registerChecks, registered, newClient, withClients, withoutClient, HoldsIo, HoldsIrq}
+use Rattle.facts.specs.Clients.{HoldsMask}
+use Rattle.facts.specs.Sockets.{CardTo, CardOutcome, RequestSocketMask, ReleaseSocketMask, socketOf, requestChecks}
+use Rattle.facts.specs.Sockets.{ownMaskChecks, requestMaskLength, masking, withMask}
+use Rattle.facts.proofs.Sets.{in-left, in-either, in-map, map-in, length-map, without-in, in-without, without-fewer, put-all}
+use Rattle.facts.proofs.Sets.{rising-more, rising-without, rising-map}
+use Rattle.facts.proofs.Told.{told, live-told, attributes-told}
+use Rattle.facts.proofs.Formed.{live-in, client-fits, card-formed, clients-formed}
+
+-- clients are told apart by their handles
+abbrev number : Client → ℕ
+number c = c .handle
+
+-- what the first checks of a request on a socket tell where they pass
+module _ (n : ℕ) (F : Facts) (h : ℕ) (p : List ℕ) (own : List Check) where
+  pub live-passed : Passed (requestChecks n F h p own) → Live F h
+  live-passed passed = told (live-told F h) (passed .1 .0)
+
+  pub socket-passed : Passed (requestChecks n F h p own) → socketOf p < F .sockets
+  socket-passed passed = told (decLt (socketOf p) (F .sockets)) (λ d. passed .1 .1 .0 (inl (omega arith)))
+
+  pub request-passed : Passed (requestChecks n F h p own) → Passed own
+  request-passed passed = passed .1 .1 .1 .1
+
+module _ (F : Facts) (h : ℕ) (p : List ℕ) (o : Outcome) (w : WellFormed F) where
+  pub register-stays : Register F h p o → WellFormed (o .facts)
+  register-stays (inl r) = subst WellFormed (sym (r .1 .facts)) w
+  register-stays (inr r) =
+      subst WellFormed (sym (r .1 .1 .facts))
+      (clients-formed F w _ _ (omega (arith, left)) (omega (arith, room, length-append (F .clients) (new ∷ [])))
+      (rising-more 0 (F .clients) new (w .handles) (omega arith) (λ x m. omega (arith, w .clients x m .issued)))
+      (λ c m. fits c (in-either c (F .clients) (new ∷ []) m)) (λ s g e. lives (g .client) (w .ios s g e .client))
+      (λ s g e. lives (g .client) (w .irqs s g e .client)))
+    where
+      passed : Passed (registerChecks F p)
+      passed = r .0
+
+      room : length (F .clients) < Table.mostClients
+      room = told (decLt (length (F .clients)) Table.mostClients) (λ d. passed .1 .1 .1 .0 (inl (omega arith)))
+
+      left : F .issued < Table.mostIssued
+      left = told (decLt (F .issued) Table.mostIssued) (λ d. passed .1 .1 .1 .0 (inr (omega arith)))
+
+      G : Facts
+      G = registered F (word p 0) (word p 2)
+
+      new : Client
+      new = newClient F (word p 0) (word p 2)
+
+      lives : (k : ℕ) → Live F k → Live G k
+      lives k = live-in F G k (λ c m q. in-left c (F .clients) (new ∷ []) m)
+
+      fits : (c : Client) → (c ∈ F .clients) ⊎ (c ∈ (new ∷ [])) → ClientFits G c
+      fits c (inl m) = client-fits F G refl c (omega arith) (w .clients c m)
+      fits c (inr (inl e)) =
+          subst (ClientFits G) (sym e)
+          (record {
+            issued = omega arith;
+            attributes = told (attributes-told (word p 0)) (passed .1 .0);
+            events = told (decLt (word p 2) Table.allEvents) (passed .1 .1 .0);
+            mask = λ s m q. absurd (Option·none-ne-some m q);
+          })
+      fits c (inr (inr m)) = absurd m
+
+  pub deregister-stays : Deregister F h p o → WellFormed (o .facts)
+  deregister-stays (inl r) = subst WellFormed (sym (r .1 .facts)) w
+  deregister-stays (inr r) =
+      subst WellFormed (sym (r .1 .1 .facts))
+      (clients-formed F w _ _ (w .issued) (omega (arith, without-fewer number h (F .clients), w .clients-most))
+      (rising-without 0 h (F .clients) (w .handles))
+      (λ c m. client-fits F G refl c (omega arith) (w .clients c (without-in number h c (F .clients) m)))
+      (λ s g e. lives (g .client) (λ q. held (inl (record { socket = s; grant = g; live = e; holder = q }))) (w .ios s g e .client))
+      (λ s g e. lives (g .client) (λ q. held (inr (inl (record { socket = s; grant = g; live = e; holder = q })))) (w .irqs s g e .client)))
+    where
+      held : HoldsIo F h ⊎ HoldsIrq F h ⊎ HoldsMask F h → ⊥
+      held = r .0 .1 .1 .0
+
+      G : Facts
+      G = withClients F (withoutClient h (F .clients))
+
+      lives : (k : ℕ) → k ≢ h → Live F k → Live G k
+      lives k d = live-in F G k (λ c m e. in-without number h c (F .clients) m (λ q. d (sym e ∙ q)))
+
+-- another mask, or none, of the client h for the socket s
+module _ (F : Facts) (h s : ℕ) (m : Option ℕ) (w : WellFormed F) where
+  abbrev masked : Client → Client
+  masked c = cond (eqb (c .handle) h) (masking s m c) c
+
+  -- its cases
+  by-handle : (P : Client → Type 0) (c : Client) → P (masking s m c) → P c → P (masked c)
+  by-handle P c there other = go (eqb (c .handle) h)
+    where
+      go : (t : Bool) → P (cond t (masking s m c) c)
+      go true = there
+      go false = other
+
+  pub mask-formed : ((e : ℕ) → m ≡ some e → (s < F .sockets) × EventsAllowed e) → WellFormed (withClients F (withMask h s m (F .clients)))
+  mask-formed good =
+      clients-formed F w _ _ (w .issued) (omega (arith, length-map masked (F .clients), w .clients-most))
+      (rising-map masked same 0 (F .clients) (w .handles))
+      (λ c i. let x = map-in masked c (F .clients) i in subst (ClientFits G) (sym (x .2)) (fits (x .0) (x .1)))
+      (λ t g e. lives (w .ios t g e .client))
+      (λ t g e. lives (w .irqs t g e .client))
+    where
+      G : Facts
+      G = withClients F (withMask h s m (F .clients))
+
+      same : (c : Client) → masked c .handle ≡ c .handle
+      same c = by-handle (λ (x : Client). x .handle ≡ c .handle) c refl refl
+
+      lives : {k : ℕ} → Live F k → Live G k
+      lives l =
+          record { client = masked (l .client); listed = in-map masked (l .client) (F .clients) (l .listed); handle = same (l .client) ∙ l .handle }
+
+      fits : (c : Client) → c ∈ F .clients → ClientFits G (masked c)
+      fits c i =
+          let f = w .clients c i in
+          by-handle (ClientFits G) c
+          (record {
+            issued = f .issued;
+            attributes = f .attributes;
+            events = f .events;
+            mask =
+                put-all (λ (t : ℕ) (x : Option ℕ). (e : ℕ) → x ≡ some e → (t < F .sockets) × EventsAllowed e) (c .mask) s m good (λ t d. f .mask t);
+          })
+          (client-fits F G refl c (omega arith) f)
+
+module _ (F : Facts) (h : ℕ) (p : List ℕ) (o : Outcome) (w : WellFormed F) where
+  pub request-mask-stays : RequestSocketMask F h p o → WellFormed (o .facts)
+  request-mask-stays (inl r) = subst WellFormed (sym (r .1 .facts)) w
+  request-mask-stays (inr r) =
+      subst WellFormed (sym (r .1 .1 .facts))
+      (mask-formed F h (socketOf p) (some (word p 2)) w
+      (λ e q. (
+        socket-passed requestMaskLength F h p (ownMaskChecks F h p) (r .0),
+        subst EventsAllowed (Option·some-injective (word p 2) e q) allowed,
+      )))
+    where
+      allowed : EventsAllowed (word p 2)
+      allowed = told (decLt (word p 2) Table.allEvents) (request-passed requestMaskLength F h p (ownMaskChecks F h p) (r .0) .0)
+
+  pub release-mask-stays : ReleaseSocketMask F h p o → WellFormed (o .facts)
+  release-mask-stays (inl r) = subst WellFormed (sym (r .1 .facts)) w
+  release-mask-stays (inr r) = subst WellFormed (sym (r .1 .1 .facts)) (mask-formed F h (socketOf p) none w (λ e q. absurd (Option·none-ne-some e q)))
+
+pub card-stays : (present : Bool) (F : Facts) (s : ℕ) (o : CardOutcome) → WellFormed F → CardTo present F s o → WellFormed (o .facts)
+card-stays present F s o w (inl r) = subst WellFormed (sym (r .1)) w
+card-stays present F s o w (inr r) =
+    subst WellFormed (sym (r .1 .1)) (card-formed F w s present (told (decLt s (F .sockets)) (λ d. r .0 .0 (omega arith))))

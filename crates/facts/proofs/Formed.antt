@@ -1,0 +1,266 @@
+-- A well-formed set with other cards, clients, levels, ranges or grants is well formed, if what is new fits. Assumes nothing.
+use mathlib.Core.Path.{_≡_, refl, sym, subst}
+use mathlib.Core.Logic.{_≢_}
+use mathlib.Core.List.{List}
+use mathlib.Core.Bool.{Bool, true, false, false≢true}
+use mathlib.Core.Option.{Option, some, Option·none-ne-some}
+use Prim.Native.Nat.{ℕ, _+_, _≤_, _<_}
+use native.Mathlib.Omega.{arith}
+use lib.ListN.{length}
+use Rattle.facts.specs.Table
+use Rattle.facts.specs.Table.{Facts, Client, Level, Range, IoGrant, IrqGrant, fresh}
+use Rattle.facts.specs.Sets.{_∈_}
+use Rattle.facts.specs.Ports.{AllManaged}
+use Rattle.facts.specs.WellFormed.{WellFormed, ClientFits, IoFits, IrqFits, IoCompany, IrqCompany, Live, Rising, Apart}
+use Rattle.facts.specs.Sockets.{withCard}
+use Rattle.facts.specs.Resources.{withLevel, withRanges}
+use Rattle.facts.specs.Irq.{withIrq}
+use Rattle.facts.specs.Io.{withIo}
+use Rattle.facts.proofs.Company.{meet-symmetric, together-symmetric}
+use Rattle.facts.proofs.Sets.{put-all, put-pairs}
+
+pub fresh-formed : (n : ℕ) → 1 ≤ n → n ≤ Table.mostSockets → WellFormed (fresh n)
+fresh-formed n least most =
+    record {
+      sockets-least = least;
+      sockets-most = most;
+      cards = λ s e. absurd (false≢true e);
+      issued = omega arith;
+      clients-most = omega arith;
+      handles = tt;
+      clients = λ c m. absurd m;
+      levels = λ l e. absurd (false≢true e);
+      reserved = λ l e. e;
+      ranges-most = omega arith;
+      apart = tt;
+      ranges = λ r m. absurd m;
+      ios = λ s g e. absurd (Option·none-ne-some g e);
+      irqs = λ s g e. absurd (Option·none-ne-some g e);
+      io-company = λ s t g g′ d e e′. absurd (Option·none-ne-some g e);
+      irq-company = λ s t g g′ d e e′. absurd (Option·none-ne-some g e);
+    }
+
+-- what fits one set fits another with as many sockets, in which its client is live and its resource is managed
+module _ (F G : Facts) where
+  pub live-in : (h : ℕ) → ((c : Client) → c ∈ F .clients → c .handle ≡ h → c ∈ G .clients) → Live F h → Live G h
+  live-in h f l = record { client = l .client; listed = f (l .client) (l .listed) (l .handle); handle = l .handle }
+
+  pub managed-in : ((r : Range) → r ∈ F .ranges → r ∈ G .ranges) → (base count : ℕ) → AllManaged F base count → AllManaged G base count
+  managed-in f base count a p w = let m = a p w in record { range = m .range; listed = f (m .range) (m .listed); has = m .has }
+
+  module _ (sockets : G .sockets ≡ F .sockets) where
+    pub io-fits : (s : ℕ) (g : IoGrant) → Live G (g .client) → AllManaged G (g .ports .base) (g .ports .count) → IoFits F s g → IoFits G s g
+    io-fits s g live managed f =
+        record {
+          client = live;
+          socket = omega (arith, sockets, f .socket);
+          base = f .base;
+          line = f .line;
+          lines = f .lines;
+          port = f .port;
+          asked = f .asked;
+          decoded = f .decoded;
+          managed = managed;
+        }
+
+    pub irq-fits : (s : ℕ) (g : IrqGrant) → Live G (g .client) → G .level (g .level) .managed ≡ true → IrqFits F s g → IrqFits G s g
+    irq-fits s g live managed f = record { client = live; socket = omega (arith, sockets, f .socket); managed = managed }
+
+    pub client-fits : (c : Client) → F .issued ≤ G .issued → ClientFits F c → ClientFits G c
+    client-fits c more f =
+        record {
+          issued = omega (arith, more, f .issued);
+          attributes = f .attributes;
+          events = f .events;
+          mask = λ s m e. let x = f .mask s m e in (omega (arith, sockets, x .0), x .1);
+        }
+
+-- the company that two grants keep doesn't depend on their order
+io-turned : (a b : IoGrant) → IoCompany a b → IoCompany b a
+io-turned a b c m = let s = c (meet-symmetric (b .ports) (a .ports) m) in (s .1, s .0)
+
+irq-turned : (a b : IrqGrant) → IrqCompany a b → IrqCompany b a
+irq-turned a b c e = together-symmetric (a .manner) (b .manner) (c (sym e))
+
+-- other clients, and so many handles issued
+abbrev pub listing : Facts → ℕ → List Client → Facts
+listing F n cs =
+    record { sockets = F .sockets; card = F .card; issued = n; clients = cs; level = F .level; ranges = F .ranges; io = F .io; irq = F .irq }
+
+module _ (F : Facts) (w : WellFormed F) where
+  pub card-formed : (s : ℕ) (v : Bool) → s < F .sockets → WellFormed (withCard F s v)
+  card-formed s v l =
+      record {
+        sockets-least = w .sockets-least;
+        sockets-most = w .sockets-most;
+        cards = put-all (λ (t : ℕ) (x : Bool). x ≡ true → t < F .sockets) (F .card) s v (λ e. l) (λ t d. w .cards t);
+        issued = w .issued;
+        clients-most = w .clients-most;
+        handles = w .handles;
+        clients = λ c m. client-fits F G refl c (omega arith) (w .clients c m);
+        levels = w .levels;
+        reserved = w .reserved;
+        ranges-most = w .ranges-most;
+        apart = w .apart;
+        ranges = w .ranges;
+        ios = λ t g e. let f = w .ios t g e in
+            io-fits F G refl t g (live-in F G (g .client) (λ c m q. m) (f .client)) (managed-in F G (λ r m. m) _ _ (f .managed)) f;
+        irqs = λ t g e. let f = w .irqs t g e in irq-fits F G refl t g (live-in F G (g .client) (λ c m q. m) (f .client)) (f .managed) f;
+        io-company = w .io-company;
+        irq-company = w .irq-company;
+      }
+    where
+      G : Facts
+      G = withCard F s v
+
+  module _ (n : ℕ) (cs : List Client) where
+    pub clients-formed : n ≤ Table.mostIssued → length cs ≤ Table.mostClients → Rising 0 cs → ((c : Client) → c ∈ cs → ClientFits (listing F n cs) c)
+        → ((s : ℕ) (g : IoGrant) → F .io s ≡ some g → Live (listing F n cs) (g .client))
+        → ((s : ℕ) (g : IrqGrant) → F .irq s ≡ some g → Live (listing F n cs) (g .client))
+        → WellFormed (listing F n cs)
+    clients-formed issued most rising fit io-live irq-live =
+        record {
+          sockets-least = w .sockets-least;
+          sockets-most = w .sockets-most;
+          cards = w .cards;
+          issued = issued;
+          clients-most = most;
+          handles = rising;
+          clients = fit;
+          levels = w .levels;
+          reserved = w .reserved;
+          ranges-most = w .ranges-most;
+          apart = w .apart;
+          ranges = w .ranges;
+          ios = λ t g e. let f = w .ios t g e in io-fits F G refl t g (io-live t g e) (managed-in F G (λ r m. m) _ _ (f .managed)) f;
+          irqs = λ t g e. let f = w .irqs t g e in irq-fits F G refl t g (irq-live t g e) (f .managed) f;
+          io-company = w .io-company;
+          irq-company = w .irq-company;
+        }
+      where
+        G : Facts
+        G = listing F n cs
+
+  -- another level: below the last, reserved only if it is managed, and managed if a grant holds it
+  pub level-formed : (l : ℕ) (v : Level) → l < Table.allLevels → (v .reserved ≡ true → v .managed ≡ true)
+      → ((s : ℕ) (g : IrqGrant) → F .irq s ≡ some g → g .level ≡ l → v .managed ≡ true)
+      → WellFormed (withLevel F l v)
+  level-formed l v below reserved held =
+      record {
+        sockets-least = w .sockets-least;
+        sockets-most = w .sockets-most;
+        cards = w .cards;
+        issued = w .issued;
+        clients-most = w .clients-most;
+        handles = w .handles;
+        clients = λ c m. client-fits F G refl c (omega arith) (w .clients c m);
+        levels = put-all (λ (k : ℕ) (x : Level). x .managed ≡ true → k < Table.allLevels) (F .level) l v (λ e. below) (λ k d. w .levels k);
+        reserved = put-all (λ (k : ℕ) (x : Level). x .reserved ≡ true → x .managed ≡ true) (F .level) l v reserved (λ k d. w .reserved k);
+        ranges-most = w .ranges-most;
+        apart = w .apart;
+        ranges = w .ranges;
+        ios = λ t g e. let f = w .ios t g e in
+            io-fits F G refl t g (live-in F G (g .client) (λ c m q. m) (f .client)) (managed-in F G (λ r m. m) _ _ (f .managed)) f;
+        irqs = λ t g e. let f = w .irqs t g e in
+            irq-fits F G refl t g (live-in F G (g .client) (λ c m q. m) (f .client)) (managed t g e (f .managed)) f;
+        io-company = w .io-company;
+        irq-company = w .irq-company;
+      }
+    where
+      G : Facts
+      G = withLevel F l v
+
+      managed : (t : ℕ) (g : IrqGrant) → F .irq t ≡ some g → F .level (g .level) .managed ≡ true → G .level (g .level) .managed ≡ true
+      managed t g e m =
+          put-all (λ (k : ℕ) (x : Level). g .level ≡ k → x .managed ≡ true) (F .level) l v (held t g e)
+          (λ k d q. subst (λ (i : ℕ). F .level i .managed ≡ true) q m) (g .level) refl
+
+  -- other ranges: in order, none past FFFF, and every granted port is still managed
+  pub ranges-formed : (rs : List Range) → length rs ≤ Table.mostRanges → Apart 0 rs → ((r : Range) → r ∈ rs → r .base + r .count ≤ Table.allPorts)
+      → ((s : ℕ) (g : IoGrant) → F .io s ≡ some g → AllManaged (withRanges F rs) (g .ports .base) (g .ports .count))
+      → WellFormed (withRanges F rs)
+  ranges-formed rs most apart within managed =
+      record {
+        sockets-least = w .sockets-least;
+        sockets-most = w .sockets-most;
+        cards = w .cards;
+        issued = w .issued;
+        clients-most = w .clients-most;
+        handles = w .handles;
+        clients = λ c m. client-fits F G refl c (omega arith) (w .clients c m);
+        levels = w .levels;
+        reserved = w .reserved;
+        ranges-most = most;
+        apart = apart;
+        ranges = within;
+        ios = λ t g e. let f = w .ios t g e in io-fits F G refl t g (live-in F G (g .client) (λ c m q. m) (f .client)) (managed t g e) f;
+        irqs = λ t g e. let f = w .irqs t g e in irq-fits F G refl t g (live-in F G (g .client) (λ c m q. m) (f .client)) (f .managed) f;
+        io-company = w .io-company;
+        irq-company = w .irq-company;
+      }
+    where
+      G : Facts
+      G = withRanges F rs
+
+  -- another I/O grant on a socket, or none: it fits, and keeps company with those on other sockets
+  pub io-formed : (s : ℕ) (o : Option IoGrant) → ((g : IoGrant) → o ≡ some g → IoFits F s g)
+      → ((t : ℕ) (g g′ : IoGrant) → t ≢ s → o ≡ some g → F .io t ≡ some g′ → IoCompany g g′)
+      → WellFormed (withIo F s o)
+  io-formed s o fits company =
+      record {
+        sockets-least = w .sockets-least;
+        sockets-most = w .sockets-most;
+        cards = w .cards;
+        issued = w .issued;
+        clients-most = w .clients-most;
+        handles = w .handles;
+        clients = λ c m. client-fits F G refl c (omega arith) (w .clients c m);
+        levels = w .levels;
+        reserved = w .reserved;
+        ranges-most = w .ranges-most;
+        apart = w .apart;
+        ranges = w .ranges;
+        ios = put-all (λ (t : ℕ) (x : Option IoGrant). (g : IoGrant) → x ≡ some g → IoFits G t g) (F .io) s o (λ g e. again s g (fits g e))
+            (λ t d g e. again t g (w .ios t g e));
+        irqs = λ t g e. let f = w .irqs t g e in irq-fits F G refl t g (live-in F G (g .client) (λ c m q. m) (f .client)) (f .managed) f;
+        io-company = put-pairs IoCompany io-turned (F .io) s o (w .io-company) company;
+        irq-company = w .irq-company;
+      }
+    where
+      G : Facts
+      G = withIo F s o
+
+      again : (t : ℕ) (g : IoGrant) → IoFits F t g → IoFits G t g
+      again t g f = io-fits F G refl t g (live-in F G (g .client) (λ c m q. m) (f .client)) (managed-in F G (λ r m. m) _ _ (f .managed)) f
+
+  -- the same for an IRQ grant
+  pub irq-formed : (s : ℕ) (o : Option IrqGrant) → ((g : IrqGrant) → o ≡ some g → IrqFits F s g)
+      → ((t : ℕ) (g g′ : IrqGrant) → t ≢ s → o ≡ some g → F .irq t ≡ some g′ → IrqCompany g g′)
+      → WellFormed (withIrq F s o)
+  irq-formed s o fits company =
+      record {
+        sockets-least = w .sockets-least;
+        sockets-most = w .sockets-most;
+        cards = w .cards;
+        issued = w .issued;
+        clients-most = w .clients-most;
+        handles = w .handles;
+        clients = λ c m. client-fits F G refl c (omega arith) (w .clients c m);
+        levels = w .levels;
+        reserved = w .reserved;
+        ranges-most = w .ranges-most;
+        apart = w .apart;
+        ranges = w .ranges;
+        ios = λ t g e. let f = w .ios t g e in
+            io-fits F G refl t g (live-in F G (g .client) (λ c m q. m) (f .client)) (managed-in F G (λ r m. m) _ _ (f .managed)) f;
+        irqs = put-all (λ (t : ℕ) (x : Option IrqGrant). (g : IrqGrant) → x ≡ some g → IrqFits G t g) (F .irq) s o (λ g e. again s g (fits g e))
+            (λ t d g e. again t g (w .irqs t g e));
+        io-company = w .io-company;
+        irq-company = put-pairs IrqCompany irq-turned (F .irq) s o (w .irq-company) company;
+      }
+    where
+      G : Facts
+      G = withIrq F s o
+
+      again : (t : ℕ) (g : IrqGrant) → IrqFits F t g → IrqFits G t g
+      again t g f = irq-fits F G refl t g (live-in F G (g .client) (λ c m q. m) (f .client)) (f .managed) f

@@ -1,0 +1,131 @@
+-- RequestIRQ, ReleaseIRQ, RequestIO and ReleaseIO leave a well-formed set well formed. Assumes nothing.
+use mathlib.Core.Path.{_≡_, sym, subst}
+use mathlib.Core.Logic.{inl, inr, ⊎-elim}
+use mathlib.Core.List.{List}
+use mathlib.Core.Option.{none, some, Option·some-injective, Option·none-ne-some}
+use Prim.Native.Nat.{ℕ, _^_, _≤_}
+use native.Mathlib.Decide.{ℕ-discrete, decLe}
+use native.Mathlib.Omega.{arith}
+use borrow.Author.Tests.{eq-eqb}
+use Rattle.facts.specs.Table
+use Rattle.facts.specs.Table.{Facts, IoGrant, IrqGrant}
+use Rattle.facts.specs.Packets.{bit, Bytes}
+use Rattle.facts.specs.Ports.{Meet, AllManaged}
+use Rattle.facts.specs.WellFormed.{WellFormed, IoFits, IrqFits, IoCompany, IrqCompany}
+use Rattle.facts.specs.Levels.{Holds}
+use Rattle.facts.specs.Checks.{Outcome, Passed}
+use Rattle.facts.specs.Sockets.{socketOf, requestChecks}
+use Rattle.facts.specs.Irq.{RequestIrq, ReleaseIrq, GrantsIrq, ownIrqChecks, levelChecks, irqGrant, mannerAsked, requestIrqLength}
+use Rattle.facts.specs.Io.{RequestIo, ReleaseIo, GrantsIo, BaseTaken, ownIoChecks, baseChecks, ioGrant, portsAt, requestIoLength}
+use Rattle.facts.specs.Io.{baseAsked, countAsked, linesAsked, ioAttributes}
+use Rattle.facts.proofs.Company.{together-symmetric}
+use Rattle.facts.proofs.Told.{told, both-told, true-told, all-managed-told}
+use Rattle.facts.proofs.Formed.{io-formed, irq-formed}
+use Rattle.facts.proofs.ClientsStay.{live-passed, socket-passed, request-passed}
+
+module _ (F : Facts) (h : ℕ) (p : List ℕ) (o : Outcome) (w : WellFormed F) where
+  pub request-irq-stays : RequestIrq F h p o → WellFormed (o .facts)
+  request-irq-stays (inl r) = subst WellFormed (sym (r .1 .facts)) w
+  request-irq-stays (inr r) =
+      subst WellFormed (sym (granted .leaves .facts))
+      (irq-formed F w (socketOf p) (some new) (λ g e. subst (IrqFits F (socketOf p)) (Option·some-injective new g e) fits)
+      (λ t g g′ d e e′. subst (λ (x : IrqGrant). IrqCompany x g′) (Option·some-injective new g e) (company t g′ e′)))
+    where
+      granted : GrantsIrq F h p o
+      granted = r .1 .1
+
+      passed : Passed (requestChecks requestIrqLength F h p (ownIrqChecks F p (levelChecks F p)))
+      passed = r .0
+
+      new : IrqGrant
+      new = irqGrant h p (granted .level)
+
+      fits : IrqFits F (socketOf p) new
+      fits =
+          record {
+            client = live-passed requestIrqLength F h p (ownIrqChecks F p (levelChecks F p)) passed;
+            socket = socket-passed requestIrqLength F h p (ownIrqChecks F p (levelChecks F p)) passed;
+            managed = granted .taken .fits .managed;
+          }
+
+      -- the level has no grant, or all its grants go together with this manner
+      company : (t : ℕ) (g : IrqGrant) → F .irq t ≡ some g → IrqCompany new g
+      company t g e q =
+          let holds : Holds F (granted .level) t g = record { live = e; at = sym q } in
+          ⊎-elim (λ free. absurd (free t g holds)) (λ all. together-symmetric (g .manner) (mannerAsked p) (all .1 t g holds))
+          (granted .taken .fits .free)
+
+  pub release-irq-stays : ReleaseIrq F h p o → WellFormed (o .facts)
+  release-irq-stays (inl r) = subst WellFormed (sym (r .1 .facts)) w
+  release-irq-stays (inr r) =
+      subst WellFormed (sym (r .1 .1 .facts))
+      (irq-formed F w (socketOf p) none (λ g e. absurd (Option·none-ne-some g e)) (λ t g g′ d e. absurd (Option·none-ne-some g e)))
+
+  pub request-io-stays : Bytes p → RequestIo F h p o → WellFormed (o .facts)
+  request-io-stays bytes (inl r) = subst WellFormed (sym (r .1 .facts)) w
+  request-io-stays bytes (inr r) =
+      subst WellFormed (sym (granted .leaves .facts))
+      (io-formed F w (socketOf p) (some new) (λ g e. subst (IoFits F (socketOf p)) (Option·some-injective new g e) fits)
+      (λ t g g′ d e e′. subst (λ (x : IoGrant). IoCompany x g′) (Option·some-injective new g e) (company (granted .taken) t g′ e′)))
+    where
+      granted : GrantsIo F h p o
+      granted = r .1 .1
+
+      base : ℕ
+      base = granted .base
+
+      new : IoGrant
+      new = ioGrant h p base
+
+      passed : Passed (requestChecks requestIoLength F h p (ownIoChecks F p (baseChecks F p)))
+      passed = r .0
+
+      own : Passed (ownIoChecks F p (baseChecks F p))
+      own = request-passed requestIoLength F h p (ownIoChecks F p (baseChecks F p)) passed
+
+      -- the base and its ports: the one named, or a candidate
+      positive : BaseTaken F p base → 1 ≤ base
+      positive (inl named) = omega (arith, named .0, named .1)
+      positive (inr chosen) = chosen .1 .fits .positive
+
+      all-managed : BaseTaken F p base → AllManaged F base (countAsked p)
+      all-managed (inl named) =
+          subst (λ (b : ℕ). AllManaged F b (countAsked p)) (sym (named .1))
+          (told (all-managed-told F (baseAsked p) (countAsked p)) (λ d. own .1 .1 .1 .0 (named .0, inr d)))
+      all-managed (inr chosen) = chosen .1 .fits .managed
+
+      fits : IoFits F (socketOf p) new
+      fits =
+          record {
+            client = live-passed requestIoLength F h p (ownIoChecks F p (baseChecks F p)) passed;
+            socket = socket-passed requestIoLength F h p (ownIoChecks F p (baseChecks F p)) passed;
+            base = positive (granted .taken);
+            line = told (decLe 1 (linesAsked p)) (λ d. own .0 (inr (inr (inl (omega arith)))));
+            lines = told (decLe (linesAsked p) Table.mostLines) (λ d. own .0 (inr (inr (inr (omega arith)))));
+            port = told (decLe 1 (countAsked p)) (λ d. own .1 .0 (inl (omega arith)));
+            asked = omega (arith, bytes 4);
+            decoded = told (decLe (countAsked p) (2 ^ linesAsked p)) (λ d. own .1 .0 (inr (inl (omega arith))));
+            managed = all-managed (granted .taken);
+          }
+
+      -- a base named meets a live grant only if both share; a candidate meets none
+      company : BaseTaken F p base → (t : ℕ) (g : IoGrant) → F .io t ≡ some g → IoCompany new g
+      company (inl named) t g e m =
+          let both = told (both-told (ℕ-discrete (bit (ioAttributes p) 0) 1) (true-told (g .shared))) (λ d. own .1 .1 .1 .1 .0 (
+            named .0,
+            record {
+              socket = t;
+              grant = g;
+              live = e;
+              meets = subst (λ (b : ℕ). Meet (portsAt p b) (g .ports)) (named .1) m;
+              unshared = inr d;
+            },
+          )) in
+          (eq-eqb (bit (ioAttributes p) 0) 1 (both .0), both .1)
+      company (inr chosen) t g e m = absurd (chosen .1 .fits .meets-none t g e m)
+
+  pub release-io-stays : ReleaseIo F h p o → WellFormed (o .facts)
+  release-io-stays (inl r) = subst WellFormed (sym (r .1 .facts)) w
+  release-io-stays (inr r) =
+      subst WellFormed (sym (r .1 .1 .facts))
+      (io-formed F w (socketOf p) none (λ g e. absurd (Option·none-ne-some g e)) (λ t g g′ d e. absurd (Option·none-ne-some g e)))

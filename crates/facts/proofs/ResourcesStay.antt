@@ -1,0 +1,190 @@
+-- AdjustResourceInfo and the boot list leave a well-formed set well formed. Assumes nothing.
+use mathlib.Core.Path.{_≡_, refl, ap, sym, _∙_, subst}
+use mathlib.Core.Logic.{_⊎_, inl, inr, ⊎-elim, _≢_}
+use mathlib.Core.List.{List, [], _∷_}
+use mathlib.Core.Bool.{Bool, cond, true, false}
+use mathlib.Core.Option.{some}
+use Prim.Native.Nat.{ℕ, suc, _+_, _≤_, _<_}
+use native.Mathlib.Decide.{decLe, decLt}
+use native.Mathlib.Omega.{arith}
+use lib.Dec.{eqb, ltb}
+use lib.ListN.{length}
+use borrow.Author.Tests.{ltb-true, ltb-false}
+use Rattle.facts.specs.Table
+use Rattle.facts.specs.Table.{Facts, Range, IoGrant}
+use Rattle.facts.specs.Sets.{_∈_}
+use Rattle.facts.specs.Packets.{byte, long}
+use Rattle.facts.specs.Ports.{Within, Has, Managed}
+use Rattle.facts.specs.WellFormed.{WellFormed, Apart}
+use Rattle.facts.specs.Checks.{Outcome, Passed}
+use Rattle.facts.specs.Resources.{AdjustResourceInfo, AdjustIrq, AdjustIo, Width, inserted, withoutRange, ioRange}
+use Rattle.facts.specs.Resources.{addLevelChecks, removeLevelChecks, addRangeChecks, removeRangeChecks, levelAdded, levelRemoved, rangeAdded}
+use Rattle.facts.specs.Resources.{rangeRemoved, reserveBit}
+use Rattle.facts.specs.Resources.{levelGiven, levelAttributes, baseGiven, countGiven, attributesGiven, linesGiven}
+use Rattle.facts.specs.Boot.{Boot, Booted, done, broken, refused, added, recordAdded, recordChecks}
+use Rattle.facts.proofs.Sets.{without-in, in-without, without-fewer, apart-without}
+use Rattle.facts.proofs.Unique.{range-unique}
+use Rattle.facts.proofs.Told.{told}
+use Rattle.facts.proofs.Formed.{managed-in, level-formed, ranges-formed}
+
+-- levels
+module _ (F : Facts) (w : WellFormed F) (l attributes : ℕ) where
+  pub level-added-formed : Passed (addLevelChecks F l attributes) → WellFormed (levelAdded F l attributes)
+  level-added-formed passed =
+      level-formed F w l _ (told (decLt l Table.allLevels) (λ d. passed .1 .0 (omega arith))) (λ e. refl) (λ s g e q. refl)
+
+  pub level-removed-formed : Passed (removeLevelChecks F l attributes) → WellFormed (levelRemoved F l)
+  level-removed-formed passed =
+      level-formed F w l _ (told (decLt l Table.allLevels) (λ d. passed .1 .0 (omega arith))) (λ e. e)
+      (λ s g e q. absurd (passed .1 .1 .1 .0 (record { socket = s; grant = g; holds = record { live = e; at = q } })))
+
+-- ranges: one put in its place
+inserted-cases : (P : List Range → Type 0) (r x : Range) (xs : List Range) → (r .base < x .base → P (r ∷ x ∷ xs))
+    → (x .base ≤ r .base → P (x ∷ inserted r xs))
+    → P (inserted r (x ∷ xs))
+inserted-cases P r x xs before after = go (ltb (r .base) (x .base)) (ltb-true (r .base) (x .base)) (ltb-false (r .base) (x .base))
+  where
+    go : (t : Bool) → (t ≡ true → r .base < x .base) → (t ≡ false → x .base ≤ r .base) → P (cond t (r ∷ x ∷ xs) (x ∷ inserted r xs))
+    go true f g = before (f refl)
+    go false f g = after (g refl)
+
+inserted-more : (r : Range) (xs : List Range) → length (inserted r xs) ≡ suc (length xs)
+inserted-more r [] = refl
+inserted-more r (x ∷ xs) = inserted-cases (λ (l : List Range). length l ≡ suc (suc (length xs))) r x xs (λ b. refl) (λ b. ap suc (inserted-more r xs))
+
+inserted-in : (r y : Range) (xs : List Range) → y ∈ inserted r xs → (y ≡ r) ⊎ (y ∈ xs)
+inserted-in r y [] m = m
+inserted-in r y (x ∷ xs) m =
+    inserted-cases (λ (l : List Range). y ∈ l → (y ≡ r) ⊎ (y ∈ (x ∷ xs))) r x xs (λ b k. k)
+    (λ b. ⊎-elim (λ e. inr (inl e)) (λ k. ⊎-elim inl (λ n. inr (inr n)) (inserted-in r y xs k))) m
+
+in-inserted : (r y : Range) (xs : List Range) → y ∈ xs → y ∈ inserted r xs
+in-inserted r y [] m = absurd m
+in-inserted r y (x ∷ xs) m =
+    inserted-cases (λ (l : List Range). y ∈ l) r x xs (λ b. inr m) (λ b. ⊎-elim inl (λ k. inr (in-inserted r y xs k)) m)
+
+-- ranges that have no port of another
+abbrev Clear : Range → List Range → Type 0
+Clear r xs = (x : Range) → x ∈ xs → (p : ℕ) → Has r p → Has x p → ⊥
+
+apart-inserted : (r : Range) (lo : ℕ) (xs : List Range) → lo ≤ r .base → 1 ≤ r .count → Clear r xs → Apart lo xs → Apart lo (inserted r xs)
+apart-inserted r lo [] l c clear a = (l, c, tt)
+apart-inserted r lo (x ∷ xs) l c clear a =
+    inserted-cases (Apart lo) r x xs (λ b. (l, c, (before b, a .1, a .2)))
+    (λ b. (a .0, a .1, apart-inserted r (x .base + x .count) xs (after b) c (λ y m. clear y (inr m)) (a .2)))
+  where
+    before : r .base < x .base → r .base + r .count ≤ x .base
+    before b =
+        told (decLe (r .base + r .count) (x .base))
+        (λ d. clear x (inl refl) (x .base) (record { from = omega arith; below = omega arith })
+        (record { from = omega arith; below = omega (arith, a .1) }))
+
+    after : x .base ≤ r .base → x .base + x .count ≤ r .base
+    after b =
+        told (decLe (x .base + x .count) (r .base))
+        (λ d. clear x (inl refl) (r .base) (record { from = omega arith; below = omega arith }) (record { from = omega arith; below = omega arith }))
+
+module _ (F : Facts) (w : WellFormed F) (base count attributes lines : ℕ) where
+  pub range-added-formed : Passed (addRangeChecks F base count attributes lines) → WellFormed (rangeAdded F base count attributes)
+  range-added-formed passed =
+      ranges-formed F w (inserted new (F .ranges)) (omega (arith, room, inserted-more new (F .ranges)))
+      (apart-inserted new 0 (F .ranges) (omega arith) port clear (w .apart))
+      (λ r m. ⊎-elim (λ e. subst (λ (x : Range). x .base + x .count ≤ Table.allPorts) (sym e) within) (w .ranges r) (inserted-in new r (F .ranges) m))
+      (λ s g e. managed-in F _ (λ r m. in-inserted new r (F .ranges) m) _ _ (w .ios s g e .managed))
+    where
+      new : Range
+      new = record { base = base; count = count; reserved = eqb attributes reserveBit }
+
+      port : 1 ≤ count
+      port = told (decLe 1 count) (λ d. passed .1 .0 (inl (omega arith)))
+
+      within : base + count ≤ Table.allPorts
+      within = told (decLe (base + count) Table.allPorts) (λ d. passed .1 .1 .0 (omega arith))
+
+      room : length (F .ranges) < Table.mostRanges
+      room = told (decLt (length (F .ranges)) Table.mostRanges) (λ d. passed .1 .1 .1 .1 .0 (omega arith))
+
+      clear : Clear new (F .ranges)
+      clear x m p here there = passed .1 .1 .1 .0 (p, here, record { range = x; listed = m; has = there })
+
+  pub range-removed-formed : Passed (removeRangeChecks F base count attributes lines) → WellFormed (rangeRemoved F base)
+  range-removed-formed passed =
+      ranges-formed F w (withoutRange base (F .ranges)) (omega (arith, without-fewer at base (F .ranges), w .ranges-most))
+      (apart-without 0 base (F .ranges) (w .apart)) (λ r m. w .ranges r (without-in at base r (F .ranges) m))
+      (λ s g e p h. let m = w .ios s g e .managed p h in
+      record { range = m .range; listed = in-without at base (m .range) (F .ranges) (m .listed) (stays s g e p h m); has = m .has })
+    where
+      at : Range → ℕ
+      at r = r .base
+
+      -- a range that a grant holds a port of isn't the one removed
+      stays : (s : ℕ) (g : IoGrant) → F .io s ≡ some g → (p : ℕ) → Within p (g .ports .base) (g .ports .count) → (m : Managed F p)
+          → m .range .base ≢ base
+      stays s g e p h m q =
+          passed .1 .1 .1 .0
+          (λ r just. passed .1 .1 .1 .1 .0 (
+            r,
+            just,
+            record {
+              client = g .client;
+              shares = g .shared;
+              holder =
+                  record {
+                    socket = s;
+                    grant = g;
+                    live = e;
+                    overlap =
+                        record {
+                          port = p;
+                          one = h;
+                          other =
+                              subst (λ (x : Range). Has x p)
+                              (range-unique 0 (F .ranges) (m .range) r (w .apart) (m .listed) (just .0) (q ∙ sym (just .1)))
+                              (m .has);
+                        };
+                    client = refl;
+                    shared = refl;
+                  };
+            },
+          ))
+
+module _ (F : Facts) (h : ℕ) (p : List ℕ) (o : Outcome) (w : WellFormed F) where
+  adjust-irq-stays : AdjustIrq F h p o → WellFormed (o .facts)
+  adjust-irq-stays (inl (e, inl r)) = subst WellFormed (sym (r .1 .facts)) w
+  adjust-irq-stays (inl (e, inr r)) = subst WellFormed (sym (r .1 .1 .facts)) (level-added-formed F w (levelGiven p) (levelAttributes p) (r .0))
+  adjust-irq-stays (inr (inl (e, inl r))) = subst WellFormed (sym (r .1 .facts)) w
+  adjust-irq-stays (inr (inl (e, inr r))) =
+      subst WellFormed (sym (r .1 .1 .facts)) (level-removed-formed F w (levelGiven p) (levelAttributes p) (r .0))
+  adjust-irq-stays (inr (inr (e, inl r))) = subst WellFormed (sym (r .1 .facts)) w
+  adjust-irq-stays (inr (inr (e, inr r))) = subst WellFormed (sym (r .1 .1 .leaves .facts)) w
+
+  adjust-io-stays : (v : Width) → AdjustIo v F h p o → WellFormed (o .facts)
+  adjust-io-stays v (inl (e, inl r)) = subst WellFormed (sym (r .1 .facts)) w
+  adjust-io-stays v (inl (e, inr r)) =
+      subst WellFormed (sym (r .1 .1 .facts)) (range-added-formed F w (baseGiven v p) (countGiven v p) (attributesGiven v p) (linesGiven v p) (r .0))
+  adjust-io-stays v (inr (inl (e, inl r))) = subst WellFormed (sym (r .1 .facts)) w
+  adjust-io-stays v (inr (inl (e, inr r))) =
+      subst WellFormed (sym (r .1 .1 .facts)) (range-removed-formed F w (baseGiven v p) (countGiven v p) (attributesGiven v p) (linesGiven v p)
+      (r .0))
+  adjust-io-stays v (inr (inr (e, inl r))) = subst WellFormed (sym (r .1 .facts)) w
+  adjust-io-stays v (inr (inr (e, inr r))) = subst WellFormed (sym (r .1 .1 .leaves .facts)) w
+
+  pub adjust-stays : AdjustResourceInfo F h p o → WellFormed (o .facts)
+  adjust-stays (inl r) = subst WellFormed (sym (r .1 .facts)) w
+  adjust-stays (inr (passed, inl r)) = adjust-irq-stays (r .1)
+  adjust-stays (inr (passed, inr r)) = adjust-io-stays (r .1) (r .3)
+
+-- the boot list
+record-added-formed : (F : Facts) (b : List ℕ) → WellFormed F → Passed (recordChecks F b) → WellFormed (recordAdded F b)
+record-added-formed F b w passed = go (eqb (byte b 0) ioRange) (passed .1 .1)
+  where
+    go : (io : Bool) → Passed (cond io (addRangeChecks F (long b 2) (long b 6) (byte b 1) Table.mostLines) (addLevelChecks F (long b 2) (byte b 1)))
+        → WellFormed (cond io (rangeAdded F (long b 2) (long b 6) (byte b 1)) (levelAdded F (long b 2) (byte b 1)))
+    go true passed = range-added-formed F w (long b 2) (long b 6) (byte b 1) Table.mostLines passed
+    go false passed = level-added-formed F w (long b 2) (byte b 1) passed
+
+pub boot-stays : (F : Facts) (b : List ℕ) (i : ℕ) (o : Booted) → WellFormed F → Boot F b i o → WellFormed (o .facts)
+boot-stays F b i o w done = w
+boot-stays F b i o w (broken one few) = w
+boot-stays F b i o w (refused full r) = w
+boot-stays F b i o w (added full passed r) = boot-stays _ _ _ o (record-added-formed F b w passed) r

@@ -1,0 +1,94 @@
+-- What can be told: statements that hold or not, so that a check of the contrary that passes shows them. Assumes nothing.
+use mathlib.Core.Path.{_≡_, refl, sym, subst}
+use mathlib.Core.Logic.{_⊎_, inl, inr, ⊎-elim}
+use mathlib.Core.List.{List, [], _∷_}
+use mathlib.Core.Bool.{Bool, true, false, false≢true}
+use Prim.Native.Nat.{ℕ, zero, suc, _+_, _%_, _^_, _≤_, _<_}
+use native.Mathlib.Decide.{ℕ-discrete, decLe, decLt}
+use native.Mathlib.Omega.{arith}
+use Rattle.facts.specs.Table.{Facts, Client, Range}
+use Rattle.facts.specs.Sets.{_∈_}
+use Rattle.facts.specs.Ports.{Within, Has, Managed, AllManaged}
+use Rattle.facts.specs.WellFormed.{Live, AttributesAllowed}
+
+pub told : {A : Type 0} → Dec A → ((A → ⊥) → ⊥) → A
+told (yes x) h = x
+told (no x) h = absurd (h x)
+
+-- both of two, one of two
+pub both-told : {A B : Type 0} → Dec A → Dec B → Dec (A × B)
+both-told (yes a) (yes b) = yes (a, b)
+both-told (yes a) (no b) = no (λ x. b (x .1))
+both-told (no a) b = no (λ x. a (x .0))
+
+pub either-told : {A B : Type 0} → Dec A → Dec B → Dec (A ⊎ B)
+either-told (yes a) b = yes (inl a)
+either-told (no a) (yes b) = yes (inr b)
+either-told (no a) (no b) = no (⊎-elim a b)
+
+pub true-told : (t : Bool) → Dec (t ≡ true)
+true-told true = yes refl
+true-told false = no false≢true
+
+-- one of those listed
+pub listed-told : {A : Type 0} (P : A → Type 0) → ((x : A) → Dec (P x)) → (xs : List A) → Dec ((x : A) × (x ∈ xs) × P x)
+listed-told P d [] = no (λ e. e .1)
+listed-told {A} P d (y ∷ xs) = go (d y) (listed-told P d xs)
+  where
+    go : Dec (P y) → Dec ((x : A) × (x ∈ xs) × P x) → Dec ((x : A) × (x ∈ (y ∷ xs)) × P x)
+    go (yes p) r = yes (y, inl refl, p)
+    go (no n) (yes r) = yes (r .0, inr (r .1), r .2)
+    go (no n) (no m) = no (λ e. ⊎-elim (λ q. n (subst P q (e .2))) (λ i. m (e .0, i, e .2)) (e .1))
+
+-- all of a run of numbers
+pub run-told : (P : ℕ → Type 0) → ((x : ℕ) → Dec (P x)) → (base n : ℕ) → Dec ((x : ℕ) → Within x base n → P x)
+run-told P d base zero = yes (λ x w. absurd (omega (arith, w .from, w .below)))
+run-told P d base (suc n) = go (run-told P d base n) (d (base + n))
+  where
+    last : ((x : ℕ) → Within x base n → P x) → P (base + n) → (x : ℕ) → Within x base (suc n) → P x
+    last a p x w = by (ℕ-discrete x (base + n))
+      where
+        by : Dec (x ≡ base + n) → P x
+        by (yes e) = subst P (sym e) p
+        by (no f) = a x (record { from = w .from; below = omega (arith, w .below, f) })
+
+    go : Dec ((x : ℕ) → Within x base n → P x) → Dec (P (base + n)) → Dec ((x : ℕ) → Within x base (suc n) → P x)
+    go (yes a) (yes p) = yes (last a p)
+    go (yes a) (no f) = no (λ h. f (h (base + n) (record { from = omega arith; below = omega arith })))
+    go (no f) p = no (λ h. f (λ x w. h x (record { from = w .from; below = omega (arith, w .below) })))
+
+-- a live client, managed ports, attributes
+pub live-told : (F : Facts) (h : ℕ) → Dec (Live F h)
+live-told F h = go (listed-told (λ (c : Client). c .handle ≡ h) (λ c. ℕ-discrete (c .handle) h) (F .clients))
+  where
+    go : Dec ((c : Client) × (c ∈ F .clients) × (c .handle ≡ h)) → Dec (Live F h)
+    go (yes r) = yes (record { client = r .0; listed = r .1; handle = r .2 })
+    go (no n) = no (λ l. n (l .client, l .listed, l .handle))
+
+has-told : (r : Range) (p : ℕ) → Dec (Has r p)
+has-told r p = go (decLe (r .base) p) (decLt p (r .base + r .count))
+  where
+    go : Dec (r .base ≤ p) → Dec (p < r .base + r .count) → Dec (Has r p)
+    go (yes a) (yes b) = yes (record { from = a; below = b })
+    go (yes a) (no b) = no (λ w. b (w .below))
+    go (no a) b = no (λ w. a (w .from))
+
+pub managed-told : (F : Facts) (p : ℕ) → Dec (Managed F p)
+managed-told F p = go (listed-told (λ (r : Range). Has r p) (λ r. has-told r p) (F .ranges))
+  where
+    go : Dec ((r : Range) × (r ∈ F .ranges) × Has r p) → Dec (Managed F p)
+    go (yes r) = yes (record { range = r .0; listed = r .1; has = r .2 })
+    go (no n) = no (λ m. n (m .range, m .listed, m .has))
+
+pub all-managed-told : (F : Facts) (base count : ℕ) → Dec (AllManaged F base count)
+all-managed-told F = run-told (Managed F) (managed-told F)
+
+pub attributes-told : (a : ℕ) → Dec (AttributesAllowed a)
+attributes-told a =
+    go (decLt a (2 ^ 5)) (either-told (ℕ-discrete (a % 2 ^ 3) (2 ^ 0))
+    (either-told (ℕ-discrete (a % 2 ^ 3) (2 ^ 1)) (ℕ-discrete (a % 2 ^ 3) (2 ^ 2))))
+  where
+    go : Dec (a < 2 ^ 5) → Dec ((a % 2 ^ 3 ≡ 2 ^ 0) ⊎ (a % 2 ^ 3 ≡ 2 ^ 1) ⊎ (a % 2 ^ 3 ≡ 2 ^ 2)) → Dec (AttributesAllowed a)
+    go (yes l) (yes t) = yes (record { bits = l; type = t })
+    go (yes l) (no t) = no (λ d. t (d .type))
+    go (no l) t = no (λ d. l (d .bits))

@@ -1,0 +1,81 @@
+-- The laws of the rules: what is proved of every service and of the host's calls. Assumes nothing.
+use mathlib.Core.Path.{_≡_}
+use mathlib.Core.Logic.{_⊎_, _≢_, _↔_}
+use mathlib.Core.List.{List, []}
+use mathlib.Core.Bool.{Bool}
+use Prim.Native.Nat.{ℕ, _*_, _≤_}
+use lib.ListN.{length}
+use Rattle.facts.specs.declared.Code.the-variants.{Success, BadBase, BadIrq, InUse}
+use Rattle.facts.specs.Table
+use Rattle.facts.specs.Table.{Facts, fresh}
+use Rattle.facts.specs.WellFormed.{WellFormed}
+use Rattle.facts.specs.Packets.{Bytes}
+use Rattle.facts.specs.Checks.{Outcome, Kept, Passed}
+use Rattle.facts.specs.Sockets.{CardOutcome, CardTo}
+use Rattle.facts.specs.Irq.{Count, Sharers, RequestIrq, NoLevelFits, irqAheadChecks}
+use Rattle.facts.specs.Io.{RequestIo, NotAllManaged, InTheWay, NoCandidate, baseAsked, ioAheadChecks}
+use Rattle.facts.specs.Boot.{Booted, Boot, recordSize, recordsAdded}
+use Rattle.facts.specs.Services.{Service, registerClient, deregisterClient, adjustResourceInfo, requestIrq, releaseIrq, requestIo, releaseIo}
+use Rattle.facts.specs.Services.{requestSocketMask, releaseSocketMask, ruleOf}
+
+-- "any two permitted outcomes coincide"
+abbrev pub Coincide : {O : Type 0} → (O → Type 0) → Type 0
+Coincide {O} R = (o o′ : O) → R o → R o′ → o ≡ o′
+
+-- "a refusal answers 0"; "Every code but 00 leaves table and packet unchanged"
+abbrev pub RefusalKeeps : Facts → List ℕ → (Outcome → Type 0) → Type 0
+RefusalKeeps F p R = (o : Outcome) → R o → o .code ≢ Success → Kept F p o
+
+-- the one rule that needs to know that a packet's numbers are bytes: a count that RequestIO allows is one byte's
+abbrev pub BytesFor : Service → List ℕ → Type 0
+BytesFor requestIo p = Bytes p
+BytesFor registerClient p = Unit {0}
+BytesFor deregisterClient p = Unit {0}
+BytesFor adjustResourceInfo p = Unit {0}
+BytesFor requestIrq p = Unit {0}
+BytesFor releaseIrq p = Unit {0}
+BytesFor releaseIo p = Unit {0}
+BytesFor requestSocketMask p = Unit {0}
+BytesFor releaseSocketMask p = Unit {0}
+
+-- of every service
+pub record ServiceLaws : Type 0 where
+  pub one-outcome : (v : Service) (F : Facts) (h : ℕ) (p : List ℕ) → WellFormed F → Coincide (ruleOf v F h p)
+  pub refusal-keeps : (v : Service) (F : Facts) (h : ℕ) (p : List ℕ) → RefusalKeeps F p (ruleOf v F h p)
+  pub stays-formed : (v : Service) (F : Facts) (h : ℕ) (p : List ℕ) (o : Outcome) → WellFormed F → BytesFor v p → ruleOf v F h p o
+      → WellFormed (o .facts)
+
+-- of the host's calls
+pub record HostLaws : Type 0 where
+  pub fresh-formed : (n : ℕ) → 1 ≤ n → n ≤ Table.mostSockets → WellFormed (fresh n)
+  pub one-card : (present : Bool) (F : Facts) (s : ℕ) → Coincide (CardTo present F s)
+  pub card-refusal : (present : Bool) (F : Facts) (s : ℕ) (o : CardOutcome) → CardTo present F s o → o .code ≢ Success → o .facts ≡ F
+  pub card-stays : (present : Bool) (F : Facts) (s : ℕ) (o : CardOutcome) → WellFormed F → CardTo present F s o → WellFormed (o .facts)
+  pub one-count : (F : Facts) (l : ℕ) → Coincide (Sharers F l)
+  -- "a refusal's count is 0"; "never over 8"
+  pub count-refusal : (F : Facts) (l : ℕ) (o : Count) → Sharers F l o → o .code ≢ Success → o .count ≡ 0
+  pub count-most : (F : Facts) (l : ℕ) (o : Count) → WellFormed F → Sharers F l o → o .count ≤ Table.mostSockets
+  pub one-boot : (F : Facts) (b : List ℕ) → Coincide (Boot F b 0)
+  -- "earlier ones stay": what is left are the records before the place answered, added in order, and nothing else
+  pub boot-leaves : (F : Facts) (b : List ℕ) (o : Booted) → Boot F b 0 o → o .facts ≡ recordsAdded (o .place) F b
+  -- "Success answers the list's length in records"
+  pub boot-success : (F : Facts) (b : List ℕ) (o : Booted) → Boot F b 0 o → o .code ≡ Success → length b ≡ o .place * recordSize
+  pub boot-stays : (F : Facts) (b : List ℕ) (o : Booted) → WellFormed F → Boot F b 0 o → WellFormed (o .facts)
+
+-- demand 2: "Where the earlier checks pass, an I/O or IRQ request is refused exactly when no resource fits."
+pub record ExactlyWhen : Type 0 where
+  -- RequestIRQ answers BAD_IRQ exactly if no level fits, and is refused for no other reason
+  pub irq : (F : Facts) (h : ℕ) (p : List ℕ) (o : Outcome) → Passed (irqAheadChecks F h p []) → RequestIrq F h p o
+      → (o .code ≡ BadIrq) ↔ NoLevelFits F p
+  pub irq-refused : (F : Facts) (h : ℕ) (p : List ℕ) (o : Outcome) → Passed (irqAheadChecks F h p []) → RequestIrq F h p o
+      → (o .code ≢ Success) ↔ NoLevelFits F p
+  -- RequestIO with a named base answers BAD_BASE exactly if it isn't all managed, and is refused exactly for that or if it meets what it may not
+  pub io-base : (F : Facts) (h : ℕ) (p : List ℕ) (o : Outcome) → Passed (ioAheadChecks F h p []) → baseAsked p ≢ 0 → RequestIo F h p o
+      → (o .code ≡ BadBase) ↔ NotAllManaged F p
+  pub io-named : (F : Facts) (h : ℕ) (p : List ℕ) (o : Outcome) → Passed (ioAheadChecks F h p []) → baseAsked p ≢ 0 → RequestIo F h p o
+      → (o .code ≢ Success) ↔ (NotAllManaged F p ⊎ InTheWay F p)
+  -- RequestIO with base 0 answers IN_USE exactly if there is no candidate, and is refused for no other reason
+  pub io-chosen : (F : Facts) (h : ℕ) (p : List ℕ) (o : Outcome) → Passed (ioAheadChecks F h p []) → baseAsked p ≡ 0 → RequestIo F h p o
+      → (o .code ≡ InUse) ↔ NoCandidate F p
+  pub io-chosen-refused : (F : Facts) (h : ℕ) (p : List ℕ) (o : Outcome) → Passed (ioAheadChecks F h p []) → baseAsked p ≡ 0 → RequestIo F h p o
+      → (o .code ≢ Success) ↔ NoCandidate F p

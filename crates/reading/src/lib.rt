@@ -1,0 +1,169 @@
+// Reads a table's bytes where they lie: numbers, a client by its handle, whether ports are managed. What every service needs to read.
+use facts::Handle;
+use facts::Manner;
+use layout::CLIENT_SIZE;
+use layout::CLIENTS_AT;
+use layout::CLIENTS_IN;
+use layout::RANGE_COUNT;
+use layout::RANGE_SIZE;
+use layout::RANGES_AT;
+use layout::RANGES_IN;
+ghost use mathlib.Core.Path.{_≡_};
+ghost use Prim.Native.Nat.{ℕ, _+_, _<_, _≤_};
+ghost use lib.ListN.{length};
+ghost use Rattle.facts.specs.Table;
+ghost use Rattle.facts.specs.Says.{Says};
+ghost use Rattle.facts.specs.Packets;
+ghost use Rattle.facts.specs.Ports.{Within};
+ghost use Rattle.facts.specs.WellFormed.{AttributesAllowed};
+ghost use Rattle.layout.specs.Layout.{tableSize};
+ghost use Rattle.layout.specs.Reading.{clientsIn, rangesIn, mannerOf};
+ghost use Rattle.layout.specs.Sound.{LiveIn, ManagedIn, RangesSound, rangeBase, rangeCount};
+ghost use Rattle.reading.specs.Finding.{Finds, Passes};
+
+// How many numbers one byte and two bytes hold.
+const ALL_BYTES: usize = 256;
+
+const ALL_WORDS: usize = 65536;
+
+const WORD_SIZE: usize = 2;
+
+// A client's attributes are five bits, of which the lowest three say its type.
+const ALL_ATTRIBUTES: usize = 32;
+
+const ALL_KINDS: usize = 8;
+
+// Numbers of one, two and four bytes, little-endian.
+pub fn byte(t: &[u8], at: usize) -> usize
+    requires { ⌜ at < length (now t) ⌝ }
+    ensures { λ r. ⌜ (r ≡ Packets.byte (now (t .entry)) at) × (r < 256) ⌝ }
+{
+    t[at] as usize
+}
+
+pub fn word(t: &[u8], at: usize) -> usize
+    requires { ⌜ at + 1 < length (now t) ⌝ }
+    ensures { λ r. ⌜ (r ≡ Packets.word (now (t .entry)) at) × (r < 65536) ⌝ }
+{
+    let low = byte(t, at);
+    let high = byte(t, at + 1);
+    low + ALL_BYTES * high
+}
+
+pub fn long(t: &[u8], at: usize) -> usize
+    requires { ⌜ at + 3 < length (now t) ⌝ }
+    ensures { λ r. ⌜ (r ≡ Packets.long (now (t .entry)) at) × (r < 4294967296) ⌝ }
+{
+    let low = word(t, at);
+    let high = word(t, at + WORD_SIZE);
+    low + ALL_WORDS * high
+}
+
+// The handle that two bytes say.
+pub fn handle(t: &[u8], at: usize) -> Handle
+    requires { ⌜ at + 1 < length (now t) ⌝ }
+    ensures { λ r. ⌜ (r .0 ≡ Packets.word (now (t .entry)) at) ⌝ }
+{
+    Handle(word(t, at) as u16)
+}
+
+// "Attribute bits or client types that 5.37 doesn't allow": one of bits 0 to 2, any of bits 3 and 4, no other.
+pub fn attributes_allowed(a: usize) -> bool
+    ensures { λ r. ⌜ Says r (AttributesAllowed a) ⌝ }
+{
+    if ALL_ATTRIBUTES <= a {
+        return false;
+    }
+    match a % ALL_KINDS {
+        1 | 2 | 4 => true,
+        _ => false,
+    }
+}
+
+// The manner that a byte of the table says.
+pub fn manner_of(n: usize) -> Manner
+    ensures { λ r. ⌜ r ≡ mannerOf n ⌝ }
+{
+    match n {
+        0 => Manner::Exclusive,
+        1 => Manner::TimeMultiplexed,
+        2 => Manner::DynamicLevel,
+        _ => Manner::DynamicPulse,
+    }
+}
+
+// What a search for a client finds.
+pub enum Found {
+    At(usize),
+    Nobody,
+}
+
+// The first client listed whose handle is `h`.
+pub fn client_at(t: &[u8], h: Handle) -> Found
+    requires { ⌜ (length (now t) ≡ tableSize) × (clientsIn (now t) ≤ Table.mostClients) ⌝ }
+    ensures { λ r. ⌜ Finds (now (t .entry)) (h .0) r ⌝ }
+{
+    let clients = byte(t, CLIENTS_IN);
+    let wanted = h.0;
+    for i in 0..clients {
+        let listed = handle(t, CLIENTS_AT + i * CLIENT_SIZE);
+        if listed.0 == wanted {
+            return Found::At(i);
+        }
+    }
+    Found::Nobody
+}
+
+// Whether `h` is the handle of one of the clients listed.
+pub fn live(t: &[u8], h: Handle) -> bool
+    requires { ⌜ (length (now t) ≡ tableSize) × (clientsIn (now t) ≤ Table.mostClients) ⌝ }
+    ensures { λ r. ⌜ Says r (LiveIn (now (t .entry)) (h .0)) ⌝ }
+{
+    let found = client_at(t, h);
+    match found {
+        Found::At(_) => true,
+        Found::Nobody => false,
+    }
+}
+
+// Where the range `i` ends.
+pub fn range_end(t: &[u8], i: usize) -> usize
+    requires { ⌜ (length (now t) ≡ tableSize) × (i < Table.mostRanges) ⌝ }
+    ensures { λ r. ⌜ r ≡ rangeBase (now (t .entry)) i + rangeCount (now (t .entry)) i ⌝ }
+{
+    let at = RANGES_AT + i * RANGE_SIZE;
+    word(t, at) + long(t, at + RANGE_COUNT)
+}
+
+// The port after the range `i`, where `p` is one of its ports, and else `p`.
+fn past(t: &[u8], i: usize, p: usize) -> usize
+    requires { ⌜ (length (now t) ≡ tableSize) × (i < Table.mostRanges) ⌝ }
+    ensures { λ r. ⌜ Passes p (rangeBase (now (t .entry)) i) (rangeCount (now (t .entry)) i) r ⌝ }
+{
+    let end = range_end(t, i);
+    if p < word(t, RANGES_AT + i * RANGE_SIZE) {
+        return p;
+    }
+    if end <= p {
+        return p;
+    }
+    end
+}
+
+// Whether all the ports are managed: one pass over the ranges, which are in order, past every port that is.
+pub fn managed(t: &[u8], base: usize, count: usize) -> bool
+    requires { ⌜ (length (now t) ≡ tableSize) × (rangesIn (now t) ≤ Table.mostRanges) × RangesSound (now t) ⌝ }
+    requires { ⌜ (base < Table.allPorts) × (count ≤ Table.allPorts) ⌝ }
+    ensures { λ r. ⌜ Says r ((p : ℕ) → Within p base count → ManagedIn (now (t .entry)) p) ⌝ }
+{
+    let ranges = byte(t, RANGES_IN);
+    let end = base + count;
+    let mut p = base;
+    for i in 0..ranges {
+        if end <= p {
+            return true;
+        }
+        p = past(t, i, p);
+    }
+    end <= p
+}

@@ -1,4 +1,0 @@
-pub mod Answers
-pub mod Clients
-pub mod Sockets
-pub mod Sharing

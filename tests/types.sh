@@ -1,0 +1,59 @@
+#!/bin/sh
+# types.sh: programs that take a handle, a socket, a place or a count for one
+# another. Such an edit never reaches the prover: the compiler has to refuse
+# each for its types, at the line that was changed.
+set -eu
+# shellcheck source=tests/toolchain.sh
+. "$(dirname "$0")/toolchain.sh"
+
+copy=$(mktemp -d)
+trap 'rm -rf "$copy"' EXIT
+mkdir "$copy/target"
+# What is proved already needs no second proof there.
+for made in target/rlib target/stamp; do
+    if [ -d "$made" ]; then cp -r "$made" "$copy/target/"; fi
+done
+
+# refused CRATE FILE OLD NEW EXPECTED FOUND: with NEW for OLD, which stands
+# once in the file, the compiler expects one type and finds another
+refused() {
+    rm -rf "$copy/crates"
+    cp -r crates crates.txt "$copy"
+    file=$copy/crates/$1/src/$2
+    line=$(grep -nF -- "$3" "$file" | cut -d: -f1)
+    case $line in
+    '' | *[!0-9]*)
+        echo "types: '$3' doesn't stand once in $1/src/$2"
+        exit 1
+        ;;
+    esac
+    OLD=$3 NEW=$4 awk '{
+        at = index($0, ENVIRON["OLD"])
+        if (at) $0 = substr($0, 1, at - 1) ENVIRON["NEW"] substr($0, at + length(ENVIRON["OLD"]))
+        print
+    }' "$file" >"$copy/edited"
+    mv "$copy/edited" "$file"
+    said=$(cd "$copy" && rt mir "$1" 2>&1) || true
+    case $said in
+    *"/src/$2:$line:"*"error[mismatched-types]: expected \`$5\`, found \`$6\`"*)
+        echo "types: $1/src/$2:$line: '$4' is refused: expected $5, found $6"
+        ;;
+    *)
+        echo "types: $1/src/$2: '$4' for '$3' is not refused for its types:"
+        echo "$said"
+        exit 1
+        ;;
+    esac
+}
+
+refused clients lib.rt 'holds(t, i, h)' 'holds(t, i, i)' Handle usize
+refused clients lib.rt 'enter(t, n, handle,' 'enter(t, handle, n,' usize Handle
+refused clients lib.rt 'grant_on(t, Socket(s), h)' 'grant_on(t, h, h)' Socket Handle
+refused scan clients.rt 'mask_sound(t, i, Socket(s))' 'mask_sound(t, Socket(s), i)' usize Socket
+refused irq lib.rt 'sharer(t, level, Socket(s))' 'sharer(t, level, s)' Socket usize
+refused keeper lib.rt 'clients::deregister(table, Handle(handle), packet)' \
+    'clients::deregister(table, Socket(3), packet)' Handle Socket
+refused keeper lib.rt 'pack_count(irq::sharers(table, level))' \
+    'pack(irq::sharers(table, level))' Answer SharerCount
+refused keeper lib.rt 'facts::number(sockets::card(table, socket, present))' \
+    'pack(sockets::card(table, socket, present))' Answer Code
