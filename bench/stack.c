@@ -15,7 +15,7 @@
 #include "layout.h"
 #include "sets.h"
 
-enum { HEADER_SAYS_LESS_THAN = 400, RANDOM_TABLES = 100 };
+enum { HEADER_SAYS_LESS_THAN = 600, RANDOM_TABLES = 100 };
 
 static uint8_t table[CS_TABLE_SIZE];
 static volatile uint32_t answered;

@@ -78,7 +78,7 @@
  * red zone): an interrupt during a call has to keep the SSE registers and
  * needs a stack of its own.
  *
- * A call takes less than 400 bytes of stack, its return address and the red
+ * A call takes less than 600 bytes of stack, its return address and the red
  * zone among them. bench/run.sh measures it, on tables from fresh to full:
  * it is a measurement and no proof.
  *

@@ -10,6 +10,10 @@ programs=target/tests
 
 kit() { dirname "$(dirname "$(rt doc)")"; }
 
+# One check more at a time than there are processors: a check also waits.
+RT_JOBS=${RT_JOBS:-$(($(nproc) + 1))}
+export RT_JOBS
+
 build_archive() { rt staticlib keeper; }
 
 # need COMMAND PACKAGE...: Debian's packages, where the command is missing

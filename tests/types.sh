@@ -49,11 +49,11 @@ refused() {
 refused clients lib.rt 'holds(t, i, h)' 'holds(t, i, i)' Handle usize
 refused clients lib.rt 'enter(t, n, handle,' 'enter(t, handle, n,' usize Handle
 refused clients lib.rt 'grant_on(t, Socket(s), h)' 'grant_on(t, h, h)' Socket Handle
-refused scan clients.rt 'mask_sound(t, i, Socket(s))' 'mask_sound(t, Socket(s), i)' usize Socket
+refused lists clients.rt 'mask_sound(t, i, Socket(s))' 'mask_sound(t, Socket(s), i)' usize Socket
 refused irq lib.rt 'sharer(t, level, Socket(s))' 'sharer(t, level, s)' Socket usize
 refused keeper lib.rt 'clients::deregister(table, Handle(handle), packet)' \
     'clients::deregister(table, Socket(3), packet)' Handle Socket
-refused keeper lib.rt 'pack_count(irq::sharers(table, level))' \
-    'pack(irq::sharers(table, level))' Answer SharerCount
+refused keeper lib.rt 'irq::pack(irq::sharers(table, level))' \
+    'answers::pack(irq::sharers(table, level))' Answer SharerCount
 refused keeper lib.rt 'facts::number(sockets::card(table, socket, present))' \
-    'pack(sockets::card(table, socket, present))' Answer Code
+    'answers::pack(sockets::card(table, socket, present))' Answer Code

@@ -2,10 +2,11 @@
 use mathlib.Core.Path.{_≡_}
 use mathlib.Core.Logic.{_≢_}
 use mathlib.Core.List.{List}
-use Prim.Native.Nat.{ℕ, _≤_, _<_}
+use Prim.Native.Nat.{ℕ, _+_, _*_, _≤_, _<_}
 use lib.ListN.{length}
 use Rattle.facts.specs.declared.Code.{Code}
 use Rattle.facts.specs.declared.Code.the-variants.{Success}
+use Rattle.facts.specs.Codes.{numberOf}
 use Rattle.layout.specs.Reading.{socketsIn}
 use Rattle.answers.specs.declared.Answer.{Answer}
 use Rattle.answers.specs.declared.Answer.the-variants.{Done, Refused}
@@ -22,6 +23,10 @@ codeOf (Refused k) = k
 abbrev pub handleOf : Answer → ℕ
 handleOf (Done h) = h .0
 handleOf (Refused k) = 0
+
+-- code + 65536 * handle, or code + 65536 * count
+abbrev pub packed : Code → ℕ → ℕ
+packed code number = numberOf code + 65536 * number
 
 -- there are n bytes, or not
 abbrev pub SizeIs : List ℕ → ℕ → Size → Type 0

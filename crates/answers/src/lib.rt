@@ -6,12 +6,25 @@ use layout::SOCKETS_IN;
 ghost use mathlib.Core.Path.{_≡_};
 ghost use lib.ListN.{length};
 ghost use Rattle.layout.specs.Layout.{tableSize};
-ghost use Rattle.answers.specs.Answers.{SizeIs, CountedIs};
+ghost use Rattle.answers.specs.Answers.{packed, codeOf, handleOf, SizeIs, CountedIs};
 
 // What a service answers: a handle, or the code of a refusal.
 pub enum Answer {
     Done(Handle),
     Refused(Code),
+}
+
+// code + 65536 * handle.
+pub fn pack(a: Answer) -> u32
+    ensures { λ r. ⌜ r ≡ packed (codeOf a) (handleOf a) ⌝ }
+{
+    match a {
+        Answer::Done(h) => {
+            let handle = h.0;
+            65536 * (handle as u32)
+        }
+        Answer::Refused(code) => facts::number(code),
+    }
 }
 
 // Whether lent bytes are as many as are asked for.

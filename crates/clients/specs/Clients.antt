@@ -4,9 +4,14 @@ use mathlib.Core.Logic.{_⊎_, _≢_}
 use mathlib.Core.List.{List}
 use Prim.Native.Nat.{ℕ, _+_, _≤_, _<_}
 use Rattle.facts.specs.Table
+use Rattle.facts.specs.Table.{Facts}
 use Rattle.facts.specs.Packets.{word}
 use Rattle.facts.specs.WellFormed.{AttributesAllowed, EventsAllowed}
+use Rattle.facts.specs.Clients.{Register, Deregister}
 use Rattle.layout.specs.Reading.{clientsIn, issuedIn, maskPlace, ioPlace, irqPlace}
+use Rattle.layout.specs.Served.{ServedBy}
+use Rattle.answers.specs.declared.Answer.{Answer}
+use Rattle.answers.specs.Answers.{codeOf, handleOf}
 use Rattle.clients.specs.declared.Asked.{Asked}
 use Rattle.clients.specs.declared.Asked.the-variants.{Good, Bad}
 use Rattle.clients.specs.declared.Room.{Room}
@@ -57,3 +62,10 @@ HoldsSome b i h = GrantHeldIn b h ⊎ MaskHeldIn b i
 abbrev pub HeldIs : List ℕ → ℕ → ℕ → Held → Type 0
 HeldIs b i h Something = HoldsSome b i h
 HeldIs b i h Nothing = HoldsSome b i h → ⊥
+
+-- RegisterClient and DeregisterClient are served as their rules say: they answer r, and leave the table b′; the packet stays
+abbrev pub RegisterServed : List ℕ → List ℕ → List ℕ → Answer → Type 0
+RegisterServed p b b′ r = ServedBy (λ (F : Facts). Register F 0 p) b b′ p (codeOf r) (handleOf r)
+
+abbrev pub DeregisterServed : ℕ → List ℕ → List ℕ → List ℕ → Answer → Type 0
+DeregisterServed h p b b′ r = ServedBy (λ (F : Facts). Deregister F h p) b b′ p (codeOf r) (handleOf r)

@@ -26,17 +26,14 @@ ghost use mathlib.Core.Path.{_≡_};
 ghost use Prim.Native.Nat.{_+_, _<_, _≤_};
 ghost use lib.ListN.{length};
 ghost use Rattle.facts.specs.Table;
-ghost use Rattle.facts.specs.Table.{Facts};
 ghost use Rattle.facts.specs.Says.{Says};
 ghost use Rattle.facts.specs.Packets.{word};
-ghost use Rattle.facts.specs.Clients.{Register, Deregister, registerLength};
+ghost use Rattle.facts.specs.Clients.{registerLength};
 ghost use Rattle.layout.specs.Layout.{tableSize};
 ghost use Rattle.layout.specs.Reading.{clientsIn};
 ghost use Rattle.layout.specs.Sound.{Accepted};
 ghost use Rattle.layout.specs.Changed.{entered, Withdrawn};
-ghost use Rattle.layout.specs.Served.{ServedBy};
-ghost use Rattle.answers.specs.Answers.{codeOf, handleOf};
-ghost use Rattle.clients.specs.Clients.{AsksFor, RoomIs, GrantIn, GrantHeldIn, MaskIn, MaskHeldIn, HeldIs};
+ghost use Rattle.clients.specs.Clients.{AsksFor, RoomIs, GrantIn, GrantHeldIn, MaskIn, MaskHeldIn, HeldIs, RegisterServed, DeregisterServed};
 
 // The packet of RegisterClient (5.37) is 14 bytes, that of DeregisterClient (5.8) is empty.
 const REGISTER_LENGTH: usize = 14;
@@ -106,7 +103,7 @@ fn enter(t: &mut [u8], n: usize, h: Handle, attributes: usize, events: usize)
 
 pub fn register(t: &mut [u8], p: &[u8]) -> Answer
     requires { ⌜ Accepted (now t) ⌝ }
-    ensures { λ r. ⌜ ServedBy (λ (F : Facts). Register F 0 (now (p .entry))) (now (t .entry)) (now (t .exit)) (now (p .entry)) (codeOf r) (handleOf r) ⌝ }
+    ensures { λ r. ⌜ RegisterServed (now (p .entry)) (now (t .entry)) (now (t .exit)) r ⌝ }
 {
     let Size::Right = answers::sized(p, REGISTER_LENGTH) else {
         return Answer::Refused(Code::BadArgLength);
@@ -213,7 +210,7 @@ fn withdraw(t: &mut [u8], i: usize)
 
 pub fn deregister(t: &mut [u8], h: Handle, p: &[u8]) -> Answer
     requires { ⌜ Accepted (now t) ⌝ }
-    ensures { λ r. ⌜ ServedBy (λ (F : Facts). Deregister F (h .0) (now (p .entry))) (now (t .entry)) (now (t .exit)) (now (p .entry)) (codeOf r) (handleOf r) ⌝ }
+    ensures { λ r. ⌜ DeregisterServed (h .0) (now (p .entry)) (now (t .entry)) (now (t .exit)) r ⌝ }
 {
     let Size::Right = answers::sized(p, DEREGISTER_LENGTH) else {
         return Answer::Refused(Code::BadArgLength);

@@ -11,7 +11,7 @@ use lib.Dec.{eqb}
 use lib.ListN.{length, length-append}
 use Rattle.facts.specs.Table
 use Rattle.facts.specs.Table.{Facts, Client}
-use Rattle.facts.specs.Sets.{_∈_, put}
+use Rattle.facts.specs.Sets.{_∈_}
 use Rattle.facts.specs.Packets.{word}
 use Rattle.facts.specs.WellFormed.{WellFormed, ClientFits, Live, EventsAllowed}
 use Rattle.facts.specs.Checks.{Check, Outcome, Passed}

@@ -1,5 +1,5 @@
 -- A well-formed set with other cards, clients, levels, ranges or grants is well formed, if what is new fits. Assumes nothing.
-use mathlib.Core.Path.{_≡_, refl, sym, subst}
+use mathlib.Core.Path.{_≡_, refl, ap, sym, _∙_, subst}
 use mathlib.Core.Logic.{_≢_}
 use mathlib.Core.List.{List}
 use mathlib.Core.Bool.{Bool, true, false, false≢true}
@@ -88,6 +88,22 @@ listing F n cs =
     record { sockets = F .sockets; card = F .card; issued = n; clients = cs; level = F .level; ranges = F .ranges; io = F .io; irq = F .irq }
 
 module _ (F : Facts) (w : WellFormed F) where
+  -- what fitted stays: G has as many sockets and the same clients
+  module _ (G : Facts) (sockets : G .sockets ≡ F .sockets) (clients : G .clients ≡ F .clients) where
+    still-lives : {h : ℕ} → Live F h → Live G h
+    still-lives {h} = live-in F G h (λ c m q. subst (λ (cs : List Client). c ∈ cs) (sym clients) m)
+
+    still-clients : F .issued ≤ G .issued → (c : Client) → c ∈ G .clients → ClientFits G c
+    still-clients more c m = client-fits F G sockets c more (w .clients c (subst (λ (cs : List Client). c ∈ cs) clients m))
+
+    still-io : G .ranges ≡ F .ranges → (t : ℕ) (g : IoGrant) → IoFits F t g → IoFits G t g
+    still-io ranges t g f =
+        io-fits F G sockets t g (still-lives (f .client))
+        (managed-in F G (λ r m. subst (λ (rs : List Range). r ∈ rs) (sym ranges) m) _ _ (f .managed)) f
+
+    still-irq : G .level ≡ F .level → (t : ℕ) (g : IrqGrant) → IrqFits F t g → IrqFits G t g
+    still-irq level t g f = irq-fits F G sockets t g (still-lives (f .client)) (ap (λ (v : ℕ → Level). v (g .level) .managed) level ∙ f .managed) f
+
   pub card-formed : (s : ℕ) (v : Bool) → s < F .sockets → WellFormed (withCard F s v)
   card-formed s v l =
       record {
@@ -97,22 +113,19 @@ module _ (F : Facts) (w : WellFormed F) where
         issued = w .issued;
         clients-most = w .clients-most;
         handles = w .handles;
-        clients = λ c m. client-fits F G refl c (omega arith) (w .clients c m);
+        clients = still-clients (withCard F s v) refl refl (omega arith);
         levels = w .levels;
         reserved = w .reserved;
         ranges-most = w .ranges-most;
         apart = w .apart;
         ranges = w .ranges;
-        ios = λ t g e. let f = w .ios t g e in
-            io-fits F G refl t g (live-in F G (g .client) (λ c m q. m) (f .client)) (managed-in F G (λ r m. m) _ _ (f .managed)) f;
-        irqs = λ t g e. let f = w .irqs t g e in irq-fits F G refl t g (live-in F G (g .client) (λ c m q. m) (f .client)) (f .managed) f;
+        ios = λ t g e. still-io (withCard F s v) refl refl refl t g (w .ios t g e);
+        irqs = λ t g e. still-irq (withCard F s v) refl refl refl t g (w .irqs t g e);
         io-company = w .io-company;
         irq-company = w .irq-company;
       }
-    where
-      G : Facts
-      G = withCard F s v
 
+  -- other clients: each fits, and those of the grants are among them
   module _ (n : ℕ) (cs : List Client) where
     pub clients-formed : n ≤ Table.mostIssued → length cs ≤ Table.mostClients → Rising 0 cs → ((c : Client) → c ∈ cs → ClientFits (listing F n cs) c)
         → ((s : ℕ) (g : IoGrant) → F .io s ≡ some g → Live (listing F n cs) (g .client))
@@ -132,14 +145,12 @@ module _ (F : Facts) (w : WellFormed F) where
           ranges-most = w .ranges-most;
           apart = w .apart;
           ranges = w .ranges;
-          ios = λ t g e. let f = w .ios t g e in io-fits F G refl t g (io-live t g e) (managed-in F G (λ r m. m) _ _ (f .managed)) f;
-          irqs = λ t g e. let f = w .irqs t g e in irq-fits F G refl t g (irq-live t g e) (f .managed) f;
+          ios = λ t g e. let f = w .ios t g e in
+              io-fits F (listing F n cs) refl t g (io-live t g e) (managed-in F (listing F n cs) (λ r m. m) _ _ (f .managed)) f;
+          irqs = λ t g e. let f = w .irqs t g e in irq-fits F (listing F n cs) refl t g (irq-live t g e) (f .managed) f;
           io-company = w .io-company;
           irq-company = w .irq-company;
         }
-      where
-        G : Facts
-        G = listing F n cs
 
   -- another level: below the last, reserved only if it is managed, and managed if a grant holds it
   pub level-formed : (l : ℕ) (v : Level) → l < Table.allLevels → (v .reserved ≡ true → v .managed ≡ true)
@@ -153,24 +164,20 @@ module _ (F : Facts) (w : WellFormed F) where
         issued = w .issued;
         clients-most = w .clients-most;
         handles = w .handles;
-        clients = λ c m. client-fits F G refl c (omega arith) (w .clients c m);
+        clients = still-clients (withLevel F l v) refl refl (omega arith);
         levels = put-all (λ (k : ℕ) (x : Level). x .managed ≡ true → k < Table.allLevels) (F .level) l v (λ e. below) (λ k d. w .levels k);
         reserved = put-all (λ (k : ℕ) (x : Level). x .reserved ≡ true → x .managed ≡ true) (F .level) l v reserved (λ k d. w .reserved k);
         ranges-most = w .ranges-most;
         apart = w .apart;
         ranges = w .ranges;
-        ios = λ t g e. let f = w .ios t g e in
-            io-fits F G refl t g (live-in F G (g .client) (λ c m q. m) (f .client)) (managed-in F G (λ r m. m) _ _ (f .managed)) f;
+        ios = λ t g e. still-io (withLevel F l v) refl refl refl t g (w .ios t g e);
         irqs = λ t g e. let f = w .irqs t g e in
-            irq-fits F G refl t g (live-in F G (g .client) (λ c m q. m) (f .client)) (managed t g e (f .managed)) f;
+            irq-fits F (withLevel F l v) refl t g (still-lives (withLevel F l v) refl refl (f .client)) (managed t g e (f .managed)) f;
         io-company = w .io-company;
         irq-company = w .irq-company;
       }
     where
-      G : Facts
-      G = withLevel F l v
-
-      managed : (t : ℕ) (g : IrqGrant) → F .irq t ≡ some g → F .level (g .level) .managed ≡ true → G .level (g .level) .managed ≡ true
+      managed : (t : ℕ) (g : IrqGrant) → F .irq t ≡ some g → F .level (g .level) .managed ≡ true → withLevel F l v .level (g .level) .managed ≡ true
       managed t g e m =
           put-all (λ (k : ℕ) (x : Level). g .level ≡ k → x .managed ≡ true) (F .level) l v (held t g e)
           (λ k d q. subst (λ (i : ℕ). F .level i .managed ≡ true) q m) (g .level) refl
@@ -187,20 +194,18 @@ module _ (F : Facts) (w : WellFormed F) where
         issued = w .issued;
         clients-most = w .clients-most;
         handles = w .handles;
-        clients = λ c m. client-fits F G refl c (omega arith) (w .clients c m);
+        clients = still-clients (withRanges F rs) refl refl (omega arith);
         levels = w .levels;
         reserved = w .reserved;
         ranges-most = most;
         apart = apart;
         ranges = within;
-        ios = λ t g e. let f = w .ios t g e in io-fits F G refl t g (live-in F G (g .client) (λ c m q. m) (f .client)) (managed t g e) f;
-        irqs = λ t g e. let f = w .irqs t g e in irq-fits F G refl t g (live-in F G (g .client) (λ c m q. m) (f .client)) (f .managed) f;
+        ios = λ t g e. let f = w .ios t g e in
+            io-fits F (withRanges F rs) refl t g (still-lives (withRanges F rs) refl refl (f .client)) (managed t g e) f;
+        irqs = λ t g e. still-irq (withRanges F rs) refl refl refl t g (w .irqs t g e);
         io-company = w .io-company;
         irq-company = w .irq-company;
       }
-    where
-      G : Facts
-      G = withRanges F rs
 
   -- another I/O grant on a socket, or none: it fits, and keeps company with those on other sockets
   pub io-formed : (s : ℕ) (o : Option IoGrant) → ((g : IoGrant) → o ≡ some g → IoFits F s g)
@@ -214,24 +219,18 @@ module _ (F : Facts) (w : WellFormed F) where
         issued = w .issued;
         clients-most = w .clients-most;
         handles = w .handles;
-        clients = λ c m. client-fits F G refl c (omega arith) (w .clients c m);
+        clients = still-clients (withIo F s o) refl refl (omega arith);
         levels = w .levels;
         reserved = w .reserved;
         ranges-most = w .ranges-most;
         apart = w .apart;
         ranges = w .ranges;
-        ios = put-all (λ (t : ℕ) (x : Option IoGrant). (g : IoGrant) → x ≡ some g → IoFits G t g) (F .io) s o (λ g e. again s g (fits g e))
-            (λ t d g e. again t g (w .ios t g e));
-        irqs = λ t g e. let f = w .irqs t g e in irq-fits F G refl t g (live-in F G (g .client) (λ c m q. m) (f .client)) (f .managed) f;
+        ios = put-all (λ (t : ℕ) (x : Option IoGrant). (g : IoGrant) → x ≡ some g → IoFits (withIo F s o) t g) (F .io) s o
+            (λ g e. still-io (withIo F s o) refl refl refl s g (fits g e)) (λ t d g e. still-io (withIo F s o) refl refl refl t g (w .ios t g e));
+        irqs = λ t g e. still-irq (withIo F s o) refl refl refl t g (w .irqs t g e);
         io-company = put-pairs IoCompany io-turned (F .io) s o (w .io-company) company;
         irq-company = w .irq-company;
       }
-    where
-      G : Facts
-      G = withIo F s o
-
-      again : (t : ℕ) (g : IoGrant) → IoFits F t g → IoFits G t g
-      again t g f = io-fits F G refl t g (live-in F G (g .client) (λ c m q. m) (f .client)) (managed-in F G (λ r m. m) _ _ (f .managed)) f
 
   -- the same for an IRQ grant
   pub irq-formed : (s : ℕ) (o : Option IrqGrant) → ((g : IrqGrant) → o ≡ some g → IrqFits F s g)
@@ -245,22 +244,15 @@ module _ (F : Facts) (w : WellFormed F) where
         issued = w .issued;
         clients-most = w .clients-most;
         handles = w .handles;
-        clients = λ c m. client-fits F G refl c (omega arith) (w .clients c m);
+        clients = still-clients (withIrq F s o) refl refl (omega arith);
         levels = w .levels;
         reserved = w .reserved;
         ranges-most = w .ranges-most;
         apart = w .apart;
         ranges = w .ranges;
-        ios = λ t g e. let f = w .ios t g e in
-            io-fits F G refl t g (live-in F G (g .client) (λ c m q. m) (f .client)) (managed-in F G (λ r m. m) _ _ (f .managed)) f;
-        irqs = put-all (λ (t : ℕ) (x : Option IrqGrant). (g : IrqGrant) → x ≡ some g → IrqFits G t g) (F .irq) s o (λ g e. again s g (fits g e))
-            (λ t d g e. again t g (w .irqs t g e));
+        ios = λ t g e. still-io (withIrq F s o) refl refl refl t g (w .ios t g e);
+        irqs = put-all (λ (t : ℕ) (x : Option IrqGrant). (g : IrqGrant) → x ≡ some g → IrqFits (withIrq F s o) t g) (F .irq) s o
+            (λ g e. still-irq (withIrq F s o) refl refl refl s g (fits g e)) (λ t d g e. still-irq (withIrq F s o) refl refl refl t g (w .irqs t g e));
         io-company = w .io-company;
         irq-company = put-pairs IrqCompany irq-turned (F .irq) s o (w .irq-company) company;
       }
-    where
-      G : Facts
-      G = withIrq F s o
-
-      again : (t : ℕ) (g : IrqGrant) → IrqFits F t g → IrqFits G t g
-      again t g f = irq-fits F G refl t g (live-in F G (g .client) (λ c m q. m) (f .client)) (f .managed) f

@@ -8,7 +8,7 @@ use Rattle.facts.specs.WellFormed.{WellFormed}
 use Rattle.facts.specs.Irq.{Count, Sharers}
 use Rattle.facts.specs.Laws.{ServiceLaws, HostLaws}
 use Rattle.facts.proofs.Unique.{service-unique, card-unique, sharers-unique, boot-unique}
-use Rattle.facts.proofs.Refusals.{refusal-keeps, card-refusal-keeps, sharers-refusal-zero, boot-leaves, boot-success}
+use Rattle.facts.proofs.Refusals.{no-success, refusal-keeps, card-refusal-keeps, sharers-refusal-zero, boot-leaves, boot-success}
 use Rattle.facts.proofs.Sharing.{sharers-most}
 use Rattle.facts.proofs.Formed.{fresh-formed}
 use Rattle.facts.proofs.ClientsStay.{card-stays}
@@ -19,6 +19,7 @@ pub service-laws : ServiceLaws
 service-laws =
     record {
       one-outcome = λ v F h p w. service-unique F h p (w .apart) v;
+      no-success = no-success;
       refusal-keeps = λ v F h p. refusal-keeps F h p v;
       stays-formed = service-stays;
     }

@@ -1,6 +1,7 @@
 -- Laws of the definitions: of answers, of sets, of company, and of what is permitted; and those that specs/Laws states. Assumes nothing.
 pub mod Says
 pub mod Sets
+pub mod Codes
 pub mod Company
 pub mod Unique
 pub mod Refusals

@@ -1,8 +1,8 @@
 -- The refusal law: a permitted outcome whose code isn't Success answers 0 and keeps the packet and the facts; and no check gives Success. Assumes
 -- nothing.
-use mathlib.Core.Path.{_≡_, refl, ap}
+use mathlib.Core.Path.{_≡_, refl, ap, sym, _∙_}
 use mathlib.Core.Logic.{_⊎_, _≢_, _↔_, inl, inr}
-use mathlib.Core.List.{List, [], _∷_, _++_}
+use mathlib.Core.List.{List, [], _∷_}
 use mathlib.Core.Bool.{Bool, true, false, cond}
 use Prim.Native.Nat.{ℕ, zero, suc, _+_, _*_, _≤_}
 use native.Mathlib.Omega.{arith}
@@ -15,14 +15,14 @@ use Rattle.facts.specs.Table
 use Rattle.facts.specs.Table.{Facts}
 use Rattle.facts.specs.Packets.{byte, long}
 use Rattle.facts.specs.Checks.{Check, Outcome, FirstGiven, Passed, RuledThen, Ruled, Rule}
-use Rattle.facts.specs.Laws.{RefusalKeeps}
+use Rattle.facts.specs.Laws.{RefusalKeeps, NoSuccess, everyCheck}
 use Rattle.facts.specs.Clients.{registerChecks, deregisterChecks}
-use Rattle.facts.specs.Sockets.{CardTo, CardOutcome, cardChecks, requestMaskChecks, releaseMaskChecks}
+use Rattle.facts.specs.Sockets.{CardTo, CardOutcome, requestMaskChecks, releaseMaskChecks}
 use Rattle.facts.specs.Resources.{Width, ByAction, AdjustIrq, AdjustIo, AddLevel, RemoveLevel, ShowLevel, AddRange, RemoveRange, ShowRange}
 use Rattle.facts.specs.Resources.{actionOf, ioRange, levelGiven, levelAttributes, baseGiven, countGiven, attributesGiven, linesGiven}
 use Rattle.facts.specs.Resources.{adjustChecks, addLevelChecks, removeLevelChecks, showLevelChecks, addRangeChecks, removeRangeChecks}
 use Rattle.facts.specs.Resources.{showRangeChecks}
-use Rattle.facts.specs.Irq.{Sharers, Count, irqRequestChecks, irqReleaseChecks, sharersChecks}
+use Rattle.facts.specs.Irq.{Sharers, Count, irqRequestChecks, irqReleaseChecks}
 use Rattle.facts.specs.Io.{ioRequestChecks, ioReleaseChecks}
 use Rattle.facts.specs.Boot.{Boot, Booted, done, broken, refused, added, recordSize, recordChecks, recordsAdded, recordAdded}
 use Rattle.facts.specs.Services.{Service, registerClient, deregisterClient, adjustResourceInfo, requestIrq, releaseIrq, requestIo, releaseIo}
@@ -84,45 +84,42 @@ pub sharers-refusal-zero : (F : Facts) (l : ℕ) (o : Count) → Sharers F l o �
 sharers-refusal-zero F l o (inl r) ne = r .1
 sharers-refusal-zero F l o (inr r) ne = absurd (ne (r .1 .0))
 
--- each check gives a code but 00: a computed test
-abbrev pub noSuccess : List Check → Bool
+-- no check gives Success: a computed test
+abbrev noSuccess : List Check → Bool
 noSuccess [] = true
 noSuccess (c ∷ cs) = cond (eqb (numberOf (c .code)) 0) false (noSuccess cs)
 
-pub first-not-success : (cs : List Check) (k : Code) → T (noSuccess cs) → FirstGiven cs k → k ≢ Success
-first-not-success [] k t r e = r
-first-not-success (c ∷ cs) k t (inl r) e = rw (← (r .1), e) at t
-first-not-success (c ∷ cs) k t (inr r) e = first-not-success cs k (rest (eqb (numberOf (c .code)) 0) t) (r .1) e
+none-succeeds : (cs : List Check) → T (noSuccess cs) → NoSuccess cs
+none-succeeds [] t = tt
+none-succeeds (c ∷ cs) t = ((λ e. rw e at t), none-succeeds cs (rest (eqb (numberOf (c .code)) 0) t))
   where
     rest : (zero : Bool) → T (cond zero false (noSuccess cs)) → T (noSuccess cs)
     rest true t = absurd t
     rest false t = t
 
+pub first-not-success : (cs : List Check) (k : Code) → NoSuccess cs → FirstGiven cs k → k ≢ Success
+first-not-success [] k n r e = r
+first-not-success (c ∷ cs) k n (inl r) e = n .0 (sym (r .1) ∙ e)
+first-not-success (c ∷ cs) k n (inr r) e = first-not-success cs k (n .1) (r .1) e
+
 -- so it is done exactly where its checks pass
-module _ (cs : List Check) (t : T (noSuccess cs)) {F : Facts} {p : List ℕ} (D : Outcome → Type 0) (o : Outcome) where
+module _ (cs : List Check) (n : NoSuccess cs) {F : Facts} {p : List ℕ} (D : Outcome → Type 0) (o : Outcome) where
   pub ruled-then-success : RuledThen cs D F p o → o .code ≡ Success → Passed cs × D o
-  ruled-then-success (inl r) e = absurd (first-not-success cs (o .code) t (r .0) e)
+  ruled-then-success (inl r) e = absurd (first-not-success cs (o .code) n (r .0) e)
   ruled-then-success (inr r) e = r
 
   pub ruled-success : Ruled cs D F p o → (o .code ≡ Success) ↔ Passed cs
-  ruled-success (inl r) = (λ e. absurd (first-not-success cs (o .code) t (r .0) e), λ passed. absurd (first-not-passed cs (o .code) (r .0) passed))
+  ruled-success (inl r) = (λ e. absurd (first-not-success cs (o .code) n (r .0) e), λ passed. absurd (first-not-passed cs (o .code) (r .0) passed))
   ruled-success (inr r) = (λ e. r .0, λ passed. r .1 .0)
 
--- no check of any rule gives Success
-pub no-success : (F : Facts) (h : ℕ) (p : List ℕ) (w : Width) (x y a n : ℕ)
-    → T (noSuccess
-    (registerChecks F p ++ deregisterChecks F h p ++ adjustChecks p
-    ++ addLevelChecks F x a ++ removeLevelChecks F x a ++ showLevelChecks F n x
-    ++ addRangeChecks F x y a n ++ removeRangeChecks F x y a n ++ showRangeChecks w F n x
-    ++ irqRequestChecks F h p ++ irqReleaseChecks F h p ++ ioRequestChecks F h p ++ ioReleaseChecks F h p
-    ++ requestMaskChecks F h p ++ releaseMaskChecks F h p ++ cardChecks F x ++ sharersChecks x))
-no-success F h p w x y a n = tt
+pub no-success : (F : Facts) (h : ℕ) (p : List ℕ) (w : Width) (x y a n : ℕ) → NoSuccess (everyCheck F h p w x y a n)
+no-success F h p w x y a n = none-succeeds (everyCheck F h p w x y a n) tt
 
-pub record-no-success : (F : Facts) (b : List ℕ) → T (noSuccess (recordChecks F b))
-record-no-success F b = go (eqb (byte b 0) ioRange)
+pub record-no-success : (F : Facts) (b : List ℕ) → NoSuccess (recordChecks F b)
+record-no-success F b = none-succeeds (recordChecks F b) (go (eqb (byte b 0) ioRange))
   where
-    go : (io : Bool) → T (noSuccess (cond io (addRangeChecks F (long b 2) (long b 6) (byte b 1) Table.mostLines)
-        (addLevelChecks F (long b 2) (byte b 1))))
+    go : (io : Bool)
+        → T (noSuccess (cond io (addRangeChecks F (long b 2) (long b 6) (byte b 1) Table.mostLines) (addLevelChecks F (long b 2) (byte b 1))))
     go true = tt
     go false = tt
 

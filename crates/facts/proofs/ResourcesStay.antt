@@ -19,8 +19,7 @@ use Rattle.facts.specs.WellFormed.{WellFormed, Apart}
 use Rattle.facts.specs.Checks.{Outcome, Passed}
 use Rattle.facts.specs.Resources.{AdjustResourceInfo, AdjustIrq, AdjustIo, Width, inserted, withoutRange, ioRange}
 use Rattle.facts.specs.Resources.{addLevelChecks, removeLevelChecks, addRangeChecks, removeRangeChecks, levelAdded, levelRemoved, rangeAdded}
-use Rattle.facts.specs.Resources.{rangeRemoved, reserveBit}
-use Rattle.facts.specs.Resources.{levelGiven, levelAttributes, baseGiven, countGiven, attributesGiven, linesGiven}
+use Rattle.facts.specs.Resources.{rangeRemoved, reserveBit, levelGiven, levelAttributes, baseGiven, countGiven, attributesGiven, linesGiven}
 use Rattle.facts.specs.Boot.{Boot, Booted, done, broken, refused, added, recordAdded, recordChecks}
 use Rattle.facts.proofs.Sets.{without-in, in-without, without-fewer, apart-without}
 use Rattle.facts.proofs.Unique.{range-unique}

@@ -89,6 +89,11 @@ module _ {A : Type 0} where
   length-map f [] = refl
   length-map f (y ∷ s) = ap suc (length-map f s)
 
+  -- one found again by its number, among those listed
+  abbrev pub found : (A → ℕ) → A → ℕ → List A → A
+  found number other n [] = other
+  found number other n (y ∷ s) = cond (eqb (number y) n) y (found number other n s)
+
   -- one left out, by its number
   module _ (number : A → ℕ) (n : ℕ) where
     -- its two cases

@@ -23,8 +23,7 @@ use Rattle.facts.specs.Resources.{ShowLevel, AddRange, RemoveRange, Show
 use Rattle.facts.specs.Resources.{LevelHeld, LevelHolder, LevelShown, RangeHeld, RangeHolder, RangeShown, unheld, of-type, one-alone, all-share}
 use Rattle.facts.specs.Resources.{actionOf, first, next, levelGiven, levelAttributes, baseGiven, countGiven, attributesGiven, linesGiven}
 use Rattle.facts.specs.Resources.{adjustChecks, addLevelChecks, removeLevelChecks, showLevelChecks, addRangeChecks, removeRangeChecks}
-use Rattle.facts.specs.Resources.{showRangeChecks}
-use Rattle.facts.specs.Resources.{showingLevel, showingRange}
+use Rattle.facts.specs.Resources.{showRangeChecks, showingLevel, showingRange}
 use Rattle.facts.specs.Levels.{typeOf}
 use Rattle.facts.specs.Packets.{withWord}
 use Rattle.facts.specs.Irq.{RequestIrq, ReleaseIrq, Sharers, Count, irqRequestChecks, irqReleaseChecks, sharersChecks, irqGrant, assigning}
@@ -33,6 +32,7 @@ use Rattle.facts.specs.Io.{RequestIo, ReleaseIo, BaseTaken, ioRequestChe
 use Rattle.facts.specs.Boot.{Boot, Booted, done, broken, refused, added, stopped, recordChecks}
 use Rattle.facts.specs.Services.{Service, registerClient, deregisterClient, adjustResourceInfo, requestIrq, releaseIrq, requestIo, releaseIo}
 use Rattle.facts.specs.Services.{requestSocketMask, releaseSocketMask, serviceNumber, ruleOf, Call}
+use Rattle.facts.proofs.Sets.{found}
 
 -- the first check that applies is one, and where one applies they don't all pass
 pub first-unique : (cs : List Check) (k k′ : Code) → FirstGiven cs k → FirstGiven cs k′ → k ≡ k′
@@ -166,17 +166,13 @@ by-action A R S F h p u v w =
     (either-coincide (λ o o′ b c. listed-apart (b .0) (omega arith) (c .0)) (under-coincide v) (under-coincide w))
 
 -- a service is found again by its number among the nine: so a number is one service's
-abbrev found : ℕ → List Service → Service
-found n [] = registerClient
-found n (s ∷ ss) = cond (eqb (serviceNumber s) n) s (found n ss)
-
 abbrev services : List Service
 services =
     registerClient ∷ deregisterClient ∷ adjustResourceInfo ∷ requestIrq ∷ releaseIrq ∷ requestIo ∷ releaseIo ∷ requestSocketMask
     ∷ releaseSocketMask
     ∷ []
 
-found-again : (s : Service) → found (serviceNumber s) services ≡ s
+found-again : (s : Service) → found serviceNumber registerClient (serviceNumber s) services ≡ s
 found-again registerClient = refl
 found-again deregisterClient = refl
 found-again adjustResourceInfo = refl
@@ -188,7 +184,7 @@ found-again requestSocketMask = refl
 found-again releaseSocketMask = refl
 
 pub number-injective : (s t : Service) → serviceNumber s ≡ serviceNumber t → s ≡ t
-number-injective s t e = sym (found-again s) ∙ ap (λ (n : ℕ). found n services) e ∙ found-again t
+number-injective s t e = sym (found-again s) ∙ ap (λ (n : ℕ). found serviceNumber registerClient n services) e ∙ found-again t
 
 -- the nine services: AdjustResourceInfo where the ranges are apart, the others for any facts
 module _ (F : Facts) (h : ℕ) (p : List ℕ) where

@@ -20,7 +20,8 @@ use Rattle.facts.specs.Packets.{byte, word, withWord, bit}
 use Rattle.facts.specs.Sockets.{socketOf, requestChecks, releaseChecks}
 use Rattle.facts.specs.Checks.{Check, _gives_, Leaves, Outcome, Decided, Ruled, Rule}
 
--- "The 8-byte packet: socket and function at 0, attributes 2 bytes at 2, AssignedIRQ at 4, IRQInfo1 at 5, IRQInfo2 2 bytes at 6."
+-- RequestIRQ's packet (5.53). "The 8-byte packet: socket and function at 0, attributes 2 bytes at 2, AssignedIRQ at 4, IRQInfo1 at 5, IRQInfo2
+-- 2 bytes at 6."
 abbrev pub requestIrqLength : ℕ
 requestIrqLength = 8
 

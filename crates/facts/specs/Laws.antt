@@ -1,7 +1,7 @@
 -- The laws of the rules: what is proved of every service and of the host's calls. Assumes nothing.
 use mathlib.Core.Path.{_≡_}
 use mathlib.Core.Logic.{_⊎_, _≢_, _↔_}
-use mathlib.Core.List.{List, []}
+use mathlib.Core.List.{List, [], _∷_, _++_}
 use mathlib.Core.Bool.{Bool}
 use Prim.Native.Nat.{ℕ, _*_, _≤_}
 use lib.ListN.{length}
@@ -10,10 +10,13 @@ use Rattle.facts.specs.Table
 use Rattle.facts.specs.Table.{Facts, fresh}
 use Rattle.facts.specs.WellFormed.{WellFormed}
 use Rattle.facts.specs.Packets.{Bytes}
-use Rattle.facts.specs.Checks.{Outcome, Kept, Passed}
-use Rattle.facts.specs.Sockets.{CardOutcome, CardTo}
-use Rattle.facts.specs.Irq.{Count, Sharers, RequestIrq, NoLevelFits, irqAheadChecks}
-use Rattle.facts.specs.Io.{RequestIo, NotAllManaged, InTheWay, NoCandidate, baseAsked, ioAheadChecks}
+use Rattle.facts.specs.Checks.{Check, Outcome, Kept, Passed}
+use Rattle.facts.specs.Clients.{registerChecks, deregisterChecks}
+use Rattle.facts.specs.Sockets.{CardOutcome, CardTo, cardChecks, requestMaskChecks, releaseMaskChecks}
+use Rattle.facts.specs.Resources.{Width, adjustChecks, addLevelChecks, removeLevelChecks, showLevelChecks, addRangeChecks, removeRangeChecks}
+use Rattle.facts.specs.Resources.{showRangeChecks}
+use Rattle.facts.specs.Irq.{Count, Sharers, RequestIrq, NoLevelFits, irqAheadChecks, irqRequestChecks, irqReleaseChecks, sharersChecks}
+use Rattle.facts.specs.Io.{RequestIo, NotAllManaged, InTheWay, NoCandidate, baseAsked, ioAheadChecks, ioRequestChecks, ioReleaseChecks}
 use Rattle.facts.specs.Boot.{Booted, Boot, recordSize, recordsAdded}
 use Rattle.facts.specs.Services.{Service, registerClient, deregisterClient, adjustResourceInfo, requestIrq, releaseIrq, requestIo, releaseIo}
 use Rattle.facts.specs.Services.{requestSocketMask, releaseSocketMask, ruleOf}
@@ -38,9 +41,24 @@ BytesFor releaseIo p = Unit {0}
 BytesFor requestSocketMask p = Unit {0}
 BytesFor releaseSocketMask p = Unit {0}
 
+-- no check gives SUCCESS
+abbrev pub NoSuccess : List Check → Type 0
+NoSuccess [] = Unit {0}
+NoSuccess (c ∷ cs) = (c .code ≢ Success) × NoSuccess cs
+
+-- the checks of every service and of the host's calls; the boot list has those of Add
+abbrev pub everyCheck : Facts → ℕ → List ℕ → Width → ℕ → ℕ → ℕ → ℕ → List Check
+everyCheck F h p w x y a n =
+    registerChecks F p ++ deregisterChecks F h p ++ adjustChecks p
+    ++ addLevelChecks F x a ++ removeLevelChecks F x a ++ showLevelChecks F n x
+    ++ addRangeChecks F x y a n ++ removeRangeChecks F x y a n ++ showRangeChecks w F n x
+    ++ irqRequestChecks F h p ++ irqReleaseChecks F h p ++ ioRequestChecks F h p ++ ioReleaseChecks F h p
+    ++ requestMaskChecks F h p ++ releaseMaskChecks F h p ++ cardChecks F x ++ sharersChecks x
+
 -- of every service
 pub record ServiceLaws : Type 0 where
   pub one-outcome : (v : Service) (F : Facts) (h : ℕ) (p : List ℕ) → WellFormed F → Coincide (ruleOf v F h p)
+  pub no-success : (F : Facts) (h : ℕ) (p : List ℕ) (w : Width) (x y a n : ℕ) → NoSuccess (everyCheck F h p w x y a n)
   pub refusal-keeps : (v : Service) (F : Facts) (h : ℕ) (p : List ℕ) → RefusalKeeps F p (ruleOf v F h p)
   pub stays-formed : (v : Service) (F : Facts) (h : ℕ) (p : List ℕ) (o : Outcome) → WellFormed F → BytesFor v p → ruleOf v F h p o
       → WellFormed (o .facts)

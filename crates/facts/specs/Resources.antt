@@ -249,8 +249,11 @@ abbrev pub LowestHolder : Facts → Range → ℕ → Type 0
 LowestHolder F r = Lowest (λ h. (shares : Bool) × RangeHolder F r h shares)
 
 pub data RangeShown (F : Facts) (r : Range) (attributes handle : ℕ) : Type 0 where
+  -- there is no holder
   unheld : (RangeHeld F r → ⊥) → attributes ≡ 0 → handle ≡ 0 → RangeShown F r attributes handle
+  -- there is one that doesn't share
   one-alone : (h : ℕ) → RangeHolder F r h false → attributes ≡ heldBit → LowestHolder F r handle → RangeShown F r attributes handle
+  -- "there are holders and all of them share"
   all-share : RangeHeld F r → ((h : ℕ) → RangeHolder F r h false → ⊥) → attributes ≡ heldBit + sharedBit → LowestHolder F r handle
       → RangeShown F r attributes handle
 
@@ -273,7 +276,9 @@ pub record LevelHolder (F : Facts) (l h t : ℕ) : Type 0 where
   pub type : typeOf (grant .manner) ≡ t
 
 pub data LevelShown (F : Facts) (l attributes handle : ℕ) : Type 0 where
+  -- there is no holder
   unheld : (LevelHeld F l → ⊥) → attributes ≡ 0 → handle ≡ 0 → LevelShown F l attributes handle
+  -- there are holders, all of one type
   of-type : LevelHeld F l → ((h t : ℕ) → LevelHolder F l h t → attributes ≡ heldBit + t) → Lowest (λ h. (t : ℕ) × LevelHolder F l h t) handle
       → LevelShown F l attributes handle
 

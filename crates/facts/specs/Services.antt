@@ -43,7 +43,8 @@ pub record Serves (built : Service → Bool) (number : ℕ) : Type 0 where
   pub is-built : built service ≡ true
   pub number-is : serviceNumber service ≡ number
 
--- "Checks run in this order and the first that applies is given: table, service, length ..": a number that is no built service's is UNSUPPORTED_SERVICE
+-- "Checks run in this order and the first that applies is given: table, service, length ..": a number that is no built service's is
+-- UNSUPPORTED_SERVICE
 abbrev pub Call : (Service → Bool) → ℕ → Rule
 Call built number F h p o =
     ((s : Serves built number) × ruleOf (s .service) F h p o)

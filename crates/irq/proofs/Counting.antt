@@ -1,14 +1,16 @@
--- The number of sharers that the bytes say is the number of live grants. Assumes nothing.
+-- The number of sharers that the bytes say is the number of live grants, and how it is packed. Assumes nothing.
 use mathlib.Core.Path.{_≡_, refl, ap, ap₂, sym, _∙_}
 use mathlib.Core.Logic.{inl, inr, _≢_}
 use mathlib.Core.List.{List}
 use mathlib.Core.Bool.{Bool, cond}
-use Prim.Native.Nat.{ℕ, zero, suc, _+_, _≤_, _<_}
+use Prim.Native.Nat.{ℕ, zero, suc, _+_, _*_, _≤_, _<_}
 use native.Mathlib.Numerals.{add-one}
 use native.Mathlib.Omega.{arith}
 use lib.Dec.{eqb}
 use borrow.Author.Tests.{eq-eqb, ne-eqb}
+use Rattle.facts.specs.declared.Code.{Code}
 use Rattle.facts.specs.declared.Code.the-variants.{Success, BadIrq}
+use Rattle.facts.specs.Codes.{numberOf}
 use Rattle.facts.specs.Table
 use Rattle.facts.specs.Table.{IrqGrant}
 use Rattle.facts.specs.Packets.{byte, word}
@@ -18,7 +20,11 @@ use Rattle.layout.specs.Sound.{Accepted}
 use Rattle.layout.proofs.RoundTrip.{zero-test, positive-test}
 use Rattle.layout.proofs.Of
 use Rattle.layout.proofs.Of.{GrantOf}
-use Rattle.irq.specs.Sharing.{sharerIn, sharersIn}
+use Rattle.answers.specs.Answers.{packed}
+use Rattle.answers.proofs.Packing.{packs-success, packs-code}
+use Rattle.irq.specs.declared.SharerCount.{SharerCount}
+use Rattle.irq.specs.declared.SharerCount.the-variants.{Number, Refused}
+use Rattle.irq.specs.Sharing.{countOf, sharerIn, sharersIn}
 
 -- the cases of one socket
 module _ (b : List ℕ) (l s : ℕ) where
@@ -60,3 +66,13 @@ module _ (b : List ℕ) (a : Accepted b) (l : ℕ) where
   pub sharers-done : (n : ℕ) → l < Table.allLevels → n ≡ sharersIn b l (socketsIn b) → Sharers (a .facts) l (record { code = Success; count = n })
   sharers-done n h e =
       inr (((λ d. omega arith), tt), (refl, e ∙ ap (sharersIn b l) (Of.sockets-in b a) ∙ sharers-are (a .facts .sockets) (a .formed .sockets-most)))
+
+-- the number that packs a count
+abbrev countPacked : SharerCount → ℕ
+countPacked c = packed (countOf c .code) (countOf c .count)
+
+pub count-done : (c : SharerCount) (n : ℕ) → c ≡ Number n → 65536 * n ≡ countPacked c
+count-done c n e = packs-success n ∙ ap countPacked (sym e)
+
+pub count-refused : (c : SharerCount) (k : Code) (n : ℕ) → c ≡ Refused k → n ≡ numberOf k → n ≡ countPacked c
+count-refused c k n e m = packs-code k n m ∙ ap countPacked (sym e)

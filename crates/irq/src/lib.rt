@@ -13,7 +13,8 @@ ghost use Rattle.facts.specs.Table;
 ghost use Rattle.layout.specs.Layout.{tableSize};
 ghost use Rattle.layout.specs.Reading.{socketsIn};
 ghost use Rattle.layout.specs.Sound.{Accepted};
-ghost use Rattle.irq.specs.Sharing.{LevelIs, CountsSharers, sharerIn, sharersIn};
+ghost use Rattle.answers.specs.Answers.{packed};
+ghost use Rattle.irq.specs.Sharing.{LevelIs, CountsSharers, countOf, sharerIn, sharersIn};
 
 // One for a grant of the socket on the level, else none.
 fn sharer(t: &[u8], level: usize, socket: Socket) -> usize
@@ -77,4 +78,14 @@ pub fn sharers(t: &[u8], level: u32) -> SharerCount
         return SharerCount::Refused(Code::BadIrq);
     };
     SharerCount::Number(count(t, l) as u16)
+}
+
+// code + 65536 * count.
+pub fn pack(c: SharerCount) -> u32
+    ensures { λ r. ⌜ r ≡ packed (countOf c .code) (countOf c .count) ⌝ }
+{
+    match c {
+        SharerCount::Number(n) => 65536 * (n as u32),
+        SharerCount::Refused(code) => facts::number(code),
+    }
 }

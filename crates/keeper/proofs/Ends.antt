@@ -1,11 +1,9 @@
 -- The ways in which an entry ends, each with its permitted answer. Assumes nothing.
-use mathlib.Core.Path.{_≡_, refl, ap, sym, _∙_}
+use mathlib.Core.Path.{_≡_, refl, sym}
 use mathlib.Core.Logic.{inl, inr, _≢_}
 use mathlib.Core.List.{List}
 use mathlib.Core.Bool.{Bool, true, false≢true}
-use Prim.Native.Nat.{ℕ, _*_}
-use native.Mathlib.Nat.{add-zero, zero-add}
-use Rattle.facts.specs.declared.Code.{Code}
+use Prim.Native.Nat.{ℕ}
 use Rattle.facts.specs.declared.Code.the-variants.{UnsupportedService, GeneralFailure}
 use Rattle.facts.specs.Codes.{numberOf}
 use Rattle.facts.specs.Table.{Facts}
@@ -14,14 +12,9 @@ use Rattle.facts.specs.Services.{requestSocketMask, releaseSocketMask, Serves, 
 use Rattle.layout.specs.Sound.{Accepted}
 use Rattle.layout.specs.Served.{ServedBy, TableRefused}
 use Rattle.answers.specs.declared.Answer.{Answer}
-use Rattle.answers.specs.declared.Answer.the-variants.{Done, Refused}
-use Rattle.answers.specs.Answers.{codeOf, handleOf}
+use Rattle.answers.specs.Answers.{packed, codeOf, handleOf}
 use Rattle.answers.proofs.Serve.{kept, stays}
-use Rattle.irq.specs.declared.SharerCount.{SharerCount}
-use Rattle.irq.specs.declared.SharerCount.the-variants.{Number}
-use Rattle.irq.specs.declared.SharerCount.the-variants as sharers
-use Rattle.irq.specs.Sharing.{countOf}
-use Rattle.keeper.specs.Entries.{packed, built, CallAnswers, CardAnswers, SharersAnswers}
+use Rattle.keeper.specs.Entries.{built, CallAnswers, CardAnswers, SharersAnswers}
 
 -- no well-formed set has these bytes
 module _ (b : List ℕ) (none : Accepted b → ⊥) where
@@ -85,19 +78,3 @@ by-service v t b b′ p p′ n h r a i s e =
             table = s .table;
           });
     }
-
--- the answers' numbers
-pub pack-done : (a : Answer) (h : ℕ) → a ≡ Done (record { 0 = h }) → 65536 * h ≡ packed (codeOf a) (handleOf a)
-pack-done a h e = sym (zero-add (65536 * h)) ∙ ap (λ (x : Answer). packed (codeOf x) (handleOf x)) (sym e)
-
-pub pack-refused : (a : Answer) (k : Code) (n : ℕ) → a ≡ Refused k → n ≡ numberOf k → n ≡ packed (codeOf a) (handleOf a)
-pack-refused a k n e m = m ∙ sym (add-zero (numberOf k)) ∙ ap (λ (x : Answer). packed (codeOf x) (handleOf x)) (sym e)
-
-abbrev countPacked : SharerCount → ℕ
-countPacked c = packed (countOf c .code) (countOf c .count)
-
-pub count-done : (c : SharerCount) (n : ℕ) → c ≡ Number n → 65536 * n ≡ countPacked c
-count-done c n e = sym (zero-add (65536 * n)) ∙ ap countPacked (sym e)
-
-pub count-refused : (c : SharerCount) (k : Code) (n : ℕ) → c ≡ sharers.Refused k → n ≡ numberOf k → n ≡ countPacked c
-count-refused c k n e m = m ∙ sym (add-zero (numberOf k)) ∙ ap countPacked (sym e)

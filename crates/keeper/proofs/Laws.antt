@@ -1,6 +1,6 @@
 -- The laws that specs/Laws states hold. Assumes nothing.
 use mathlib.Core.Path.{_≡_, refl, ap, ap₂, sym, _∙_, subst}
-use mathlib.Core.Logic.{_⊎_, inl, inr, ⊎-elim, _≢_}
+use mathlib.Core.Logic.{inl, inr, ⊎-elim, _≢_}
 use mathlib.Core.List.{List}
 use mathlib.Core.Bool.{Bool, true, false≢true}
 use Prim.Native.Nat.{ℕ}
@@ -17,6 +17,7 @@ use Rattle.facts.specs.Boot.{Booted, Boot, stopped, recordsAdded}
 use Rattle.facts.specs.Services.{Service, registerClient, deregisterClient, adjustResourceInfo, requestIrq, releaseIrq, requestIo, releaseIo}
 use Rattle.facts.specs.Services.{requestSocketMask, releaseSocketMask, ruleOf, Call}
 use Rattle.facts.specs.Laws.{BytesFor, Coincide}
+use Rattle.facts.proofs.Codes.{code-byte}
 use Rattle.facts.proofs.Unique.{call-unique}
 use Rattle.facts.proofs.Refusals.{call-refusal-keeps}
 use Rattle.facts.proofs.Laws.{service-laws, host-laws}
@@ -24,8 +25,14 @@ use Rattle.layout.specs.Layout.{image}
 use Rattle.layout.specs.Sound.{Accepted}
 use Rattle.layout.specs.Served.{Served, TableRefused}
 use Rattle.layout.proofs.Accepts.{one-set}
-use Rattle.keeper.specs.Entries.{packed, placed, built, CallPermitted, CardPermitted, SharersPermitted, BootPermitted, CallAnswers, CardAnswers, SharersAnswers, FreshAnswers, BootAnswers}
-use Rattle.keeper.specs.Laws.{Laws, CallLaws, CardLaws, SharersLaws, FreshLaws, BootLaws}
+use Rattle.answers.specs.Answers.{packed}
+use Rattle.keeper.specs.Entries.{placed, built, CallPermitted, CardPermitted, SharersPermitted, BootPermitted, CallAnswers, CardAnswers}
+use Rattle.keeper.specs.Entries.{SharersAnswers, FreshAnswers, BootAnswers}
+use Rattle.keeper.specs.Laws.{Laws, TakenApart, CallLaws, CardLaws, SharersLaws, FreshLaws, BootLaws}
+
+-- a code is below 65536, so what is packed with it can be taken apart
+taken-apart : (r : ℕ) (k : Code) (n : ℕ) → r ≡ packed k n → TakenApart r k n
+taken-apart r k n e = (omega (arith, e, code-byte k), omega (arith, e, code-byte k))
 
 -- a table says one set of facts
 facts-one : {b : List ℕ} (a a′ : Accepted b) → a .facts ≡ a′ .facts
@@ -116,6 +123,7 @@ module _ (service handle : ℕ) (b p : List ℕ) where
         refusal = call-refusal;
         unformed = λ b₁ p₁ r x none. ⊎-elim (λ s. absurd (none (s .accepted))) (λ u. u .0 .code-is) (x .permitted);
         stays = call-stays;
+        taken-apart = λ b₁ p₁ r x. taken-apart r (x .code) (x .answered) (x .packs);
       }
 
 -- cs_card_in and cs_card_out
@@ -177,6 +185,7 @@ module _ (level : ℕ) (b : List ℕ) where
         refusal = λ r x d. ⊎-elim (λ s. host-laws .count-refusal (s .0 .facts) level _ (s .1) d) (λ u. u .1) (x .permitted);
         unformed = λ r x none. ⊎-elim (λ s. absurd (none (s .0))) (λ u. u .0 .code-is) (x .permitted);
         most = λ r x. ⊎-elim (λ s. host-laws .count-most (s .0 .facts) level _ (s .0 .formed) (s .1)) (λ u. omega (arith, u .1)) (x .permitted);
+        taken-apart = λ r x. taken-apart r (x .code) (x .count) (x .packs);
       }
 
 -- cs_fresh

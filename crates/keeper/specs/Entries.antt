@@ -19,10 +19,7 @@ use Rattle.layout.specs.Layout
 use Rattle.layout.specs.Layout.{image}
 use Rattle.layout.specs.Sound.{Accepted}
 use Rattle.layout.specs.Served.{Served, ServedBy, TableRefused}
-
--- code + 65536 * handle, or code + 65536 * count
-abbrev pub packed : Code → ℕ → ℕ
-packed code number = numberOf code + 65536 * number
+use Rattle.answers.specs.Answers.{packed}
 
 -- code + 2^32 * place
 abbrev pub placed : Code → ℕ → ℕ

@@ -3,7 +3,8 @@ use mathlib.Core.Path.{_≡_}
 use mathlib.Core.Logic.{_≢_}
 use mathlib.Core.List.{List}
 use mathlib.Core.Bool.{Bool}
-use Prim.Native.Nat.{ℕ, _≤_}
+use Prim.Native.Nat.{ℕ, _/_, _%_, _≤_}
+use Rattle.facts.specs.declared.Code.{Code}
 use Rattle.facts.specs.declared.Code.the-variants.{Success, GeneralFailure}
 use Rattle.facts.specs.Codes.{numberOf}
 use Rattle.facts.specs.Table
@@ -11,6 +12,10 @@ use Rattle.layout.specs.Layout.{image}
 use Rattle.layout.specs.Sound.{Accepted}
 use Rattle.facts.specs.Boot.{recordsAdded}
 use Rattle.keeper.specs.Entries.{CallAnswers, CardAnswers, SharersAnswers, FreshAnswers, BootAnswers}
+
+-- the number answered can be taken apart again: its low 16 bits are the code, the rest is the handle or the count
+abbrev pub TakenApart : ℕ → Code → ℕ → Type 0
+TakenApart r code number = (r % 65536 ≡ numberOf code) × (r / 65536 ≡ number)
 
 -- cs_call
 pub record CallLaws (service handle : ℕ) (b p : List ℕ) : Type 0 where
@@ -23,6 +28,7 @@ pub record CallLaws (service handle : ℕ) (b p : List ℕ) : Type 0 where
   pub unformed : (b₁ p₁ : List ℕ) (r : ℕ) (x : CallAnswers service handle b b₁ p p₁ r) → (Accepted b → ⊥) → x .code ≡ GeneralFailure
   -- an accepted table stays accepted
   pub stays : (b₁ p₁ : List ℕ) (r : ℕ) → Accepted b → CallAnswers service handle b b₁ p p₁ r → Accepted b₁
+  pub taken-apart : (b₁ p₁ : List ℕ) (r : ℕ) (x : CallAnswers service handle b b₁ p p₁ r) → TakenApart r (x .code) (x .answered)
 
 -- cs_card_in and cs_card_out
 pub record CardLaws (present : Bool) (socket : ℕ) (b : List ℕ) : Type 0 where
@@ -38,6 +44,7 @@ pub record SharersLaws (level : ℕ) (b : List ℕ) : Type 0 where
   pub refusal : (r : ℕ) (x : SharersAnswers level b r) → x .code ≢ Success → x .count ≡ 0
   pub unformed : (r : ℕ) (x : SharersAnswers level b r) → (Accepted b → ⊥) → x .code ≡ GeneralFailure
   pub most : (r : ℕ) (x : SharersAnswers level b r) → x .count ≤ Table.mostSockets
+  pub taken-apart : (r : ℕ) (x : SharersAnswers level b r) → TakenApart r (x .code) (x .count)
 
 -- cs_fresh
 pub record FreshLaws (sockets : ℕ) (b : List ℕ) : Type 0 where

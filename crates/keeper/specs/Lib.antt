@@ -1,4 +1,3 @@
 -- What the entries promise, and the laws of those promises. Assumes nothing.
 pub mod Entries
-pub mod Checks
 pub mod Laws

@@ -4,64 +4,19 @@ use answers::Size;
 use facts::Code;
 use facts::Handle;
 use facts::Socket;
-use irq::SharerCount;
-use layout::MOST_SOCKETS;
 use layout::TABLE_SIZE;
 use scan::Loaded;
+use sockets::SocketCount;
 ghost use mathlib.Core.Path.{_≡_};
 ghost use mathlib.Core.Bool.{true, false};
 ghost use Rattle.facts.specs.Codes.{numberOf};
-ghost use Rattle.answers.specs.Answers.{codeOf, handleOf};
-ghost use Rattle.irq.specs.Sharing.{countOf};
-ghost use Rattle.keeper.specs.Checks.{SocketsAre};
-ghost use Rattle.keeper.specs.Entries.{packed, CallAnswers, CardAnswers, SharersAnswers, FreshAnswers};
-
-// code + 65536 * handle.
-fn pack(a: Answer) -> u32
-    ensures { λ r. ⌜ r ≡ packed (codeOf a) (handleOf a) ⌝ }
-{
-    match a {
-        Answer::Done(h) => {
-            let handle = h.0;
-            65536 * (handle as u32)
-        }
-        Answer::Refused(code) => facts::number(code),
-    }
-}
-
-// code + 65536 * count.
-fn pack_count(c: SharerCount) -> u32
-    ensures { λ r. ⌜ r ≡ packed (countOf c .code) (countOf c .count) ⌝ }
-{
-    match c {
-        SharerCount::Number(n) => 65536 * (n as u32),
-        SharerCount::Refused(code) => facts::number(code),
-    }
-}
+ghost use Rattle.keeper.specs.Entries.{CallAnswers, CardAnswers, SharersAnswers, FreshAnswers};
 
 // The answer where no well-formed set has the table's bytes.
 fn unformed() -> u32
     ensures { λ r. ⌜ r ≡ numberOf Code.GeneralFailure ⌝ }
 {
     facts::number(Code::GeneralFailure)
-}
-
-// Whether a table may have so many sockets.
-pub enum SocketCount {
-    Allowed(u8),
-    Outside,
-}
-
-fn socket_count(sockets: u32) -> SocketCount
-    ensures { λ r. ⌜ SocketsAre sockets r ⌝ }
-{
-    if sockets == 0 {
-        return SocketCount::Outside;
-    }
-    if MOST_SOCKETS < sockets as usize {
-        return SocketCount::Outside;
-    }
-    SocketCount::Allowed(sockets as u8)
 }
 
 #[no_mangle]
@@ -71,7 +26,7 @@ pub extern "C" fn cs_fresh(table: &mut [u8], sockets: u32) -> u32
     let Size::Right = answers::sized(table, TABLE_SIZE) else {
         return unformed();
     };
-    let SocketCount::Allowed(n) = socket_count(sockets) else {
+    let SocketCount::Allowed(n) = sockets::socket_count(sockets) else {
         return unformed();
     };
     image::make_fresh(table, n);
@@ -87,9 +42,9 @@ pub extern "C" fn cs_call(table: &mut [u8], service: u16, handle: u16, packet: &
     };
     // DeregisterClient, RegisterClient, and every other number.
     match service {
-        0x02 => pack(clients::deregister(table, Handle(handle), packet)),
-        0x10 => pack(clients::register(table, packet)),
-        0x00..=0x01 | 0x03..=0x0F | 0x11..=0xFFFF => pack(Answer::Refused(
+        0x02 => answers::pack(clients::deregister(table, Handle(handle), packet)),
+        0x10 => answers::pack(clients::register(table, packet)),
+        0x00..=0x01 | 0x03..=0x0F | 0x11..=0xFFFF => answers::pack(Answer::Refused(
             Code::UnsupportedService,
         )),
     }
@@ -125,5 +80,5 @@ pub extern "C" fn cs_sharers(table: &[u8], level: u32) -> u32
     let Loaded::Formed = scan::load(table) else {
         return unformed();
     };
-    pack_count(irq::sharers(table, level))
+    irq::pack(irq::sharers(table, level))
 }

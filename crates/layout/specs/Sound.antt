@@ -23,6 +23,13 @@ pub record Accepted (b : List ℕ) : Type 0 where
 abbrev pub Zero : List ℕ → ℕ → ℕ → Type 0
 Zero b from to = (i : ℕ) → from ≤ i → i < to → byte b i ≡ 0
 
+-- "socket count 1 to 8 .. up to 16 live clients .. up to 32 managed I/O ranges"
+pub record CountsSound (b : List ℕ) : Type 0 where
+  pub sockets-least : 1 ≤ socketsIn b
+  pub sockets-most : socketsIn b ≤ Table.mostSockets
+  pub clients-most : clientsIn b ≤ Table.mostClients
+  pub ranges-most : rangesIn b ≤ Table.mostRanges
+
 pub record CardSound (b : List ℕ) (s : ℕ) : Type 0 where
   pub mark : byte b (Layout.cardsAt + s) ≤ 1
   pub socket : byte b (Layout.cardsAt + s) ≡ 1 → s < socketsIn b
@@ -48,6 +55,10 @@ pub record ClientSound (b : List ℕ) (low i : ℕ) : Type 0 where
   pub attributes : AttributesAllowed (word b (clientPlace i + 2))
   pub events : EventsAllowed (word b (clientPlace i + 4))
   pub masks : (s : ℕ) → s < Table.mostSockets → MaskSound b i s
+
+-- every client's record, each handle over the one before it
+abbrev pub ClientsSound : List ℕ → Type 0
+ClientsSound b = (i : ℕ) → i < clientsIn b → ClientSound b (handleBefore b i) i
 
 abbrev pub rangeBase : List ℕ → ℕ → ℕ
 rangeBase b i = word b (rangePlace i)
@@ -126,7 +137,7 @@ pub record Sound (b : List ℕ) : Type 0 where
   pub cards : (s : ℕ) → s < Table.mostSockets → CardSound b s
   pub levels : (l : ℕ) → l < Table.allLevels → LevelSound b l
   pub clients-most : clientsIn b ≤ Table.mostClients
-  pub clients : (i : ℕ) → i < clientsIn b → ClientSound b (handleBefore b i) i
+  pub clients : ClientsSound b
   pub clients-end : Zero b (clientPlace (clientsIn b)) Layout.rangesAt
   pub ranges-most : rangesIn b ≤ Table.mostRanges
   pub ranges : RangesSound b

@@ -17,6 +17,9 @@ pub const ALL_PORTS: usize = 65536;
 
 pub const MOST_LINES: usize = 16;
 
+// A mark is 0 or 1.
+pub const MARKED: usize = 1;
+
 // Where each part of the table begins, and the size of its records.
 pub const TABLE_SIZE: usize = 8192;
 

@@ -2,3 +2,4 @@
 pub mod All
 pub mod Some
 pub mod Passing
+pub mod Zeros

@@ -18,7 +18,7 @@ ghost use Rattle.facts.specs.Ports.{Within};
 ghost use Rattle.facts.specs.WellFormed.{AttributesAllowed};
 ghost use Rattle.layout.specs.Layout.{tableSize};
 ghost use Rattle.layout.specs.Reading.{clientsIn, rangesIn, mannerOf};
-ghost use Rattle.layout.specs.Sound.{LiveIn, ManagedIn, RangesSound, rangeBase, rangeCount};
+ghost use Rattle.layout.specs.Sound.{Zero, LiveIn, ManagedIn, RangesSound, rangeBase, rangeCount};
 ghost use Rattle.reading.specs.Finding.{Finds, Passes};
 
 // How many numbers one byte and two bytes hold.
@@ -65,6 +65,20 @@ pub fn handle(t: &[u8], at: usize) -> Handle
     ensures { λ r. ⌜ (r .0 ≡ Packets.word (now (t .entry)) at) ⌝ }
 {
     Handle(word(t, at) as u16)
+}
+
+// Whether the bytes from one place up to another are zero: all of them or-ed together, with no early exit.
+pub fn zero(t: &[u8], from: usize, to: usize) -> bool
+    requires { ⌜ (from ≤ to) × (to ≤ length (now t)) ⌝ }
+    ensures { λ r. ⌜ Says r (Zero (now (t .entry)) from to) ⌝ }
+{
+    let mut all: u8 = 0;
+    let mut i = from;
+    while i < to {
+        all = all | t[i];
+        i += 1;
+    }
+    all == 0
 }
 
 // "Attribute bits or client types that 5.37 doesn't allow": one of bits 0 to 2, any of bits 3 and 4, no other.

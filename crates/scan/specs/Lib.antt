@@ -1,3 +1,2 @@
 -- What the contracts of `scan` cite. Assumes nothing.
-pub mod Parts
 pub mod Loading

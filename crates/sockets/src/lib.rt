@@ -1,12 +1,32 @@
-// Card in and card out, on a table that is the image of a well-formed set.
+// How many sockets a table may have; card in and card out, on a table that is the image of a well-formed set.
 use answers::Counted;
 use facts::Code;
 use facts::Socket;
 use layout::CARDS_AT;
+use layout::MOST_SOCKETS;
 ghost use Rattle.facts.specs.Table.{Facts};
 ghost use Rattle.facts.specs.Sockets.{CardTo};
 ghost use Rattle.layout.specs.Sound.{Accepted};
 ghost use Rattle.layout.specs.Served.{Served};
+ghost use Rattle.sockets.specs.Counts.{SocketsAre};
+
+// Whether a table may have so many sockets.
+pub enum SocketCount {
+    Allowed(u8),
+    Outside,
+}
+
+pub fn socket_count(sockets: u32) -> SocketCount
+    ensures { λ r. ⌜ SocketsAre sockets r ⌝ }
+{
+    if sockets == 0 {
+        return SocketCount::Outside;
+    }
+    if MOST_SOCKETS < sockets as usize {
+        return SocketCount::Outside;
+    }
+    SocketCount::Allowed(sockets as u8)
+}
 
 // The card's byte says whether a card is present.
 pub fn card(t: &mut [u8], socket: Socket, present: bool) -> Code

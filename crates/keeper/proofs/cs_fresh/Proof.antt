@@ -11,8 +11,8 @@ use denote.Ref.{now}
 use Rattle.facts.specs.Table.{fresh}
 use Rattle.layout.specs.Layout.{image, tableSize}
 use Rattle.answers.specs.Answers.{SizeIs}
-use Rattle.keeper.specs.declared.SocketCount.the-variants.{Allowed}
-use Rattle.keeper.specs.Checks.{SocketsAre}
+use Rattle.sockets.specs.declared.SocketCount.the-variants.{Allowed}
+use Rattle.sockets.specs.Counts.{SocketsAre}
 use Rattle.keeper.specs.Entries.{FreshAllowed}
 use Rattle.keeper.proofs.cs_fresh.Statement.{statement}
 use Rattle.keeper.proofs.cs_fresh.Tie as tie

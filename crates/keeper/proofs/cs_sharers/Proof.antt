@@ -48,13 +48,13 @@ returns c =
 sharers-requires : tie.Need-sharers-requires
 sharers-requires c κs = formed c
 
-pack-count-requires : tie.Need-pack-count-requires
-pack-count-requires c κs = search needs
+pack-requires : tie.Need-pack-requires
+pack-requires c κs = search needs
 
 returns-2 : tie.Need-returns-2
 returns-2 c =
     let n = countOf (c .before .sharers .result) in
-    record { code = n .code; count = n .count; packs = c .pack-count .ensures; permitted = inl (c .before .sharers .ensures) }
+    record { code = n .code; count = n .count; packs = c .pack .ensures; permitted = inl (c .before .sharers .ensures) }
 
 pub cs-sharers-spec : {M : Type 1} → statement M
 cs-sharers-spec =
@@ -66,5 +66,5 @@ cs-sharers-spec =
     unformed-requires
     returns
     sharers-requires
-    pack-count-requires
+    pack-requires
     returns-2)

@@ -5,8 +5,7 @@ use Prim.Native.Nat.{ℕ}
 use borrow.Author.Needs.{needs}
 use denote.Ref.{now}
 use Rattle.facts.proofs.Says.{says-false, says-as, says-yes, says-false-by}
-use Rattle.layout.specs.Sound.{RangesSound}
-use Rattle.scan.specs.Parts.{CountsSound, ClientsSound}
+use Rattle.layout.specs.Sound.{RangesSound, CountsSound, ClientsSound}
 use Rattle.scan.proofs.sound.Statement.{statement}
 use Rattle.scan.proofs.sound.Tie as tie
 

@@ -1,0 +1,2 @@
+-- Laws of the records of grants. Assumes nothing.
+pub mod Records

@@ -1,0 +1,62 @@
+-- A grant read field by field is the grant that its record says; and two grants are held against each other where both are there. Assumes nothing.
+use mathlib.Core.Path.{_≡_}
+use mathlib.Core.Logic.{⊎-elim}
+use mathlib.Core.List.{List}
+use mathlib.Core.Bool.{Bool, true, false, not}
+use Prim.Native.Nat.{ℕ, _+_, _≤_}
+use native.Mathlib.Omega.{arith}
+use borrow.Author.Tests.{eq-eqb, eqb-true}
+use Rattle.facts.specs.Table
+use Rattle.facts.specs.Says.{Says}
+use Rattle.facts.specs.Packets.{byte, word}
+use Rattle.facts.specs.Ports.{Within}
+use Rattle.facts.specs.Levels.{Together}
+use Rattle.facts.proofs.Says.{says-true, says-as, says-yes, says-no}
+use Rattle.layout.specs.Reading.{ioPlace, irqPlace, ioIn, irqIn, mannerOf}
+use Rattle.layout.specs.Sound.{ManagedIn, IoPlaceSound}
+use Rattle.grants.specs.declared.ios.Ports.{Ports}
+use Rattle.grants.specs.Parts.{PortsAt}
+
+-- whether the ports that a record says are managed
+abbrev Managed : List ℕ → ℕ → ℕ → Type 0
+Managed b base count = (q : ℕ) → Within q base count → ManagedIn b q
+
+pub managed-read : {b : List ℕ} {at : ℕ} {p : Ports} {r : Bool} → PortsAt b at p → Says r (Managed b (p .base) (p .count))
+    → Says r (Managed b (word b (at + 2)) (byte b (at + 4)))
+managed-read a s = rw (a .base, a .count) at s
+
+module _ (b : List ℕ) (s : ℕ) where
+  pub ports-read : {p : Ports} → PortsAt b (ioPlace s) p
+      → _≡_ {A = Table.Ports} (record { base = p .base; count = p .count; lines = p .lines }) (ioIn b s .ports)
+  unfolding ioIn
+  ports-read a = λ i. record { base = a .base i; count = a .count i; lines = a .lines i }
+
+  pub marked-shared : byte b (ioPlace s + 6) ≡ 1 → ioIn b s .shared ≡ true
+  unfolding ioIn
+  marked-shared e = eq-eqb (byte b (ioPlace s + 6)) 1 e
+
+  pub shared-marked : ioIn b s .shared ≡ true → byte b (ioPlace s + 6) ≡ 1
+  unfolding ioIn
+  shared-marked e = eqb-true (byte b (ioPlace s + 6)) 1 e
+
+  pub level-read : {n : ℕ} → n ≡ byte b (irqPlace s + 2) → n ≡ irqIn b s .level
+  unfolding irqIn
+  level-read e = e
+
+  pub lines-most : {p : Ports} → IoPlaceSound b s → PortsAt b (ioPlace s) p → p .lines ≤ Table.mostLines
+  lines-most i a =
+      ⊎-elim (λ z. omega (arith, z (ioPlace s + 5) (omega arith) (omega arith), a .lines)) (λ g. omega (arith, g .1 .lines, a .lines)) i
+
+-- whether the manners that two records say go together
+pub manners-read : (b : List ℕ) (s t : ℕ) {r : Bool} → Says r (Together (mannerOf (byte b (irqPlace s + 3))) (mannerOf (byte b (irqPlace t + 3))))
+    → Says r (Together (irqIn b s .manner) (irqIn b t .manner))
+unfolding irqIn
+manners-read b s t a = a
+
+-- two records that may have a client each, and P where both have
+module _ {both : Bool} {A A′ P : Type 0} (used : Says both (A × A′)) where
+  pub apart-says : not both ≡ true → Says true (A → A′ → P)
+  apart-says e = says-true (λ a a′. absurd (says-no used e (a, a′)))
+
+  pub company-says : {r : Bool} → not both ≡ false → Says r P → Says r (A → A′ → P)
+  company-says e s = let here = says-yes used e in says-as s (λ p a a′. p) (λ f. f (here .0) (here .1))

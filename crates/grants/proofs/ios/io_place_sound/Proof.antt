@@ -1,0 +1,120 @@
+-- `grants::ios::io_place_sound` meets its contract: a record that is not zero is a grant if each test passes.
+-- Assumes nothing.
+use mathlib.Core.Logic.{inl}
+use Prim.Native.Nat.{_+_}
+use native.Mathlib.Omega.{arith}
+use borrow.Author.Needs.{needs}
+use denote.Ref.{now}
+use Rattle.facts.proofs.Says.{says-true, says-yes, says-no}
+use Rattle.layout.specs.Layout.{ioSize}
+use Rattle.layout.specs.Reading.{ioPlace}
+use Rattle.layout.specs.Sound.{Zero}
+use Rattle.reading.proofs.Zeros.{place-false, place-says, live-used}
+use Rattle.grants.proofs.ios.io_place_sound.Statement.{statement}
+use Rattle.grants.proofs.ios.io_place_sound.Tie as tie
+
+-- where the call began, and where the tests before one had passed
+abbrev begun : tie.Else1 → tie.Start
+begun c = c .before .before .before
+
+abbrev spared : tie.Else2 → tie.Else1
+spared c = c .before .before
+
+abbrev marked : tie.Else3 → tie.Else2
+marked c = c .before .before
+
+used : (c : tie.Else1) → let a = begun c .args in Zero (now (a .t)) (ioPlace (a .s .0)) (ioPlace (a .s .0) + ioSize) → ⊥
+used c = c .before .zero .ensures .fails (c .if1 .left)
+
+mul-at : tie.Need-mul-at
+mul-at c = search needs
+
+add-at : tie.Need-add-at
+add-at c = search needs
+
+add-end : tie.Need-add-end
+add-end c = search needs
+
+zero-requires : tie.Need-zero-requires
+zero-requires c κs = search needs
+
+returns : tie.Need-returns
+returns c = says-true (inl (c .before .zero .ensures .holds (c .if1 .taken)))
+
+add-zero : tie.Need-add-zero
+add-zero c = search needs
+
+zero-requires-2 : tie.Need-zero-requires-2
+zero-requires-2 c κs = search needs
+
+returns-2 : tie.Need-returns-2
+returns-2 c = place-false (used (c .before .before)) (λ g. says-no (c .before .zero2 .ensures) (c .if2 .taken) (g .spare))
+
+add-byte : tie.Need-add-byte
+add-byte c = search needs
+
+byte-requires : tie.Need-byte-requires
+byte-requires c κs = search needs
+
+returns-3 : tie.Need-returns-3
+returns-3 c = place-false (used (spared (c .before .before))) (λ g. omega arith)
+
+ports-sound-requires : tie.Need-ports-sound-requires
+ports-sound-requires c κs =
+    let pre = begun (spared (marked c)) .pre in
+    (pre .0, pre .2 .ranges-most, pre .4, omega arith)
+
+returns-4 : tie.Need-returns-4
+returns-4 c =
+    place-false (used (spared (marked (c .before .before))))
+    (λ g. says-no (c .before .ports-sound .ensures) (c .if4 .taken)
+    (record { base = g .base; port = g .port; line = g .line; lines = g .lines; decoded = g .decoded; managed = g .managed }))
+
+holder-sound-requires : tie.Need-holder-sound-requires
+holder-sound-requires c κs =
+    let pre = begun (spared (marked (c .before .before))) .pre in
+    (pre .0, omega arith, pre .2 .clients-most)
+
+returns-5 : tie.Need-returns-5
+returns-5 c =
+    let tested = c .before .before .before in
+    let free = marked tested in
+    let begin = spared free in
+    let p = says-yes (c .before .before .ports-sound .ensures) (c .before .if4 .left) in
+    place-says (used begin) (c .holder-sound .ensures)
+    (λ h. (
+      live-used (now (begun begin .args .t)) (begun begin .pre .3) (h .client),
+      record {
+        client = h .client;
+        socket = h .socket;
+        base = p .base;
+        port = p .port;
+        line = p .line;
+        lines = p .lines;
+        decoded = p .decoded;
+        managed = p .managed;
+        mark = rw (tested .before .byte .ensures .0) at (tested .if3 .left);
+        spare = says-yes (free .before .zero2 .ensures) (free .if2 .left);
+      },
+    ))
+    (λ g. record { client = g .client; socket = g .socket })
+
+pub io-place-sound-spec : {M : Type 1} → statement M
+io-place-sound-spec =
+    tie.close
+    (tie.spec
+    mul-at
+    add-at
+    add-end
+    zero-requires
+    returns
+    add-zero
+    zero-requires-2
+    returns-2
+    add-byte
+    byte-requires
+    returns-3
+    ports-sound-requires
+    returns-4
+    holder-sound-requires
+    returns-5)

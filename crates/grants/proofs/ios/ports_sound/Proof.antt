@@ -1,0 +1,75 @@
+-- `grants::ios::ports_sound` meets its contract: each test decides a field of the record.
+-- Assumes nothing.
+use mathlib.Core.Path.{_≡_}
+use Prim.Native.Nat.{_+_, _^_}
+use native.Mathlib.Omega.{arith}
+use borrow.Author.Needs.{needs}
+use denote.Ref.{now}
+use Rattle.facts.specs.Packets.{byte}
+use Rattle.facts.proofs.Says.{says-false, says-as}
+use Rattle.grants.proofs.Records.{managed-read}
+use Rattle.grants.proofs.ios.ports_sound.Statement.{statement}
+use Rattle.grants.proofs.ios.ports_sound.Tie as tie
+
+-- where the ports had been read
+abbrev read : tie.Else3 → tie.After-ports-at
+read c = c .before .before .before
+
+power : (c : tie.After-power) → let a = read (c .before .before) .before .before .args in c .power .result ≡ 2 ^ byte (now (a .t)) (a .at + 5)
+power c = rw (read (c .before .before) .ports-at .ensures .lines) at (c .power .ensures)
+
+ports-at-requires : tie.Need-ports-at-requires
+ports-at-requires c κs = search needs
+
+returns : tie.Need-returns
+returns c = says-false (λ p. omega arith)
+
+returns-2 : tie.Need-returns-2
+returns-2 c = says-false (λ p. omega arith)
+
+returns-3 : tie.Need-returns-3
+returns-3 c = says-false (λ p. omega arith)
+
+returns-4 : tie.Need-returns-4
+returns-4 c = says-false (λ p. omega arith)
+
+power-requires : tie.Need-power-requires
+power-requires c κs = c .if4 .left
+
+returns-5 : tie.Need-returns-5
+returns-5 c = says-false (λ p. omega (arith, power (c .before)))
+
+managed-requires : tie.Need-managed-requires
+managed-requires c κs =
+    let known = read (c .before .before .before) in
+    let pre = known .before .before .pre in
+    ((pre .0, pre .1, pre .2), (known .ports-at .ensures .base-most, known .ports-at .ensures .count-most))
+
+returns-6 : tie.Need-returns-6
+returns-6 c =
+    let tested = c .before .before in
+    let ports = read (tested .before .before) .ports-at .ensures in
+    says-as (managed-read ports (c .managed .ensures))
+    (λ m. record {
+      base = omega arith;
+      port = omega arith;
+      line = omega arith;
+      lines = rw (ports .lines) at (tested .before .if4 .left);
+      decoded = rw (ports .count, power tested) at (c .before .if5 .left);
+      managed = m;
+    })
+    (λ p. p .managed)
+
+pub ports-sound-spec : {M : Type 1} → statement M
+ports-sound-spec =
+    tie.close
+    (tie.spec
+    ports-at-requires
+    returns
+    returns-2
+    returns-3
+    returns-4
+    power-requires
+    returns-5
+    managed-requires
+    returns-6)

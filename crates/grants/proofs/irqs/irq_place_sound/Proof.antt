@@ -1,0 +1,120 @@
+-- `grants::irqs::irq_place_sound` meets its contract: a record that is not zero is a grant if each test passes.
+-- Assumes nothing.
+use mathlib.Core.Logic.{inl}
+use mathlib.Core.Path.{_≡_, sym, _∙_}
+use Prim.Native.Nat.{_+_}
+use native.Mathlib.Omega.{arith}
+use borrow.Author.Needs.{needs}
+use denote.Ref.{now}
+use Rattle.facts.specs.Packets.{byte}
+use Rattle.facts.proofs.Says.{says-true}
+use Rattle.layout.specs.Layout.{irqSize}
+use Rattle.layout.specs.Reading.{irqPlace, levelPlace}
+use Rattle.layout.specs.Sound.{Zero}
+use Rattle.reading.proofs.Zeros.{place-false, place-says, live-used}
+use Rattle.grants.proofs.irqs.irq_place_sound.Statement.{statement}
+use Rattle.grants.proofs.irqs.irq_place_sound.Tie as tie
+
+-- where the call began, and where the record had been found used
+abbrev begun : tie.Else1 → tie.Start
+begun c = c .before .before .before
+
+abbrev read : tie.After-byte2 → tie.Else1
+read c = c .before .before .before
+
+used : (c : tie.Else1) → let a = begun c .args in Zero (now (a .t)) (irqPlace (a .s .0)) (irqPlace (a .s .0) + irqSize) → ⊥
+used c = c .before .zero .ensures .fails (c .if1 .left)
+
+level-byte : (c : tie.After-byte2) → let a = begun (read c) .args in let b = now (a .t) in
+    c .byte2 .result ≡ byte b (levelPlace (byte b (irqPlace (a .s .0) + 2)))
+level-byte c = rw (c .before .before .byte .ensures .0) at (c .byte2 .ensures .0)
+
+mul-at : tie.Need-mul-at
+mul-at c = search needs
+
+add-at : tie.Need-add-at
+add-at c = search needs
+
+add-zero : tie.Need-add-zero
+add-zero c = search needs
+
+zero-requires : tie.Need-zero-requires
+zero-requires c κs = search needs
+
+returns : tie.Need-returns
+returns c = says-true (inl (c .before .zero .ensures .holds (c .if1 .taken)))
+
+add-byte : tie.Need-add-byte
+add-byte c = search needs
+
+byte-requires : tie.Need-byte-requires
+byte-requires c κs = search needs
+
+returns-2 : tie.Need-returns-2
+returns-2 c = place-false (used (c .before .before)) (λ g. omega arith)
+
+mul-byte : tie.Need-mul-byte
+mul-byte c = search needs
+
+add-byte-2 : tie.Need-add-byte-2
+add-byte-2 c = search needs
+
+byte-requires-2 : tie.Need-byte-requires-2
+byte-requires-2 c κs = search needs
+
+returns-3 : tie.Need-returns-3
+returns-3 c = place-false (used (read (c .before))) (λ g. c .if3 .taken (level-byte (c .before) ∙ g .managed))
+
+add-byte-3 : tie.Need-add-byte-3
+add-byte-3 c = search needs
+
+byte-requires-3 : tie.Need-byte-requires-3
+byte-requires-3 c κs = search needs
+
+returns-4 : tie.Need-returns-4
+returns-4 c = place-false (used (read (c .before .before .before))) (λ g. omega arith)
+
+holder-sound-requires : tie.Need-holder-sound-requires
+holder-sound-requires c κs =
+    let pre = begun (read (c .before .before .before)) .pre in
+    (pre .0, omega arith, pre .2 .clients-most)
+
+returns-5 : tie.Need-returns-5
+returns-5 c =
+    let managed = c .before .before .before in
+    let begin = read (managed .before) in
+    let levelled = managed .before .before in
+    place-says (used begin) (c .holder-sound .ensures)
+    (λ h. (
+      live-used (now (begun begin .args .t)) (begun begin .pre .3) (h .client),
+      record {
+        client = h .client;
+        socket = h .socket;
+        level = rw (levelled .before .byte .ensures .0) at (levelled .if2 .left);
+        managed = sym (level-byte (managed .before)) ∙ managed .if3 .left;
+        manner = rw (c .before .before .byte3 .ensures .0) at (c .before .if4 .left);
+      },
+    ))
+    (λ g. record { client = g .client; socket = g .socket })
+
+pub irq-place-sound-spec : {M : Type 1} → statement M
+irq-place-sound-spec =
+    tie.close
+    (tie.spec
+    mul-at
+    add-at
+    add-zero
+    zero-requires
+    returns
+    add-byte
+    byte-requires
+    returns-2
+    mul-byte
+    add-byte-2
+    byte-requires-2
+    returns-3
+    add-byte-3
+    byte-requires-3
+    returns-4
+    holder-sound-requires
+    returns-5)

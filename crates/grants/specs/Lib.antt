@@ -1,0 +1,2 @@
+-- What the contracts of `grants` cite. Assumes nothing.
+pub mod Parts

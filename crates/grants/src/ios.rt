@@ -1,0 +1,134 @@
+// The I/O grants: a socket's record, and two sockets' records held against each other.
+use crate::sockets::both_used;
+use crate::sockets::holder_sound;
+use facts::Socket;
+use layout::IO_BASE;
+use layout::IO_COUNT;
+use layout::IO_LINES;
+use layout::IO_SHARED;
+use layout::IO_SIZE;
+use layout::IO_SPARE;
+use layout::IOS_AT;
+use layout::MARKED;
+use layout::MOST_LINES;
+ghost use mathlib.Core.Path.{_≡_};
+ghost use Prim.Native.Nat.{_+_, _<_, _≤_};
+ghost use lib.ListN.{length};
+ghost use Rattle.facts.specs.Table;
+ghost use Rattle.facts.specs.Says.{Says};
+ghost use Rattle.facts.specs.Packets;
+ghost use Rattle.facts.specs.Ports.{Meet};
+ghost use Rattle.layout.specs.Layout.{tableSize};
+ghost use Rattle.layout.specs.Reading.{rangesIn, ioIn};
+ghost use Rattle.layout.specs.Sound.{RangesSound, IoPlaceSound, IoPairSound, CountsSound, ClientsSound};
+ghost use Rattle.grants.specs.Parts.{PortsAt, PortsSound};
+
+// The ports of an I/O grant.
+pub struct Ports {
+    pub base: usize,
+    pub count: usize,
+    pub lines: usize,
+}
+
+fn ports_at(t: &[u8], at: usize) -> Ports
+    requires { ⌜ at + 5 < length (now t) ⌝ }
+    ensures { λ r. ⌜ PortsAt (now (t .entry)) at r ⌝ }
+{
+    let base = reading::word(t, at + IO_BASE);
+    let count = reading::byte(t, at + IO_COUNT);
+    let lines = reading::byte(t, at + IO_LINES);
+    Ports { base, count, lines }
+}
+
+// "granted .. ports are managed; an I/O grant has base 1 or more, lines 1 to 16 and a count RequestIO allows"
+fn ports_sound(t: &[u8], at: usize) -> bool
+    requires { ⌜ (length (now t) ≡ tableSize) × (rangesIn (now t) ≤ Table.mostRanges) × RangesSound (now t) × (at + 5 < tableSize) ⌝ }
+    ensures { λ r. ⌜ Says r (PortsSound (now (t .entry)) at) ⌝ }
+{
+    let p = ports_at(t, at);
+    let base = p.base;
+    let count = p.count;
+    let lines = p.lines;
+    if base == 0 {
+        return false;
+    }
+    if count == 0 {
+        return false;
+    }
+    if lines == 0 {
+        return false;
+    }
+    if MOST_LINES < lines {
+        return false;
+    }
+    if ports::power(lines) < count {
+        return false;
+    }
+    reading::managed(t, base, count)
+}
+
+// The I/O grant of the socket `s`, or a record that is all zero.
+pub fn io_place_sound(t: &[u8], s: Socket) -> bool
+    requires { ⌜ (length (now t) ≡ tableSize) × (s .0 < Table.mostSockets) × CountsSound (now t) × ClientsSound (now t) × RangesSound (now t) ⌝ }
+    ensures { λ r. ⌜ Says r (IoPlaceSound (now (t .entry)) (s .0)) ⌝ }
+{
+    let number = s.0;
+    let at = IOS_AT + number * IO_SIZE;
+    let end = at + IO_SIZE;
+    if reading::zero(t, at, end) {
+        return true;
+    }
+    if !reading::zero(t, at + IO_SPARE, end) {
+        return false;
+    }
+    if MARKED < reading::byte(t, at + IO_SHARED) {
+        return false;
+    }
+    if !ports_sound(t, at) {
+        return false;
+    }
+    holder_sound(t, at, s)
+}
+
+// Whether the ports of the I/O grants of two sockets meet.
+fn ios_meet(t: &[u8], s: Socket, u: Socket) -> bool
+    requires { ⌜ (length (now t) ≡ tableSize) × (s .0 < Table.mostSockets) × (u .0 < Table.mostSockets) ⌝ }
+    requires { ⌜ IoPlaceSound (now t) (s .0) × IoPlaceSound (now t) (u .0) ⌝ }
+    ensures { λ r. ⌜ Says r (Meet (ioIn (now (t .entry)) (s .0) .ports) (ioIn (now (t .entry)) (u .0) .ports)) ⌝ }
+{
+    let one = s.0;
+    let other = u.0;
+    let a = ports_at(t, IOS_AT + one * IO_SIZE);
+    let b = ports_at(t, IOS_AT + other * IO_SIZE);
+    ports::meets(a.base, a.count, a.lines, b.base, b.count, b.lines)
+}
+
+// Whether the grants whose records stand at two places are both shared.
+fn both_shared(t: &[u8], at: usize, other: usize) -> bool
+    requires { ⌜ (at + 6 < length (now t)) × (other + 6 < length (now t)) ⌝ }
+    ensures { λ r. ⌜ Says r ((Packets.byte (now (t .entry)) (at + 6) ≡ 1) × (Packets.byte (now (t .entry)) (other + 6) ≡ 1)) ⌝ }
+{
+    if reading::byte(t, at + IO_SHARED) != MARKED {
+        return false;
+    }
+    reading::byte(t, other + IO_SHARED) == MARKED
+}
+
+// "grants meet only as demand 3 allows"
+pub fn io_pair_sound(t: &[u8], s: Socket, u: Socket) -> bool
+    requires { ⌜ (length (now t) ≡ tableSize) × (s .0 < Table.mostSockets) × (u .0 < Table.mostSockets) ⌝ }
+    requires { ⌜ IoPlaceSound (now t) (s .0) × IoPlaceSound (now t) (u .0) ⌝ }
+    ensures { λ r. ⌜ Says r (IoPairSound (now (t .entry)) (s .0) (u .0)) ⌝ }
+{
+    let one = s.0;
+    let at = IOS_AT + one * IO_SIZE;
+    let two = u.0;
+    let other = IOS_AT + two * IO_SIZE;
+    if !both_used(t, at, other) {
+        return true;
+    }
+    if both_shared(t, at, other) {
+        return true;
+    }
+    !ios_meet(t, s, u)
+}

@@ -1,0 +1,2 @@
+-- Laws of the order of records. Assumes nothing.
+pub mod Order

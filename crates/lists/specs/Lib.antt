@@ -1,0 +1,2 @@
+-- What the contracts of `lists` cite. Assumes nothing.
+pub mod Parts

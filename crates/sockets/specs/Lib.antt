@@ -1,0 +1,2 @@
+-- What the contracts of `sockets` cite. Assumes nothing.
+pub mod Counts
