@@ -15,7 +15,7 @@
 #include "layout.h"
 #include "sets.h"
 
-enum { HEADER_SAYS_LESS_THAN = 600, RANDOM_TABLES = 100 };
+enum { HEADER_SAYS_LESS_THAN = 700, RANDOM_TABLES = 100 };
 
 static uint8_t table[CS_TABLE_SIZE];
 static volatile uint32_t answered;
@@ -58,13 +58,59 @@ static void deregister_client(void)
     answered = cs_call(table, sizeof table, CS_DEREGISTER_CLIENT, 1, NULL, 0);
 }
 
+/* AdjustResourceInfo with these bytes: each action in each form. */
+static uint8_t packet[CS_ADJUST_IO_LONG_LENGTH];
+
+#define ADJUST(name, ...)                                                                          \
+    static void name(void)                                                                         \
+    {                                                                                              \
+        static const uint8_t asked[] = {__VA_ARGS__};                                              \
+        memcpy(packet, asked, sizeof asked);                                                       \
+        answered = cs_call(table, sizeof table, CS_ADJUST_RESOURCE_INFO, 0, packet, sizeof asked); \
+    }
+
+ADJUST(add_level, CS_ACTION_ADD, CS_RESOURCE_IRQ, 0, 7)
+ADJUST(remove_level, CS_ACTION_REMOVE, CS_RESOURCE_IRQ, 0, 7)
+ADJUST(first_level, CS_ACTION_FIRST, CS_RESOURCE_IRQ, 0, 0)
+ADJUST(next_level, CS_ACTION_NEXT, CS_RESOURCE_IRQ, 0, 0)
+ADJUST(add_short, CS_ACTION_ADD, CS_RESOURCE_IO, 0x10, 0, 8, 0, 16)
+ADJUST(remove_short, CS_ACTION_REMOVE, CS_RESOURCE_IO, 0x00, 0x06, 16, 0, 16)
+ADJUST(first_short, CS_ACTION_FIRST, CS_RESOURCE_IO, 0, 0, 0, 0, 0)
+ADJUST(next_short, CS_ACTION_NEXT, CS_RESOURCE_IO, 0x00, 0x01, 0, 0, 0)
+ADJUST(add_long, CS_ACTION_ADD, CS_RESOURCE_IO, 0x10, 0, 0, 0, 8, 0, 0, 0, 0, 16)
+ADJUST(remove_long, CS_ACTION_REMOVE, CS_RESOURCE_IO, 0x00, 0x06, 0, 0, 16, 0, 0, 0, 0, 16)
+ADJUST(first_long, CS_ACTION_FIRST, CS_RESOURCE_IO, 0, 0, 0, 0, 0, 0, 0, 0, 0, 0)
+ADJUST(next_long, CS_ACTION_NEXT, CS_RESOURCE_IO, 0x00, 0x01, 0, 0, 0, 0, 0, 0, 0, 0)
+
+/* As many records as can be added, the lowest base last. */
+static uint8_t boot_list[CS_BOOT_MOST][CS_BOOT_RECORD];
+
+static void make_boot_list(void)
+{
+    for (unsigned i = 0; i < CS_BOOT_MOST; i++) {
+        uint8_t *record = boot_list[i];
+        record[0] = i < CS_LEVELS ? CS_RESOURCE_IRQ : CS_RESOURCE_IO;
+        record[i < CS_LEVELS ? 2 : 3] = (uint8_t)(i < CS_LEVELS ? i : CS_BOOT_MOST - i);
+        record[6] = 16;
+    }
+}
+
+static void boot(void)
+{
+    answered =
+        CS_BOOT_CODE(cs_boot(table, sizeof table, (const uint8_t *)boot_list, sizeof boot_list));
+}
+
 static void no_service(void)
 {
     answered = cs_call(table, sizeof table, 0xFFFF, 0, NULL, 0);
 }
 
-static void (*const calls[])(void) = {card_in,         card_out,          sharers,
-                                      register_client, deregister_client, no_service};
+static void (*const calls[])(void) = {card_in,           card_out,  sharers,      register_client,
+                                      deregister_client, add_level, remove_level, first_level,
+                                      next_level,        add_short, remove_short, first_short,
+                                      next_short,        add_long,  remove_long,  first_long,
+                                      next_long,         boot,      no_service};
 enum { CALLS = sizeof calls / sizeof *calls };
 
 static void plain_c(void)
@@ -141,6 +187,7 @@ int main(void)
     static struct model m;
     static uint8_t image[CS_TABLE_SIZE];
     struct chance c = {1};
+    make_boot_list();
     model_fresh(&m, CS_SOCKETS);
     measure_set(&m);
     for (unsigned i = 0; i < RANDOM_TABLES; i++) {

@@ -14,14 +14,17 @@
  *  - Checks run in the order in which they are listed here, and the code of
  *    the first that applies is the answer.
  *  - A refusal (any code but CS_SUCCESS) changes no byte of the table or of
- *    the packet, and the handle or count answered with it is 0.
+ *    the packet, and the handle or count answered with it is 0. Of a boot list
+ *    alone the records before the refused one stay added, and its place is
+ *    answered.
  *  - A pointer and the length after it name lent bytes: all of them must be
  *    readable, and writable where the pointer is not const. No alignment is
- *    needed. Table and packet must not overlap. A pointer whose length is 0
- *    may be any pointer.
+ *    needed. Table, packet and boot list must not overlap. A pointer whose
+ *    length is 0 may be any pointer.
  *  - Two calls on one table must not run at the same time, also not one from
  *    an interrupt handler within another. Calls on different tables may.
- *  - Numbers in table and packet are little-endian on every machine.
+ *  - Numbers in table, packet and boot list are little-endian on every
+ *    machine.
  *  - A number of sockets, a socket and a level are 32 bits wide, and any may
  *    be passed: 257 sockets are refused and do not become 1. A service and a
  *    handle have 16 bits in the volume: of a wider number C hands on the low
@@ -39,8 +42,8 @@
  *  - a client's attributes and event mask are ones that RegisterClient
  *    accepts, and its socket masks have none of the bits 12 to 15;
  *  - an IRQ level that is reserved is managed;
- *  - at most 32 I/O ranges are managed; each has a port, none passes port
- *    FFFF, no two overlap;
+ *  - at most CS_RANGES I/O ranges are managed; each has a port, none passes
+ *    port FFFF, no two overlap;
  *  - the client of a grant is live, and its level, or each of its ports, is
  *    managed;
  *  - an I/O grant has base 1 or more, 1 to 16 decoded lines, and 1 to 255
@@ -56,12 +59,13 @@
  *
  * CS_GENERAL_FAILURE means that the table is not to be trusted (of cs_fresh:
  * that the length or the number of sockets is wrong). Nothing was changed,
- * and every further call but cs_fresh is refused too. Load a saved table or
- * make a fresh one, and tell it which cards are in. Every handle of the lost
- * table is then void: a fresh table issues 1, 2, 3 and on anew; a saved one
- * has the clients that were live when it was saved, and issues again what
- * was issued since. cs_sharers(table, len, 0) changes nothing and answers
- * CS_GENERAL_FAILURE exactly if the table is not well formed.
+ * and every further call but cs_fresh is refused too. Load a saved table, or
+ * make a fresh one and load its boot list; and tell it which cards are in.
+ * Every handle of the lost table is then void: a fresh table issues 1, 2, 3
+ * and on anew; a saved one has the clients that were live when it was saved,
+ * and issues again what was issued since. cs_sharers(table, len, 0) changes
+ * nothing and answers CS_GENERAL_FAILURE exactly if the table is not well
+ * formed.
  *
  * Linking
  * -------
@@ -78,7 +82,7 @@
  * red zone): an interrupt during a call has to keep the SSE registers and
  * needs a stack of its own.
  *
- * A call takes less than 600 bytes of stack, its return address and the red
+ * A call takes less than 700 bytes of stack, its return address and the red
  * zone among them. bench/run.sh measures it, on tables from fresh to full:
  * it is a measurement and no proof.
  *
@@ -88,14 +92,12 @@
  *    checked and kept, and the keeper does nothing else with them.
  *  - Services that cs_call answers with CS_UNSUPPORTED_SERVICE, although the
  *    keeper is to have them:
- *      AdjustResourceInfo  35H
- *      RequestIRQ          20H
- *      ReleaseIRQ          1CH
- *      RequestIO           1FH
- *      ReleaseIO           1BH
- *      RequestSocketMask   22H
- *      ReleaseSocketMask   2FH
- *  - cs_boot, to load a boot list of resources: there is no such entry.
+ *      RequestIRQ         20H
+ *      ReleaseIRQ         1CH
+ *      RequestIO          1FH
+ *      ReleaseIO          1BH
+ *      RequestSocketMask  22H
+ *      ReleaseSocketMask  2FH
  *
  * Example
  * -------
@@ -103,14 +105,23 @@
  *
  *   static uint8_t table[CS_TABLE_SIZE];
  *
+ *   static const uint8_t boot_list[2 * CS_BOOT_RECORD] = {
+ *       CS_RESOURCE_IRQ, 0, 5, 0, 0, 0, 0, 0, 0, 0,
+ *       CS_RESOURCE_IO, CS_RESERVE, 0x00, 0x03, 0, 0, 16, 0, 0, 0
+ *   };
+ *
  *   int main(void)
  *   {
  *       uint8_t packet[CS_REGISTER_CLIENT_LENGTH] = {0};
  *       uint16_t events = CS_EVENT_CARD_DETECT_CHANGE | CS_EVENT_RESET;
+ *       uint64_t booted;
  *       uint32_t answer;
  *       uint16_t client;
  *
  *       if (cs_fresh(table, sizeof table, 2) != CS_SUCCESS)
+ *           return 1;
+ *       booted = cs_boot(table, sizeof table, boot_list, sizeof boot_list);
+ *       if (CS_BOOT_CODE(booted) != CS_SUCCESS)
  *           return 1;
  *       if (cs_card_in(table, sizeof table, 0) != CS_SUCCESS)
  *           return 1;
@@ -153,6 +164,13 @@ extern "C" {
 
 /* IRQ levels are 0 to CS_LEVELS - 1. */
 #define CS_LEVELS 16
+
+/* I/O ports are 0 to CS_PORTS - 1, told apart by CS_LINES address lines. */
+#define CS_PORTS 65536
+#define CS_LINES 16
+
+/* At most this many I/O ranges are managed at one time. */
+#define CS_RANGES 32
 
 /* ---- Codes: the numbers of the volume's chapter 8 ---- */
 
@@ -206,6 +224,11 @@ extern "C" {
 #define CS_CODE(answer) ((uint32_t)(answer) & 0xFFFF)
 #define CS_HANDLE(answer) ((uint16_t)((uint32_t)(answer) >> 16))
 #define CS_COUNT(answer) ((uint16_t)((uint32_t)(answer) >> 16))
+
+/* ---- A boot list's, of 64 bits: code + 2^32 * place ---- */
+
+#define CS_BOOT_CODE(answer) ((uint32_t)(answer))
+#define CS_BOOT_PLACE(answer) ((uint32_t)((uint64_t)(answer) >> 32))
 
 /* ---- Events: the bits of an event mask, by their names in 5.37 ---- */
 
@@ -268,6 +291,39 @@ uint32_t cs_card_out(uint8_t *table, size_t len, uint32_t socket);
  * CS_SOCKETS: CS_CODE(answer) and CS_COUNT(answer).
  */
 uint32_t cs_sharers(const uint8_t *table, size_t len, uint32_t level);
+
+/*
+ * cs_boot: load a boot list, resource records that are added in order
+ *
+ * records: the records, one after the other, records_len bytes in all
+ *
+ * Record, CS_BOOT_RECORD bytes:
+ *   0  resource, 1 byte: CS_RESOURCE_IO or CS_RESOURCE_IRQ
+ *   1  attributes, 1 byte: CS_RESERVE or 0
+ *   2  base or level, 4 bytes
+ *   6  ports, 4 bytes; of an IRQ record they are ignored
+ *
+ * Checks:
+ *  1. table not well formed: CS_GENERAL_FAILURE, place 0
+ *  2. of each record in turn, from place 0 on, those that AdjustResourceInfo
+ *     (below) makes of an Add with these values, lines being 16: its checks 5
+ *     and 7 to 11
+ *  3. bytes are left at the end, too few for a record: CS_BAD_ARG_LENGTH
+ *
+ * Stops at the first refused record: that one and those after it add nothing,
+ * those before it stay added. The list's own bytes stay as they are.
+ *
+ * Answers the code and a place: CS_BOOT_CODE(answer) and
+ * CS_BOOT_PLACE(answer). CS_SUCCESS comes with the number of records; any
+ * other code with the place of the refused one, from 0, which is the number
+ * of records added. Never over CS_BOOT_MOST: there is no more to add than all
+ * levels and CS_RANGES ranges.
+ */
+#define CS_BOOT_RECORD 10
+#define CS_BOOT_MOST (CS_LEVELS + CS_RANGES)
+
+uint64_t cs_boot(uint8_t *table, size_t len, const uint8_t *records,
+                 size_t records_len);
 
 /* ---- Services ---- */
 
@@ -337,6 +393,96 @@ uint32_t cs_call(uint8_t *table, size_t len, uint16_t service, uint16_t handle,
  */
 #define CS_DEREGISTER_CLIENT 0x02
 #define CS_DEREGISTER_CLIENT_LENGTH 0
+
+/*
+ * AdjustResourceInfo (5.3): add, remove and show what is managed
+ *
+ * Packet of an IRQ level, 4 bytes:
+ *   0  action, 1 byte: CS_ACTION_...
+ *   1  resource, 1 byte: CS_RESOURCE_IRQ
+ *   2  attributes, 1 byte
+ *   3  level, 1 byte
+ *
+ * Packet of an I/O range, short (7 bytes) or long (12 bytes): packet_len
+ * tells which
+ *   short  long
+ *     0      0   action, 1 byte: CS_ACTION_...
+ *     1      1   resource, 1 byte: CS_RESOURCE_IO
+ *     2      2   base, 2 bytes; 4 in the long form
+ *     4      6   ports, 1 byte; 4 in the long form
+ *     5     10   attributes, 1 byte
+ *     6     11   lines, 1 byte
+ *
+ * Attributes:
+ *   bit 6  CS_RESERVE, Add alone: to be granted only if it is named or if
+ *          nothing unreserved will do
+ *   bit 7  CS_ALLOCATED, shown: a live grant holds the level, or a port of
+ *          the range
+ *   bit 0  CS_IO_SHARED, shown, I/O: there are holders and all of them share
+ *   bits 0 and 1, CS_IRQ_TYPE, shown, IRQ: CS_IRQ_EXCLUSIVE,
+ *          CS_IRQ_TIME_MULTIPLEXED or CS_IRQ_DYNAMIC as the holders are, or 0
+ *
+ * The handle given is not looked at. Checks:
+ *  3. packet_len is under 2: CS_BAD_ARG_LENGTH
+ *  4. action is over 3: CS_BAD_ARGS
+ *  5. resource is 0, 3 or 4: CS_UNSUPPORTED_SERVICE; over 4: CS_BAD_ARGS
+ *  6. packet_len is not CS_ADJUST_IRQ_LENGTH (IRQ), or neither
+ *     CS_ADJUST_IO_SHORT_LENGTH nor CS_ADJUST_IO_LONG_LENGTH (I/O):
+ *     CS_BAD_ARG_LENGTH
+ *
+ * Add and Remove:
+ *  7. an attribute bit other than CS_RESERVE (Add), any attribute bit
+ *     (Remove), or, for I/O, lines that are not CS_LINES: CS_BAD_ATTRIBUTE
+ *
+ * of an IRQ level, then:
+ *  8. level not below CS_LEVELS: CS_BAD_IRQ
+ *  9. it is managed (Add): CS_IN_USE; it is not managed (Remove): CS_BAD_IRQ
+ * 10. a live grant holds it (Remove): CS_IN_USE
+ *
+ * of an I/O range, then:
+ *  8. ports is 0 or over CS_PORTS: CS_BAD_SIZE
+ *  9. one of the ports is past FFFF: CS_BAD_BASE
+ * 10. one of them is managed (Add): CS_IN_USE; no managed range has just that
+ *     base and number of ports (Remove): CS_BAD_BASE
+ * 11. CS_RANGES ranges are managed (Add): CS_OUT_OF_RESOURCE; a live grant
+ *     holds a port of the range (Remove): CS_IN_USE
+ *
+ * Writes the level or the range, managed and reserved or not, or takes it
+ * away; the packet stays as it is. Ranges stay apart as they were added, also
+ * where one begins at the other's end. Answers the handle given.
+ *
+ * First and Next:
+ *  7. nothing of the resource is managed (First), or nothing with a base or
+ *     level above the packet's (Next): CS_NO_MORE_ITEMS
+ *  8. the packet is short and the range has more than 255 ports: CS_BAD_SIZE
+ *
+ * First shows the lowest base or level, Next the lowest above the packet's;
+ * the packet's other fields are ignored. Writes base and ports, or level; the
+ * attributes, in which bits that are not listed as shown are 0, CS_RESERVE
+ * too; and for I/O lines of 16. The table stays as it is. Answers the lowest
+ * of the holders' handles, or 0 if there is no holder.
+ */
+#define CS_ADJUST_RESOURCE_INFO 0x35
+#define CS_ADJUST_IRQ_LENGTH 4
+#define CS_ADJUST_IO_SHORT_LENGTH 7
+#define CS_ADJUST_IO_LONG_LENGTH 12
+
+#define CS_ACTION_REMOVE 0
+#define CS_ACTION_ADD 1
+#define CS_ACTION_FIRST 2
+#define CS_ACTION_NEXT 3
+
+#define CS_RESOURCE_IO 1
+#define CS_RESOURCE_IRQ 2
+
+#define CS_RESERVE 0x40
+#define CS_ALLOCATED 0x80
+#define CS_IO_SHARED 0x01
+#define CS_IRQ_TYPE 0x03
+
+#define CS_IRQ_EXCLUSIVE 0
+#define CS_IRQ_TIME_MULTIPLEXED 1
+#define CS_IRQ_DYNAMIC 2
 
 #ifdef __cplusplus
 }

@@ -9,7 +9,7 @@
 
 /* The services that the archive has so far: a landing adds its own here. All
    others are to be answered with UNSUPPORTED_SERVICE. */
-static const uint16_t built[] = {CS_REGISTER_CLIENT, CS_DEREGISTER_CLIENT};
+static const uint16_t built[] = {CS_REGISTER_CLIENT, CS_DEREGISTER_CLIENT, CS_ADJUST_RESOURCE_INFO};
 
 /* ---- Counting and reporting ---- */
 
@@ -17,6 +17,7 @@ enum { MOST_REPORTS = 40, MOST_PRINTED = 32, CODES = 256 };
 
 static const char *running = "";
 static unsigned long checks, differ, seen[CODES];
+static char description[200];
 
 /* Counts a difference; says whether it is still to be printed. */
 static bool reports(void)
@@ -34,21 +35,58 @@ void must_hold(const char *what, bool holds)
         printf("compare: %s: not so: %s\n", running, what);
 }
 
-static void print_answer(const char *who, uint32_t answer)
+/* An answer taken apart: its code and the number beside it. */
+struct answer {
+    uint32_t code, number;
+    const char *number_is;
+};
+
+static struct answer taken_apart(uint32_t answer)
 {
-    printf("  %s %02lX %s, handle or count %u\n", who, (unsigned long)CS_CODE(answer),
-           code_name(CS_CODE(answer)), (unsigned)CS_HANDLE(answer));
+    return (struct answer){CS_CODE(answer), CS_HANDLE(answer), "handle or count"};
+}
+
+static struct answer boot_taken_apart(uint64_t answer)
+{
+    return (struct answer){CS_BOOT_CODE(answer), CS_BOOT_PLACE(answer), "place"};
+}
+
+static bool same_answer(struct answer a, struct answer b)
+{
+    return a.code == b.code && a.number == b.number;
+}
+
+static void print_answer(const char *who, struct answer answer)
+{
+    printf("  %s %02lX %s, %s %lu\n", who, (unsigned long)answer.code, code_name(answer.code),
+           answer.number_is, (unsigned long)answer.number);
+}
+
+static void differs_by_hand(void)
+{
+    printf("compare: %s: the case worked out by hand differs%s%s\n", running,
+           description[0] == 0 ? "" : ": ", description);
+}
+
+static void by_hand(struct answer got, uint32_t code, uint32_t number)
+{
+    struct answer expected = {code, number, got.number_is};
+    checks++;
+    if (!same_answer(got, expected) && reports()) {
+        differs_by_hand();
+        print_answer("expected", expected);
+        print_answer("got     ", got);
+    }
 }
 
 void must_be(uint32_t answer, uint32_t code, uint16_t handle)
 {
-    uint32_t expected = code | (uint32_t)handle << 16;
-    checks++;
-    if (answer != expected && reports()) {
-        printf("compare: %s: the case worked out by hand differs\n", running);
-        print_answer("expected", expected);
-        print_answer("got     ", answer);
-    }
+    by_hand(taken_apart(answer), code, handle);
+}
+
+void must_boot(uint64_t answer, uint32_t code, uint32_t place)
+{
+    by_hand(boot_taken_apart(answer), code, place);
 }
 
 unsigned long answered(uint32_t code)
@@ -73,6 +111,7 @@ void run_group(const char *name, void (*group)(void), unsigned long least)
 {
     unsigned long checks_before = checks, differ_before = differ;
     running = name;
+    description[0] = 0;
     memset(seen, 0, sizeof seen);
     group();
     unsigned long made = checks - checks_before;
@@ -96,6 +135,7 @@ struct lent {
     size_t len;
 };
 
+/* The packet of cs_call or the boot list of cs_boot is lent beside the table. */
 static struct lent table, packet;
 
 static size_t room(const struct lent *l)
@@ -129,11 +169,39 @@ static void print_first_difference(const char *what, const struct lent *l)
                (unsigned long)l->len, l->should[i], l->is[i]);
 }
 
+static void print_bytes(const uint8_t *bytes, size_t len)
+{
+    for (size_t i = 0; i < len && i < MOST_PRINTED; i++)
+        printf(" %02X", bytes[i]);
+}
+
+static void bytes_by_hand(const uint8_t *got, const uint8_t *expected, size_t len)
+{
+    checks++;
+    if (memcmp(got, expected, len) == 0 || !reports())
+        return;
+    differs_by_hand();
+    printf("  expected");
+    print_bytes(expected, len);
+    printf("\n  got     ");
+    print_bytes(got, len);
+    printf("\n");
+}
+
+void packet_must_be(const uint8_t *expected, size_t len)
+{
+    bytes_by_hand(packet.is + GUARD, expected, len);
+}
+
+void table_must_have(size_t at, const uint8_t *expected, size_t len)
+{
+    bytes_by_hand(table.is + GUARD + at, expected, len);
+}
+
 /* ---- The lent table's facts ---- */
 
 static bool accepted;
 static struct model facts;
-static char description[200];
 
 void lend_bytes(const uint8_t *bytes, size_t len)
 {
@@ -157,6 +225,13 @@ void lend_set(const struct model *m)
     lend_bytes(image, sizeof image);
 }
 
+void lend_fresh(uint32_t sockets)
+{
+    struct model m;
+    model_fresh(&m, sockets);
+    lend_set(&m);
+}
+
 bool lent_accepted(void)
 {
     return accepted;
@@ -173,8 +248,9 @@ struct question {
     const char *entry, *argument_is;
     uint32_t argument;
     bool accepted;
-    unsigned sockets, clients, issued;
-    unsigned service; /* this and the packet: of cs_call alone */
+    unsigned sockets, clients, issued, ranges;
+    long service;          /* of cs_call; -1 of the others */
+    const char *packet_is; /* this and the packet: of cs_call and cs_boot alone */
     const uint8_t *packet;
     size_t packet_len;
 };
@@ -190,14 +266,27 @@ static struct question question(const char *entry, const char *argument_is, uint
         .sockets = facts.sockets,
         .clients = facts.clients,
         .issued = facts.issued,
+        .ranges = facts.ranges,
+        .service = -1,
+        .packet_is = "packet",
     };
+}
+
+/* Lends the bytes that go with it; NULL is lent as no bytes. */
+static void lend_with(struct question *q, const char *packet_is, const uint8_t *bytes, size_t len)
+{
+    q->packet_is = packet_is;
+    q->packet = bytes == NULL ? packet.should : bytes;
+    q->packet_len = len;
+    lend(&packet, bytes, len);
 }
 
 static void print_packet(const struct question *q)
 {
-    printf(", service %02X, packet of %lu:", q->service, (unsigned long)q->packet_len);
-    for (size_t i = 0; i < q->packet_len && i < MOST_PRINTED; i++)
-        printf(" %02X", q->packet[i]);
+    if (q->service >= 0)
+        printf(", service %02lX", (unsigned long)q->service);
+    printf(", %s of %lu:", q->packet_is, (unsigned long)q->packet_len);
+    print_bytes(q->packet, q->packet_len);
 }
 
 static void print_question(const struct question *q)
@@ -208,34 +297,40 @@ static void print_question(const struct question *q)
         print_packet(q);
     printf("\n  table of %lu bytes", (unsigned long)table.len);
     if (q->accepted)
-        printf(": %u sockets, %u clients, %u issued", q->sockets, q->clients, q->issued);
+        printf(": %u sockets, %u clients, %u issued, %u ranges", q->sockets, q->clients, q->issued,
+               q->ranges);
     else
         printf(", not well formed");
     printf("%s%s\n", description[0] == 0 ? "" : "; ", description);
 }
 
-static bool all_as_expected(uint32_t expected, uint32_t got)
+static bool all_as_expected(struct answer expected, struct answer got)
 {
-    return expected == got && as_it_should(&table) && as_it_should(&packet);
+    return same_answer(expected, got) && as_it_should(&table) && as_it_should(&packet);
 }
 
 /* After a difference table and packet are set right, so that the next question
    starts from what should be. */
-static uint32_t compare(const struct question *q, uint32_t expected, uint32_t got)
+static void compare_all(const struct question *q, struct answer expected, struct answer got)
 {
     checks++;
-    seen[CS_CODE(got) % CODES]++;
+    seen[got.code % CODES]++;
     if (all_as_expected(expected, got))
-        return got;
+        return;
     if (reports()) {
         print_question(q);
         print_answer("expected", expected);
         print_answer("got     ", got);
         print_first_difference("table", &table);
-        print_first_difference("packet", &packet);
+        print_first_difference(q->packet_is, &packet);
     }
     memcpy(table.is, table.should, room(&table));
     memcpy(packet.is, packet.should, room(&packet));
+}
+
+static uint32_t compare(const struct question *q, uint32_t expected, uint32_t got)
+{
+    compare_all(q, taken_apart(expected), taken_apart(got));
     return got;
 }
 
@@ -291,11 +386,37 @@ uint32_t ask_call(uint16_t service, uint16_t handle, const uint8_t *bytes, size_
 {
     struct question q = question("cs_call", "handle", handle);
     q.service = service;
-    q.packet = bytes == NULL ? packet.should : bytes;
-    q.packet_len = len;
-    lend(&packet, bytes, len);
+    lend_with(&q, "packet", bytes, len);
     uint32_t expected = expected_of_call(service, handle, len);
     uint8_t *passed = bytes == NULL ? NULL : packet.is + GUARD;
     uint32_t got = cs_call(table.is + GUARD, table.len, service, handle, passed, len);
     return compare(&q, expected, got);
+}
+
+uint32_t register_one(void)
+{
+    static const uint8_t packet[CS_REGISTER_CLIENT_LENGTH] = {CS_IO_CLIENT, 0,
+                                                              CS_EVENT_CARD_DETECT_CHANGE};
+    return ask_call(CS_REGISTER_CLIENT, 0, packet, sizeof packet);
+}
+
+/* A refusal writes the image too: "earlier ones stay". */
+static uint64_t expected_of_boot(size_t len)
+{
+    if (!accepted)
+        return CS_GENERAL_FAILURE;
+    uint64_t answer = model_boot(&facts, packet.should + GUARD, len);
+    model_image(&facts, table.should + GUARD);
+    return answer;
+}
+
+uint64_t ask_boot(const uint8_t *records, size_t len)
+{
+    struct question q = question("cs_boot", "length", (uint32_t)len);
+    lend_with(&q, "boot list", records, len);
+    uint64_t expected = expected_of_boot(len);
+    const uint8_t *passed = records == NULL ? NULL : packet.is + GUARD;
+    uint64_t got = cs_boot(table.is + GUARD, table.len, passed, len);
+    compare_all(&q, boot_taken_apart(expected), boot_taken_apart(got));
+    return got;
 }

@@ -2,8 +2,9 @@
  * check.h: the archive beside the model
  *
  * One table is lent at a time, between guard bytes. Each question goes to the
- * archive and to the model; code, handle or count, every byte of table and
- * packet and the guards are compared, and the archive's answer is handed on.
+ * archive and to the model; code, handle, count or place, every byte of table,
+ * packet and boot list and the guards are compared, and the archive's answer is
+ * handed on.
  */
 #ifndef CHECK_H
 #define CHECK_H
@@ -17,6 +18,7 @@
    refuse with GENERAL_FAILURE at every question. */
 void lend_bytes(const uint8_t *bytes, size_t len);
 void lend_set(const struct model *m);
+void lend_fresh(uint32_t sockets);
 
 /* What a report is to say of the lent table, after it was lent. */
 void describe(const char *format, ...);
@@ -33,8 +35,19 @@ uint32_t ask_sharers(uint32_t level);
 /* A packet of NULL is passed on as NULL. */
 uint32_t ask_call(uint16_t service, uint16_t handle, const uint8_t *packet, size_t len);
 
-/* The archive's answer beside one worked out by hand from document 01. */
+/* RegisterClient with a packet that it accepts. */
+uint32_t register_one(void);
+
+/* A boot list of NULL is passed on as NULL. */
+uint64_t ask_boot(const uint8_t *records, size_t len);
+
+/* The archive's answer, the packet of the last call and bytes of the table as it
+   left them, beside those worked out by hand from document 01 and, for the table,
+   docs/LAYOUT.md. */
 void must_be(uint32_t answer, uint32_t code, uint16_t handle);
+void must_boot(uint64_t answer, uint32_t code, uint32_t place);
+void packet_must_be(const uint8_t *expected, size_t len);
+void table_must_have(size_t at, const uint8_t *expected, size_t len);
 
 /* How often the archive answered this code in the running group. */
 unsigned long answered(uint32_t code);

@@ -167,7 +167,7 @@ static bool empty_range(struct chance *c, struct model *m)
 static bool overlapping_range(struct chance *c, struct model *m)
 {
     const struct range *r = some_range(c, m);
-    if (r == NULL || m->ranges == RANGES)
+    if (r == NULL || m->ranges == CS_RANGES)
         return false;
     m->range[m->ranges++] = (struct range){r->base + pick(c, r->count), 1, one_in(c, 2)};
     return true;
@@ -180,7 +180,7 @@ static bool range_past_ffff(struct chance *c, struct model *m)
         if (m->range[i].base > highest->base)
             highest = &m->range[i];
     if (highest != NULL)
-        highest->count = PORTS - highest->base + 1 + (one_in(c, 2) ? 0 : pick(c, 0xFFFE0000));
+        highest->count = CS_PORTS - highest->base + 1 + (one_in(c, 2) ? 0 : pick(c, 0xFFFE0000));
     return highest != NULL;
 }
 
@@ -194,7 +194,8 @@ static struct io_grant *only_io_grant(struct chance *c, struct model *m)
         return NULL;
     uint32_t base = r->base + pick(c, r->count);
     m->io[socket] = (struct io_grant){
-        true, some_client(c, m)->handle, (uint16_t)(base == 0 ? 1 : base), 1, LINES, one_in(c, 2)};
+        true,        some_client(c, m)->handle, (uint16_t)(base == 0 ? 1 : base), 1, CS_LINES,
+        one_in(c, 2)};
     return &m->io[socket];
 }
 
@@ -242,7 +243,7 @@ static bool io_grant_base_zero(struct chance *c, struct model *m)
     if (g == NULL)
         return false;
     m->ranges = 1;
-    m->range[0] = (struct range){0, 1 + pick(c, PORTS), one_in(c, 2)};
+    m->range[0] = (struct range){0, 1 + pick(c, CS_PORTS), one_in(c, 2)};
     g->base = 0;
     return true;
 }
@@ -251,7 +252,7 @@ static bool io_grant_lines(struct chance *c, struct model *m)
 {
     struct io_grant *g = only_io_grant(c, m);
     if (g != NULL)
-        g->lines = (uint8_t)(one_in(c, 2) ? 0 : LINES + 1 + pick(c, 255 - LINES));
+        g->lines = (uint8_t)(one_in(c, 2) ? 0 : CS_LINES + 1 + pick(c, 255 - CS_LINES));
     return g != NULL;
 }
 
@@ -269,8 +270,8 @@ static bool io_grant_over_lines(struct chance *c, struct model *m)
     if (g == NULL)
         return false;
     m->ranges = 1;
-    m->range[0] = (struct range){0, PORTS, one_in(c, 2)};
-    g->base = (uint16_t)(1 + pick(c, PORTS - 256));
+    m->range[0] = (struct range){0, CS_PORTS, one_in(c, 2)};
+    g->base = (uint16_t)(1 + pick(c, CS_PORTS - 256));
     g->lines = (uint8_t)(1 + pick(c, 7));
     g->count = (uint8_t)((1u << g->lines) + 1);
     return true;
@@ -285,10 +286,10 @@ static bool io_grants_meet(struct chance *c, struct model *m)
     unsigned socket = (unsigned)(g - m->io);
     struct io_grant *other = &m->io[(socket + 1) % m->sockets];
     m->ranges = 1;
-    m->range[0] = (struct range){0, PORTS, one_in(c, 2)};
+    m->range[0] = (struct range){0, CS_PORTS, one_in(c, 2)};
     *other = *g;
-    other->lines = (uint8_t)(4 + pick(c, LINES - 3));
-    other->base = (uint16_t)(g->base + (pick(c, PORTS) << other->lines));
+    other->lines = (uint8_t)(4 + pick(c, CS_LINES - 3));
+    other->base = (uint16_t)(g->base + (pick(c, CS_PORTS) << other->lines));
     other->shared = !g->shared;
     return other->base != 0;
 }
@@ -469,9 +470,9 @@ static bool client_record_not_zero(struct chance *c, const struct model *m, uint
 
 static bool range_record_not_zero(struct chance *c, const struct model *m, uint8_t *image)
 {
-    if (m->ranges == RANGES)
+    if (m->ranges == CS_RANGES)
         return false;
-    spoil(c, image + AT_RANGES + RANGE_SIZE * m->ranges, RANGE_SIZE * (RANGES - m->ranges));
+    spoil(c, image + AT_RANGES + RANGE_SIZE * m->ranges, RANGE_SIZE * (CS_RANGES - m->ranges));
     return true;
 }
 

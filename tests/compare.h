@@ -17,6 +17,51 @@ void wide_numbers(void);
 void every_service(void);
 void every_service_broken(void);
 void broken_before_anything(void);
+
+/* compare_resources.c: AdjustResourceInfo where nobody holds anything */
+void adjust_lengths(void);
+void adjust_attributes(void);
+void levels_managed(void);
+void levels_walked(void);
+void port_limits(void);
+void ports_managed_already(void);
+void whole_port_space(void);
+void adjoining_ranges(void);
+void removed_by_base_and_count(void);
+void ranges_in_order(void);
+void room_for_ranges(void);
+void ranges_walked(void);
+void large_ranges_shown(void);
+void given_handles(void);
+void resource_cases(void);
+void resource_bytes(void);
+void other_calls_beside(void);
+
+/* compare_holders.c: AdjustResourceInfo beside live grants */
+void levels_held(void);
+void lowest_holder(void);
+void one_client_holds_all(void);
+void ports_that_hold(void);
+void ports_at_both_ends(void);
+void sharing_holders(void);
+void images_hold_nothing(void);
+void full_table_walked(void);
+void random_holders(void);
+
+/* compare_boot.c: the boot list */
+void boot_records(void);
+void boot_stops(void);
+void boot_in_use(void);
+void boot_tails(void);
+void boot_nothing(void);
+void boot_bytes(void);
+void boot_48(void);
+void boot_33_ranges(void);
+void boot_far_too_long(void);
+void boot_beside_grants(void);
+void boot_unformed(void);
+
+/* compare_runs.c: many questions by chance, one after the other */
 void runs_from_fresh(void);
 void runs_from_sets(void);
 

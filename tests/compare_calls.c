@@ -1,9 +1,9 @@
-#include <stdio.h>
 #include <string.h>
 
 #include "check.h"
 #include "compare.h"
 #include "layout.h"
+#include "resources.h"
 #include "sets.h"
 
 /* ---- Short ways to ask ---- */
@@ -15,22 +15,10 @@ static uint32_t register_with(uint16_t attributes, uint16_t events)
     return ask_call(CS_REGISTER_CLIENT, 0, packet, sizeof packet);
 }
 
-static uint32_t register_one(void)
-{
-    return register_with(CS_IO_CLIENT, CS_EVENT_CARD_DETECT_CHANGE);
-}
-
 static uint32_t deregister(uint16_t handle)
 {
     static const uint8_t empty[1];
     return ask_call(CS_DEREGISTER_CLIENT, handle, empty, 0);
-}
-
-static void lend_fresh(uint32_t sockets)
-{
-    struct model m;
-    model_fresh(&m, sockets);
-    lend_set(&m);
 }
 
 /* ---- The table ---- */
@@ -70,6 +58,7 @@ void fresh_tables(void)
 /* A table that is good but for its length; the byte beyond is 0 or not. */
 void table_lengths(void)
 {
+    static const uint8_t level_15[CS_BOOT_RECORD] = {CS_RESOURCE_IRQ, CS_RESERVE, 15};
     static uint8_t bytes[MOST_LENT];
     struct model m;
     full_set(&m, CS_CLIENTS - 1);
@@ -84,6 +73,8 @@ void table_lengths(void)
             must_be(ask_card_out(CS_SOCKETS - 1), code, 0);
             must_be(ask_card_in(CS_SOCKETS - 1), code, 0);
             must_be(register_one(), code, good ? CS_CLIENTS : 0);
+            must_be(remove_level(CS_LEVELS - 1), code, good ? GIVEN : 0);
+            must_boot(ask_boot(level_15, sizeof level_15), code, good ? 1 : 0);
             must_be(ask_call(0x7777, 0, NULL, 0),
                     good ? CS_UNSUPPORTED_SERVICE : CS_GENERAL_FAILURE, 0);
         }
@@ -240,7 +231,7 @@ enum holding { AN_IO_GRANT, AN_IRQ_GRANT, A_MASK, NOTHING, HOLDINGS };
 static void hold(struct model *m, enum holding what, uint16_t client, unsigned socket)
 {
     if (what == AN_IO_GRANT)
-        m->io[socket] = (struct io_grant){true, client, 0x300, 8, LINES, false};
+        m->io[socket] = (struct io_grant){true, client, 0x300, 8, CS_LINES, false};
     if (what == AN_IRQ_GRANT)
         m->irq[socket] = (struct irq_grant){true, client, 3, EXCLUSIVE};
     if (what == A_MASK)
@@ -365,6 +356,23 @@ static void ask_every_service(void)
         ask_call((uint16_t)service, 1, packet, sizeof packet);
 }
 
+/* Services of document 01, each with a packet of its length. */
+static void not_built_yet(void)
+{
+    static const struct {
+        uint16_t service;
+        size_t len;
+    } later[] = {{CS_REQUEST_IRQ, CS_REQUEST_IRQ_LENGTH},
+                 {CS_RELEASE_IRQ, CS_RELEASE_IRQ_LENGTH},
+                 {CS_REQUEST_IO, CS_REQUEST_IO_LENGTH},
+                 {CS_RELEASE_IO, CS_RELEASE_IO_LENGTH},
+                 {CS_REQUEST_SOCKET_MASK, CS_REQUEST_SOCKET_MASK_LENGTH},
+                 {CS_RELEASE_SOCKET_MASK, CS_RELEASE_SOCKET_MASK_LENGTH}};
+    static const uint8_t packet[CS_REQUEST_IO_LENGTH];
+    for (size_t i = 0; i < sizeof later / sizeof *later; i++)
+        must_be(ask_call(later[i].service, 1, packet, later[i].len), CS_UNSUPPORTED_SERVICE, 0);
+}
+
 void every_service(void)
 {
     struct model m;
@@ -374,6 +382,7 @@ void every_service(void)
     must_hold("only the services built are answered otherwise than UNSUPPORTED_SERVICE",
               answered(CS_UNSUPPORTED_SERVICE) == 65536 - services_built());
     must_hold("RegisterClient was answered SUCCESS", answered(CS_SUCCESS) >= 1);
+    not_built_yet();
 }
 
 static void lend_broken(size_t at)
@@ -409,6 +418,11 @@ void broken_before_anything(void)
         must_be(deregister(CS_CLIENTS - 1), CS_GENERAL_FAILURE, 0);
         must_be(deregister(0), CS_GENERAL_FAILURE, 0);
         must_be(ask_call(0xFFFF, 0, NULL, 0), CS_GENERAL_FAILURE, 0);
+        must_be(ask_call(CS_ADJUST_RESOURCE_INFO, 0, NULL, 0), CS_GENERAL_FAILURE, 0);
+        must_be(adjust_irq(4, 0xFF, 0xFF), CS_GENERAL_FAILURE, 0);
+        must_be(adjust_io(LONG, CS_ACTION_ADD, 0, 0, 0xFF, 0), CS_GENERAL_FAILURE, 0);
+        range_refused(SHORT, CS_ACTION_FIRST, 0, CS_GENERAL_FAILURE);
+        must_boot(ask_boot(NULL, 0), CS_GENERAL_FAILURE, 0);
         must_be(ask_card_in(0), CS_GENERAL_FAILURE, 0);
         must_be(ask_card_in(CS_SOCKETS), CS_GENERAL_FAILURE, 0);
         must_be(ask_card_out(0), CS_GENERAL_FAILURE, 0);
@@ -422,91 +436,4 @@ void broken_before_anything(void)
         must_be(ask_fresh(3), CS_SUCCESS, 0);
         must_be(ask_card_in(2), CS_SUCCESS, 0);
     }
-}
-
-/* ---- Runs ---- */
-
-/* Mostly of the services built; while growing, clients seldom leave. */
-static bool wanted(struct chance *c, uint16_t service, bool growing)
-{
-    if (growing && service == CS_DEREGISTER_CLIENT)
-        return one_in(c, 4);
-    return service_built(service) || one_in(c, 16);
-}
-
-static void ask_request(struct chance *c, bool growing)
-{
-    struct request r;
-    do
-        random_request(c, lent_facts(), &r);
-    while (!wanted(c, r.service, growing));
-    ask_call(r.service, r.handle, r.packet, r.len);
-}
-
-/* Mostly near the limit; else the same with one of the bits 8 to 31. */
-static uint32_t some_number(struct chance *c, uint32_t limit)
-{
-    uint32_t near = pick(c, limit + 2);
-    return one_in(c, 16) ? near | (uint32_t)1 << (8 + pick(c, 24)) : near;
-}
-
-static void random_question(struct chance *c, bool growing)
-{
-    switch (pick(c, 12)) {
-    case 0:
-        ask_card_in(some_number(c, CS_SOCKETS));
-        break;
-    case 1:
-        ask_card_out(some_number(c, CS_SOCKETS));
-        break;
-    case 2:
-        ask_sharers(some_number(c, CS_LEVELS));
-        break;
-    default:
-        ask_request(c, growing);
-    }
-}
-
-static void run_on(struct chance *c, unsigned questions)
-{
-    for (unsigned i = 0; i < questions; i++)
-        random_question(c, i / 50 % 2 == 0);
-}
-
-static void saw_enough(uint32_t code, unsigned long least)
-{
-    must_hold("a run gave each code often enough", answered(code) >= least);
-}
-
-void runs_from_fresh(void)
-{
-    for (uint64_t seed = 1; seed <= 30; seed++) {
-        struct chance c = {seed};
-        lend_fresh((uint32_t)(1 + seed % CS_SOCKETS));
-        run_on(&c, 400);
-        ask_fresh(some_number(&c, CS_SOCKETS));
-    }
-    saw_enough(CS_SUCCESS, 2000);
-    saw_enough(CS_BAD_ATTRIBUTE, 100);
-    saw_enough(CS_BAD_SOCKET, 100);
-    saw_enough(CS_BAD_IRQ, 50);
-    saw_enough(CS_BAD_ARG_LENGTH, 50);
-    saw_enough(CS_BAD_HANDLE, 50);
-    saw_enough(CS_UNSUPPORTED_SERVICE, 25);
-    saw_enough(CS_OUT_OF_RESOURCE, 25);
-}
-
-/* Sets with grants and masks, which the archive cannot make yet. */
-void runs_from_sets(void)
-{
-    static struct model m;
-    for (uint64_t seed = 101; seed <= 220; seed++) {
-        struct chance c = {seed};
-        random_set(&c, &m);
-        lend_set(&m);
-        run_on(&c, 50);
-    }
-    saw_enough(CS_SUCCESS, 1000);
-    saw_enough(CS_IN_USE, 100);
-    saw_enough(CS_OUT_OF_RESOURCE, 10);
 }

@@ -4,14 +4,59 @@
 #include "clauses.h"
 #include "compare.h"
 #include "layout.h"
+#include "resources.h"
 #include "sets.h"
 
+/* ---- Every entry that looks at the table, asked for something it would do ---- */
+
+static uint32_t boot_both(void)
+{
+    static const uint8_t records[] = {CS_RESOURCE_IRQ, 0, 6, 0,    0, 0, 0, 0, 0, 0,
+                                      CS_RESOURCE_IO,  0, 0, 0x50, 0, 0, 1, 0, 0, 0};
+    uint64_t answer = ask_boot(records, sizeof records);
+    return CS_BOOT_CODE(answer) | CS_BOOT_PLACE(answer) << 16;
+}
+
+enum { ENTRIES = 12 };
+
+static uint32_t ask_entry(unsigned which)
+{
+    switch (which) {
+    case 0:
+        return ask_card_in(0);
+    case 1:
+        return ask_card_out(0);
+    case 2:
+        return ask_sharers(0);
+    case 3:
+        return register_one();
+    case 4:
+        return ask_call(CS_DEREGISTER_CLIENT, 1, NULL, 0);
+    case 5:
+        return add_level(9);
+    case 6:
+        return remove_level(9);
+    case 7:
+        return adjust_irq(CS_ACTION_FIRST, 0, 0);
+    case 8:
+        return add_range(SHORT, 0x7000, 1);
+    case 9:
+        return remove_range(LONG, 0x7000, 1);
+    case 10:
+        return adjust_io(LONG, CS_ACTION_NEXT, 0, 0, 0, 0);
+    default:
+        return boot_both();
+    }
+}
+
 /* Whether the archive takes the lent bytes as a table: cs_sharers answers 00
-   or 19, and changes no byte. */
+   or 19, and changes no byte; if 19, so does every other entry. */
 static void table_is(bool good)
 {
     uint32_t answer = ask_sharers(0);
     must_be(CS_CODE(answer), good ? CS_SUCCESS : CS_GENERAL_FAILURE, 0);
+    for (unsigned which = 0; !good && which < ENTRIES; which++)
+        must_be(ask_entry(which), CS_GENERAL_FAILURE, 0);
 }
 
 static void set_is(const struct model *m, bool good)
@@ -31,7 +76,7 @@ static struct model two_sockets(void)
     m.client[0] = (struct client){.handle = 1, .attributes = CS_IO_CLIENT};
     m.client[1] = (struct client){.handle = 2, .attributes = CS_MEMORY_CLIENT};
     m.level[3].managed = m.level[4].managed = true;
-    m.range[m.ranges++] = (struct range){0, PORTS, false};
+    m.range[m.ranges++] = (struct range){0, CS_PORTS, false};
     return m;
 }
 
@@ -101,10 +146,10 @@ static void second_range_is(uint32_t base, uint32_t count, bool good)
 
 static void ranges_by_hand(void)
 {
-    one_range_is(0, PORTS, true);
-    one_range_is(0, PORTS + 1, false);
+    one_range_is(0, CS_PORTS, true);
+    one_range_is(0, CS_PORTS + 1, false);
     one_range_is(0, 0, false);
-    one_range_is(1, PORTS, false);
+    one_range_is(1, CS_PORTS, false);
     one_range_is(0xFFFF, 1, true);
     one_range_is(0xFFFF, 2, false);
     one_range_is(0xFFF8, 8, true);
@@ -273,12 +318,12 @@ void meeting_grants(void)
     struct chance c = {13};
     for (unsigned i = 0; i < 4000; i++) {
         struct model m = two_sockets();
-        struct io_grant a = ports((uint16_t)(1 + pick(&c, PORTS - 256)),
-                                  (uint8_t)(1 + pick(&c, 255)), (uint8_t)(1 + pick(&c, LINES)));
+        struct io_grant a = ports((uint16_t)(1 + pick(&c, CS_PORTS - 256)),
+                                  (uint8_t)(1 + pick(&c, 255)), (uint8_t)(1 + pick(&c, CS_LINES)));
         struct io_grant b = ports(0, (uint8_t)(1 + pick(&c, one_in(&c, 2) ? 8 : 255)),
-                                  (uint8_t)(1 + pick(&c, LINES)));
+                                  (uint8_t)(1 + pick(&c, CS_LINES)));
         unsigned smaller = a.lines < b.lines ? a.lines : b.lines;
-        uint32_t alias = a.base + (pick(&c, PORTS) << smaller);
+        uint32_t alias = a.base + (pick(&c, CS_PORTS) << smaller);
         b.base = (uint16_t)(alias + (one_in(&c, 2) ? a.count : 0u - b.count) + pick(&c, 5) - 2);
         a.shared = one_in(&c, 3);
         b.shared = one_in(&c, 3);
@@ -315,9 +360,11 @@ void manners_on_a_level(void)
 
 /* ---- Single bytes ---- */
 
+/* Then the next of the entries. */
 static void damage(const uint8_t *image, size_t at, uint8_t value)
 {
     static uint8_t damaged[CS_TABLE_SIZE];
+    static unsigned entry;
     if (value == image[at])
         return;
     memcpy(damaged, image, CS_TABLE_SIZE);
@@ -325,6 +372,7 @@ static void damage(const uint8_t *image, size_t at, uint8_t value)
     lend_bytes(damaged, CS_TABLE_SIZE);
     describe("byte %u changed from %02X to %02X", (unsigned)at, image[at], value);
     ask_sharers(0);
+    ask_entry(entry++ % ENTRIES);
 }
 
 static void damage_facts(struct chance *c, const uint8_t *image)

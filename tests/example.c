@@ -2,14 +2,23 @@
 
 static uint8_t table[CS_TABLE_SIZE];
 
+static const uint8_t boot_list[2 * CS_BOOT_RECORD] = {
+    CS_RESOURCE_IRQ, 0, 5, 0, 0, 0, 0, 0, 0, 0,
+    CS_RESOURCE_IO, CS_RESERVE, 0x00, 0x03, 0, 0, 16, 0, 0, 0
+};
+
 int main(void)
 {
     uint8_t packet[CS_REGISTER_CLIENT_LENGTH] = {0};
     uint16_t events = CS_EVENT_CARD_DETECT_CHANGE | CS_EVENT_RESET;
+    uint64_t booted;
     uint32_t answer;
     uint16_t client;
 
     if (cs_fresh(table, sizeof table, 2) != CS_SUCCESS)
+        return 1;
+    booted = cs_boot(table, sizeof table, boot_list, sizeof boot_list);
+    if (CS_BOOT_CODE(booted) != CS_SUCCESS)
         return 1;
     if (cs_card_in(table, sizeof table, 0) != CS_SUCCESS)
         return 1;

@@ -7,6 +7,7 @@ uint32_t (*const fresh)(uint8_t *, size_t, uint32_t) = cs_fresh;
 uint32_t (*const card_in)(uint8_t *, size_t, uint32_t) = cs_card_in;
 uint32_t (*const card_out)(uint8_t *, size_t, uint32_t) = cs_card_out;
 uint32_t (*const sharers)(const uint8_t *, size_t, uint32_t) = cs_sharers;
+uint64_t (*const boot)(uint8_t *, size_t, const uint8_t *, size_t) = cs_boot;
 uint32_t (*const call)(uint8_t *, size_t, uint16_t, uint16_t, uint8_t *, size_t) = cs_call;
 
 uint32_t every_name(uint8_t *table, uint8_t *packet)
@@ -22,6 +23,12 @@ uint32_t every_name(uint8_t *table, uint8_t *packet)
         CS_EVENT_INSERTION_REQUEST | CS_EVENT_BATTERY_DEAD | CS_EVENT_BATTERY_LOW |
         CS_EVENT_READY_CHANGE | CS_EVENT_CARD_DETECT_CHANGE | CS_EVENT_POWER_MANAGEMENT_CHANGE |
         CS_EVENT_RESET | CS_EVENT_SOCKET_SERVICES_UPDATED | CS_EVENT_EXTENDED_STATUS_CHANGE;
+    uint32_t resources = CS_ACTION_REMOVE + CS_ACTION_ADD + CS_ACTION_FIRST + CS_ACTION_NEXT +
+                         CS_RESOURCE_IO + CS_RESOURCE_IRQ + CS_RESERVE + CS_ALLOCATED +
+                         CS_IO_SHARED + CS_IRQ_TYPE + CS_IRQ_EXCLUSIVE + CS_IRQ_TIME_MULTIPLEXED +
+                         CS_IRQ_DYNAMIC + CS_ADJUST_IO_SHORT_LENGTH + CS_ADJUST_IO_LONG_LENGTH +
+                         CS_PORTS + CS_LINES + CS_RANGES;
+    uint64_t booted = cs_boot(table, CS_TABLE_SIZE, packet, CS_BOOT_MOST * CS_BOOT_RECORD);
     uint32_t answer = cs_fresh(table, CS_TABLE_SIZE, CS_SOCKETS);
     answer += cs_card_in(table, CS_TABLE_SIZE, CS_SOCKETS - 1);
     answer += cs_card_out(table, CS_TABLE_SIZE, CS_SOCKETS - 1);
@@ -30,5 +37,8 @@ uint32_t every_name(uint8_t *table, uint8_t *packet)
                               CS_REGISTER_CLIENT_LENGTH));
     answer += CS_HANDLE(cs_call(table, CS_TABLE_SIZE, CS_DEREGISTER_CLIENT, CS_CLIENTS, packet,
                                 CS_DEREGISTER_CLIENT_LENGTH));
-    return codes + attributes + events + answer;
+    answer +=
+        cs_call(table, CS_TABLE_SIZE, CS_ADJUST_RESOURCE_INFO, 0, packet, CS_ADJUST_IRQ_LENGTH);
+    answer += CS_BOOT_CODE(booted) + CS_BOOT_PLACE(booted);
+    return codes + attributes + events + resources + answer;
 }

@@ -193,7 +193,7 @@ bool model_read(const uint8_t *bytes, size_t len, struct model *m)
 {
     uint8_t image[CS_TABLE_SIZE];
     if (len != CS_TABLE_SIZE || bytes[AT_CLIENT_COUNT] > CS_CLIENTS ||
-        bytes[AT_RANGE_COUNT] > RANGES)
+        bytes[AT_RANGE_COUNT] > CS_RANGES)
         return false;
     get_facts(bytes, m);
     model_image(m, image);

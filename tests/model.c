@@ -107,7 +107,7 @@ bool meet(const struct io_grant *a, const struct io_grant *b)
     unsigned lines = a->lines < b->lines ? a->lines : b->lines;
     uint32_t modulus = (uint32_t)1 << lines;
     for (uint32_t port = a->base; port < (uint32_t)a->base + a->count; port++) {
-        uint32_t beyond = (port + PORTS - b->base) % modulus;
+        uint32_t beyond = (port + CS_PORTS - b->base) % modulus;
         if (beyond < b->count)
             return true;
     }
@@ -144,7 +144,7 @@ static bool count_allowed(uint32_t count, unsigned lines)
 
 static bool lines_allowed(unsigned lines)
 {
-    return lines >= 1 && lines <= LINES;
+    return lines >= 1 && lines <= CS_LINES;
 }
 
 /* "It meets a live grant, and First Shared is set or the two don't both share:
@@ -168,7 +168,7 @@ static uint32_t choose_base(const struct model *m, struct io_grant *wish)
     uint32_t step = 1, lowest_reserved = 0;
     while (step < wish->count)
         step *= 2;
-    for (uint32_t base = step; base + wish->count <= PORTS; base += step) {
+    for (uint32_t base = step; base + wish->count <= CS_PORTS; base += step) {
         if (!ports_managed(m, base, wish->count, false))
             continue;
         wish->base = (uint16_t)base;
@@ -185,7 +185,7 @@ static uint32_t choose_base(const struct model *m, struct io_grant *wish)
 /* RequestIO's packet: socket 2, base 2, ports, attributes, base 2 (2), ports 2,
    attributes 2, lines. */
 enum { IO_BASE = 2, IO_PORTS = 4, IO_ATTRIBUTES = 5, IO_PORTS_2 = 8, IO_LINES = 10 };
-enum { IO_SHARED = 1, IO_FIRST_SHARED = 2, IO_LISTED = 0x0F };
+enum { IO_FIRST_SHARED = 2, IO_LISTED = 0x0F };
 
 /* "attribute bits outside section 5.52's list, First Shared without Shared, or
    lines outside 1 to 16, BAD_ATTRIBUTE" */
@@ -193,7 +193,7 @@ static bool io_attributes_allowed(uint8_t attributes, uint8_t lines)
 {
     if ((attributes & ~IO_LISTED) != 0)
         return false;
-    if ((attributes & IO_FIRST_SHARED) != 0 && (attributes & IO_SHARED) == 0)
+    if ((attributes & IO_FIRST_SHARED) != 0 && (attributes & CS_IO_SHARED) == 0)
         return false;
     return lines_allowed(lines);
 }
@@ -207,7 +207,7 @@ static uint32_t place_io(const struct model *m, struct io_grant *wish, bool firs
         wish->base = (uint16_t)base;
         return base == 0 ? CS_IN_USE : CS_SUCCESS;
     }
-    if (base + wish->count > PORTS || !ports_managed(m, base, wish->count, false))
+    if (base + wish->count > CS_PORTS || !ports_managed(m, base, wish->count, false))
         return CS_BAD_BASE;
     return in_the_way(m, wish, first_shared) ? CS_IN_USE : CS_SUCCESS;
 }
@@ -222,7 +222,7 @@ static uint32_t request_io(struct model *m, struct call *call)
         .base = (uint16_t)field(packet, IO_BASE, 2),
         .count = packet[IO_PORTS],
         .lines = packet[IO_LINES],
-        .shared = (attributes & IO_SHARED) != 0,
+        .shared = (attributes & CS_IO_SHARED) != 0,
     };
     if (!io_attributes_allowed(attributes, wish.lines))
         return CS_BAD_ATTRIBUTE;
@@ -257,7 +257,7 @@ static uint32_t release_io(struct model *m, struct call *call)
 
 /* RequestIRQ's packet, and the bits of its fields. */
 enum { IRQ_ATTRIBUTES = 2, IRQ_ASSIGNED = 4, IRQ_INFO_1 = 5, IRQ_INFO_2 = 6 };
-enum { IRQ_TYPE = 3, IRQ_FORCE_PULSE = 4, IRQ_FIRST_SHARED = 8, IRQ_PULSE_ALLOCATED = 0x100 };
+enum { IRQ_FORCE_PULSE = 4, IRQ_FIRST_SHARED = 8, IRQ_PULSE_ALLOCATED = 0x100 };
 enum {
     INFO_LEVEL_NUMBER = 0x0F,
     INFO_MASK = 0x10,
@@ -265,7 +265,7 @@ enum {
     INFO_PULSE = 0x40,
     INFO_SHARE = 0x80
 };
-enum { TYPE_EXCLUSIVE, TYPE_TIME_MULTIPLEXED, TYPE_DYNAMIC, TYPE_RESERVED };
+enum { TYPE_RESERVED = 3 };
 
 /* "only equal ones, and never exclusive." */
 bool go_together(uint8_t a, uint8_t b)
@@ -275,17 +275,17 @@ bool go_together(uint8_t a, uint8_t b)
 
 static unsigned type_of(uint8_t manner)
 {
-    return manner == EXCLUSIVE          ? TYPE_EXCLUSIVE
-           : manner == TIME_MULTIPLEXED ? TYPE_TIME_MULTIPLEXED
-                                        : TYPE_DYNAMIC;
+    return manner == EXCLUSIVE          ? CS_IRQ_EXCLUSIVE
+           : manner == TIME_MULTIPLEXED ? CS_IRQ_TIME_MULTIPLEXED
+                                        : CS_IRQ_DYNAMIC;
 }
 
 /* "Dynamic is pulse if Force Pulse is set or the card lacks Level." */
 static uint8_t manner_asked(unsigned attributes, unsigned info_1)
 {
-    if ((attributes & IRQ_TYPE) == TYPE_EXCLUSIVE)
+    if ((attributes & CS_IRQ_TYPE) == CS_IRQ_EXCLUSIVE)
         return EXCLUSIVE;
-    if ((attributes & IRQ_TYPE) == TYPE_TIME_MULTIPLEXED)
+    if ((attributes & CS_IRQ_TYPE) == CS_IRQ_TIME_MULTIPLEXED)
         return TIME_MULTIPLEXED;
     if ((attributes & IRQ_FORCE_PULSE) != 0 || (info_1 & INFO_LEVEL) == 0)
         return DYNAMIC_PULSE;
@@ -297,14 +297,14 @@ static uint8_t manner_asked(unsigned attributes, unsigned info_1)
    its Share bit." */
 static bool irq_attributes_allowed(unsigned attributes, unsigned info_1)
 {
-    unsigned type = attributes & IRQ_TYPE;
+    unsigned type = attributes & CS_IRQ_TYPE;
     if (type == TYPE_RESERVED || attributes >> 4 != 0)
         return false;
-    if ((attributes & IRQ_FIRST_SHARED) != 0 && type == TYPE_EXCLUSIVE)
+    if ((attributes & IRQ_FIRST_SHARED) != 0 && type == CS_IRQ_EXCLUSIVE)
         return false;
     if ((attributes & IRQ_FORCE_PULSE) != 0 && (info_1 & INFO_PULSE) == 0)
         return false;
-    return !(type == TYPE_DYNAMIC && (info_1 & INFO_SHARE) == 0);
+    return !(type == CS_IRQ_DYNAMIC && (info_1 & INFO_SHARE) == 0);
 }
 
 /* "BAD_ARGS: neither Level nor Pulse; Mask set with any of IRQInfo1's bits 0
@@ -401,7 +401,7 @@ static uint32_t release_irq(struct model *m, struct call *call)
     struct irq_grant *g = &m->irq[packet[0]];
     if (!holds_level(g, packet[IRQ_ASSIGNED]) || g->client != call->handle)
         return CS_BAD_IRQ;
-    if ((packet[IRQ_ATTRIBUTES] & IRQ_TYPE) != type_of(g->manner))
+    if ((packet[IRQ_ATTRIBUTES] & CS_IRQ_TYPE) != type_of(g->manner))
         return CS_BAD_ATTRIBUTE;
     memset(g, 0, sizeof *g);
     return CS_SUCCESS;
@@ -438,13 +438,10 @@ static uint32_t release_socket_mask(struct model *m, struct call *call)
 
 /* ---- Managed resources ---- */
 
-/* Attribute bits that First and Next show. */
-enum { ALLOCATED = 0x80, SHARED = 0x01 };
-
 /* "Resource 0, 3, 4: UNSUPPORTED_SERVICE; over 4: BAD_ARGS." */
 static uint32_t resource_code(unsigned resource)
 {
-    if (resource == RESOURCE_IO || resource == RESOURCE_IRQ)
+    if (resource == CS_RESOURCE_IO || resource == CS_RESOURCE_IRQ)
         return CS_SUCCESS;
     return resource < RESOURCES ? CS_UNSUPPORTED_SERVICE : CS_BAD_ARGS;
 }
@@ -452,24 +449,24 @@ static uint32_t resource_code(unsigned resource)
 /* "Add (1) allows only bit 6, reserve; Remove (0) no bit" */
 static bool adjust_attributes_allowed(unsigned action, unsigned attributes)
 {
-    return (attributes & ~(action == ADD ? RESERVE : 0u)) == 0;
+    return (attributes & ~(action == CS_ACTION_ADD ? CS_RESERVE : 0u)) == 0;
 }
 
 static uint32_t add_level(struct model *m, unsigned attributes, uint32_t level)
 {
-    if (!adjust_attributes_allowed(ADD, attributes))
+    if (!adjust_attributes_allowed(CS_ACTION_ADD, attributes))
         return CS_BAD_ATTRIBUTE;
     if (level >= CS_LEVELS)
         return CS_BAD_IRQ;
     if (m->level[level].managed)
         return CS_IN_USE;
-    m->level[level] = (struct level){true, (attributes & RESERVE) != 0};
+    m->level[level] = (struct level){true, (attributes & CS_RESERVE) != 0};
     return CS_SUCCESS;
 }
 
 static uint32_t remove_level(struct model *m, unsigned attributes, uint32_t level)
 {
-    if (!adjust_attributes_allowed(REMOVE, attributes))
+    if (!adjust_attributes_allowed(CS_ACTION_REMOVE, attributes))
         return CS_BAD_ATTRIBUTE;
     if (level >= CS_LEVELS || !m->level[level].managed)
         return CS_BAD_IRQ;
@@ -489,24 +486,24 @@ struct io_fields {
    over 65,536 BAD_SIZE; a port past FFFF BAD_BASE." */
 static uint32_t io_fields_code(unsigned action, const struct io_fields *f)
 {
-    if (!adjust_attributes_allowed(action, f->attributes) || f->lines != LINES)
+    if (!adjust_attributes_allowed(action, f->attributes) || f->lines != CS_LINES)
         return CS_BAD_ATTRIBUTE;
-    if (f->ports == 0 || f->ports > PORTS)
+    if (f->ports == 0 || f->ports > CS_PORTS)
         return CS_BAD_SIZE;
-    return f->base > PORTS - f->ports ? CS_BAD_BASE : CS_SUCCESS;
+    return f->base > CS_PORTS - f->ports ? CS_BAD_BASE : CS_SUCCESS;
 }
 
 static uint32_t add_range(struct model *m, const struct io_fields *f)
 {
-    uint32_t code = io_fields_code(ADD, f);
+    uint32_t code = io_fields_code(CS_ACTION_ADD, f);
     if (code != CS_SUCCESS)
         return code;
     for (unsigned i = 0; i < m->ranges; i++)
         if (overlap(m->range[i].base, m->range[i].count, f->base, f->ports))
             return CS_IN_USE;
-    if (m->ranges == RANGES)
+    if (m->ranges == CS_RANGES)
         return CS_OUT_OF_RESOURCE;
-    m->range[m->ranges++] = (struct range){f->base, f->ports, (f->attributes & RESERVE) != 0};
+    m->range[m->ranges++] = (struct range){f->base, f->ports, (f->attributes & CS_RESERVE) != 0};
     return CS_SUCCESS;
 }
 
@@ -535,7 +532,7 @@ static bool range_held(const struct model *m, const struct range *r)
    holding a port of it IN_USE." */
 static uint32_t remove_range(struct model *m, const struct io_fields *f)
 {
-    uint32_t code = io_fields_code(REMOVE, f);
+    uint32_t code = io_fields_code(CS_ACTION_REMOVE, f);
     if (code != CS_SUCCESS)
         return code;
     struct range *range = exact_range(m, f->base, f->ports);
@@ -564,7 +561,7 @@ static uint8_t level_attributes(const struct model *m, unsigned level, uint16_t 
         if (!holds_level(&m->irq[s], level))
             continue;
         note_holder(holder, m->irq[s].client);
-        attributes = ALLOCATED | type_of(m->irq[s].manner);
+        attributes = CS_ALLOCATED | type_of(m->irq[s].manner);
     }
     return (uint8_t)attributes;
 }
@@ -584,7 +581,7 @@ static uint8_t range_attributes(const struct model *m, const struct range *r, ui
     }
     if (*holder == 0)
         return 0;
-    return all_share ? ALLOCATED | SHARED : ALLOCATED;
+    return all_share ? CS_ALLOCATED | CS_IO_SHARED : CS_ALLOCATED;
 }
 
 /* "First (2) gives the lowest base or level; Next (3) the lowest above the
@@ -592,7 +589,8 @@ static uint8_t range_attributes(const struct model *m, const struct range *r, ui
 static uint32_t show_level(const struct model *m, struct call *call)
 {
     uint8_t *packet = call->packet;
-    for (unsigned level = packet[0] == FIRST ? 0 : packet[3] + 1u; level < CS_LEVELS; level++)
+    for (unsigned level = packet[0] == CS_ACTION_FIRST ? 0 : packet[3] + 1u; level < CS_LEVELS;
+         level++)
         if (m->level[level].managed) {
             packet[2] = level_attributes(m, level, &call->handle);
             packet[3] = (uint8_t)level;
@@ -605,9 +603,9 @@ static uint32_t adjust_level(struct model *m, struct call *call)
 {
     const uint8_t *packet = call->packet;
     switch (packet[0]) {
-    case REMOVE:
+    case CS_ACTION_REMOVE:
         return remove_level(m, packet[2], packet[3]);
-    case ADD:
+    case CS_ACTION_ADD:
         return add_level(m, packet[2], packet[3]);
     default:
         return show_level(m, call);
@@ -621,7 +619,7 @@ struct form {
     uint32_t most_ports;
 };
 static const struct form short_form = {CS_ADJUST_IO_SHORT_LENGTH, 2, 4, 1, 5, 6, 255};
-static const struct form long_form = {CS_ADJUST_IO_LONG_LENGTH, 4, 6, 4, 10, 11, PORTS};
+static const struct form long_form = {CS_ADJUST_IO_LONG_LENGTH, 4, 6, 4, 10, 11, CS_PORTS};
 
 /* "First (2) gives the lowest base or level; Next (3) the lowest above the
    packet's" */
@@ -630,7 +628,8 @@ static const struct range *lowest_range(const struct model *m, unsigned action, 
     const struct range *lowest = NULL;
     for (unsigned i = 0; i < m->ranges; i++) {
         const struct range *r = &m->range[i];
-        if ((action == FIRST || r->base > base) && (lowest == NULL || r->base < lowest->base))
+        if ((action == CS_ACTION_FIRST || r->base > base) &&
+            (lowest == NULL || r->base < lowest->base))
             lowest = r;
     }
     return lowest;
@@ -648,7 +647,7 @@ static uint32_t show_range(const struct model *m, struct call *call, const struc
     write_field(packet, 2, form->base_size, r->base);
     write_field(packet, form->ports_at, form->ports_size, r->count);
     packet[form->attributes_at] = range_attributes(m, r, &call->handle);
-    packet[form->lines_at] = LINES;
+    packet[form->lines_at] = CS_LINES;
     return CS_SUCCESS;
 }
 
@@ -662,9 +661,9 @@ static uint32_t adjust_range(struct model *m, struct call *call, const struct fo
         .lines = packet[form->lines_at],
     };
     switch (packet[0]) {
-    case REMOVE:
+    case CS_ACTION_REMOVE:
         return remove_range(m, &f);
-    case ADD:
+    case CS_ACTION_ADD:
         return add_range(m, &f);
     default:
         return show_range(m, call, form);
@@ -684,7 +683,7 @@ static uint32_t adjust_resource_info(struct model *m, struct call *call)
     uint32_t code = resource_code(packet[1]);
     if (code != CS_SUCCESS)
         return code;
-    if (packet[1] == RESOURCE_IRQ)
+    if (packet[1] == CS_RESOURCE_IRQ)
         return len == CS_ADJUST_IRQ_LENGTH ? adjust_level(m, call) : CS_BAD_ARG_LENGTH;
     if (len == short_form.length)
         return adjust_range(m, call, &short_form);
@@ -697,23 +696,23 @@ static uint32_t adjust_resource_info(struct model *m, struct call *call)
    with lines 16, IRQ without the count." */
 static uint32_t boot_record(struct model *m, const uint8_t *record)
 {
-    struct io_fields f = {field(record, 2, 4), field(record, 6, 4), record[1], LINES};
+    struct io_fields f = {field(record, 2, 4), field(record, 6, 4), record[1], CS_LINES};
     uint32_t code = resource_code(record[0]);
     if (code != CS_SUCCESS)
         return code;
-    return record[0] == RESOURCE_IRQ ? add_level(m, f.attributes, f.base) : add_range(m, &f);
+    return record[0] == CS_RESOURCE_IRQ ? add_level(m, f.attributes, f.base) : add_range(m, &f);
 }
 
 uint64_t model_boot(struct model *m, const uint8_t *records, size_t len)
 {
-    uint64_t place, whole = len / BOOT_RECORD;
+    uint64_t place, whole = len / CS_BOOT_RECORD;
     uint32_t code = CS_SUCCESS;
     for (place = 0; place < whole; place++) {
-        code = boot_record(m, records + place * BOOT_RECORD);
+        code = boot_record(m, records + place * CS_BOOT_RECORD);
         if (code != CS_SUCCESS)
             return code | place << 32;
     }
-    code = len % BOOT_RECORD == 0 ? CS_SUCCESS : CS_BAD_ARG_LENGTH;
+    code = len % CS_BOOT_RECORD == 0 ? CS_SUCCESS : CS_BAD_ARG_LENGTH;
     return code | place << 32;
 }
 
@@ -826,7 +825,7 @@ uint32_t model_sharers(const struct model *m, uint32_t level)
 static bool keeps_limits(const struct model *m)
 {
     return m->sockets >= 1 && m->sockets <= CS_SOCKETS && m->clients <= CS_CLIENTS &&
-           m->issued <= CS_HANDLES && m->ranges <= RANGES;
+           m->issued <= CS_HANDLES && m->ranges <= CS_RANGES;
 }
 
 /* "a card present or not in each": only a socket below the count has a card. */
@@ -886,7 +885,7 @@ static bool ranges_good(const struct model *m)
 {
     for (unsigned i = 0; i < m->ranges; i++) {
         const struct range *r = &m->range[i];
-        if (r->count == 0 || r->base >= PORTS || r->count > PORTS - r->base)
+        if (r->count == 0 || r->base >= CS_PORTS || r->count > CS_PORTS - r->base)
             return false;
         for (unsigned j = 0; j < i; j++)
             if (overlap(m->range[j].base, m->range[j].count, r->base, r->count))

@@ -15,10 +15,6 @@
 #include "card_services.h"
 
 /* The services of document 01 that card_services.h does not have yet. */
-#define CS_ADJUST_RESOURCE_INFO 0x35
-#define CS_ADJUST_IRQ_LENGTH 4
-#define CS_ADJUST_IO_SHORT_LENGTH 7
-#define CS_ADJUST_IO_LONG_LENGTH 12
 #define CS_REQUEST_IRQ 0x20
 #define CS_REQUEST_IRQ_LENGTH 8
 #define CS_RELEASE_IRQ 0x1C
@@ -32,15 +28,8 @@
 #define CS_RELEASE_SOCKET_MASK 0x2F
 #define CS_RELEASE_SOCKET_MASK_LENGTH 2
 
-/* AdjustResourceInfo's actions, resources and reserve bit. */
-enum action { REMOVE, ADD, FIRST, NEXT, ACTIONS };
-enum resource { RESOURCE_IO = 1, RESOURCE_IRQ = 2, RESOURCES = 5 };
-#define RESERVE 0x40
-
-/* "up to 32 managed I/O ranges", ports 0 to FFFF, lines 1 to 16. */
-#define RANGES 32
-#define PORTS 65536
-#define LINES 16
+/* Actions are below this, and resource types; two of those are built. */
+enum { ACTIONS = 4, RESOURCES = 5 };
 
 /* Event masks are below this: bits 12 to 15 are refused. */
 #define EVENT_MASKS 0x1000
@@ -96,7 +85,7 @@ struct model {
     struct client client[CS_CLIENTS];
     struct level level[CS_LEVELS];
     unsigned ranges;
-    struct range range[RANGES];
+    struct range range[CS_RANGES];
     struct io_grant io[CS_SOCKETS];   /* by socket */
     struct irq_grant irq[CS_SOCKETS]; /* by socket */
 };
@@ -114,9 +103,6 @@ uint32_t model_sharers(const struct model *m, uint32_t level);
 uint32_t model_call(struct model *m, uint16_t service, uint16_t handle, uint8_t *packet,
                     size_t packet_len);
 
-/* Boot records of ten bytes: type, attributes, base or level (4), ports (4).
-   Answers code + 2^32 * place. */
-#define BOOT_RECORD 10
 uint64_t model_boot(struct model *m, const uint8_t *records, size_t len);
 
 #endif

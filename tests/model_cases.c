@@ -86,6 +86,39 @@ static void event_bits(void)
         expect("an event's bit", events[bit] == 1u << bit);
 }
 
+/* Document 01's limits, and its numbers for 35H and the boot list. */
+static void resource_numbers(void)
+{
+    static const uint32_t numbers[][2] = {
+        {CS_LEVELS, 16},
+        {CS_PORTS, 65536},
+        {CS_LINES, 16},
+        {CS_RANGES, 32},
+        {CS_ADJUST_IRQ_LENGTH, 4},
+        {CS_ADJUST_IO_SHORT_LENGTH, 7},
+        {CS_ADJUST_IO_LONG_LENGTH, 12},
+        {CS_ACTION_REMOVE, 0},
+        {CS_ACTION_ADD, 1},
+        {CS_ACTION_FIRST, 2},
+        {CS_ACTION_NEXT, 3},
+        {CS_RESOURCE_IO, 1},
+        {CS_RESOURCE_IRQ, 2},
+        {CS_RESERVE, 1u << 6},
+        {CS_ALLOCATED, 1u << 7},
+        {CS_IO_SHARED, 1u << 0},
+        {CS_IRQ_TYPE, 1u << 0 | 1u << 1},
+        {CS_IRQ_EXCLUSIVE, 0},
+        {CS_IRQ_TIME_MULTIPLEXED, 1},
+        {CS_IRQ_DYNAMIC, 2},
+        {CS_BOOT_RECORD, 10},
+        {CS_BOOT_MOST, 48},
+        {CS_BOOT_CODE((uint64_t)48 << 32 | 0x20), 0x20},
+        {CS_BOOT_PLACE((uint64_t)48 << 32 | 0x20), 48},
+    };
+    for (size_t i = 0; i < sizeof numbers / sizeof *numbers; i++)
+        expect("a number of 35H or the boot list", numbers[i][0] == numbers[i][1]);
+}
+
 /* ---- Short ways to ask ---- */
 
 static uint32_t adjust(struct model *m, const uint8_t *packet, size_t len)
@@ -97,12 +130,14 @@ static uint32_t adjust(struct model *m, const uint8_t *packet, size_t len)
 
 static uint32_t add_irq(struct model *m, uint8_t level, uint8_t attributes)
 {
-    return adjust(m, (uint8_t[]){ADD, RESOURCE_IRQ, attributes, level}, CS_ADJUST_IRQ_LENGTH);
+    return adjust(m, (uint8_t[]){CS_ACTION_ADD, CS_RESOURCE_IRQ, attributes, level},
+                  CS_ADJUST_IRQ_LENGTH);
 }
 
 static uint32_t remove_irq(struct model *m, uint8_t level)
 {
-    return adjust(m, (uint8_t[]){REMOVE, RESOURCE_IRQ, 0, level}, CS_ADJUST_IRQ_LENGTH);
+    return adjust(m, (uint8_t[]){CS_ACTION_REMOVE, CS_RESOURCE_IRQ, 0, level},
+                  CS_ADJUST_IRQ_LENGTH);
 }
 
 /* Add or Remove of an I/O range, in the short and in the long form. */
@@ -110,25 +145,25 @@ static uint32_t short_io(struct model *m, uint8_t action, uint16_t base, uint8_t
                          uint8_t attributes)
 {
     return adjust(m,
-                  (uint8_t[]){action, RESOURCE_IO, (uint8_t)base, (uint8_t)(base >> 8), ports,
-                              attributes, LINES},
+                  (uint8_t[]){action, CS_RESOURCE_IO, (uint8_t)base, (uint8_t)(base >> 8), ports,
+                              attributes, CS_LINES},
                   CS_ADJUST_IO_SHORT_LENGTH);
 }
 
 static uint32_t long_io(struct model *m, uint8_t action, uint32_t base, uint32_t ports)
 {
-    uint8_t packet[CS_ADJUST_IO_LONG_LENGTH] = {action, RESOURCE_IO};
+    uint8_t packet[CS_ADJUST_IO_LONG_LENGTH] = {action, CS_RESOURCE_IO};
     for (unsigned i = 0; i < 4; i++) {
         packet[2 + i] = (uint8_t)(base >> 8 * i);
         packet[6 + i] = (uint8_t)(ports >> 8 * i);
     }
-    packet[11] = LINES;
+    packet[11] = CS_LINES;
     return adjust(m, packet, sizeof packet);
 }
 
 static uint32_t add_io(struct model *m, uint16_t base, uint8_t ports)
 {
-    return short_io(m, ADD, base, ports, 0);
+    return short_io(m, CS_ACTION_ADD, base, ports, 0);
 }
 
 static uint32_t register_io_client(struct model *m)
@@ -208,7 +243,7 @@ static void ready_n6(struct model *m)
 {
     ready(m);
     add_irq(m, 3, 0);
-    add_irq(m, 5, RESERVE);
+    add_irq(m, 5, CS_RESERVE);
 }
 
 /* Host numbers are looked at whole. */
@@ -347,10 +382,10 @@ static void meeting(void)
     struct chance c = {1};
     unsigned met = 0, tried = 3000;
     for (unsigned i = 0; i < tried; i++) {
-        struct io_grant a = ports((uint16_t)pick(&c, PORTS), (uint8_t)(1 + pick(&c, 20)),
-                                  (uint8_t)(1 + pick(&c, LINES)));
+        struct io_grant a = ports((uint16_t)pick(&c, CS_PORTS), (uint8_t)(1 + pick(&c, 20)),
+                                  (uint8_t)(1 + pick(&c, CS_LINES)));
         struct io_grant b = ports((uint16_t)(a.base + (1u << a.lines) + pick(&c, 64) - 32),
-                                  (uint8_t)(1 + pick(&c, 20)), (uint8_t)(1 + pick(&c, LINES)));
+                                  (uint8_t)(1 + pick(&c, 20)), (uint8_t)(1 + pick(&c, CS_LINES)));
         expect("meeting by its letter", meet(&a, &b) == meet_by_letter(&a, &b));
         met += meet_by_letter(&a, &b);
     }
@@ -507,9 +542,9 @@ static void io_choice(void)
     struct model m;
     uint16_t given;
     ready(&m);
-    short_io(&m, ADD, 0x200, 16, RESERVE);
-    short_io(&m, ADD, 0x300, 4, 0);
-    short_io(&m, ADD, 0x304, 4, RESERVE);
+    short_io(&m, CS_ACTION_ADD, 0x200, 16, CS_RESERVE);
+    short_io(&m, CS_ACTION_ADD, 0x300, 4, 0);
+    short_io(&m, CS_ACTION_ADD, 0x304, 4, CS_RESERVE);
     request_io(&m, 0, 0, 8, 0, 16, &given);
     expect("half reserved is not wholly unreserved", given == 0x200);
     request_io(&m, 1, 0, 4, 0, 16, &given);
@@ -517,7 +552,7 @@ static void io_choice(void)
     request_io(&m, 2, 0, 4, 0, 16, &given);
     expect("then the lowest reserved", given == 0x208);
     ready(&m);
-    long_io(&m, ADD, 0, PORTS);
+    long_io(&m, CS_ACTION_ADD, 0, CS_PORTS);
     request_io(&m, 0, 0, 255, 0, 16, &given);
     expect("a positive multiple", given == 256);
 }
@@ -534,56 +569,85 @@ static void io_release(void)
     expect_code("another count", release_io(&m, 0, 1, 0x300, 7, 0), CS_BAD_BASE);
     expect_code("another socket", release_io(&m, 1, 1, 0x300, 8, 0), CS_BAD_BASE);
     expect_code("NumPorts2 before that", release_io(&m, 1, 1, 0x300, 8, 1), CS_BAD_SIZE);
-    expect_code("remove a held range", short_io(&m, REMOVE, 0x300, 16, 0), CS_IN_USE);
-    expect_code("remove a part", short_io(&m, REMOVE, 0x308, 8, 0), CS_BAD_BASE);
+    expect_code("remove a held range", short_io(&m, CS_ACTION_REMOVE, 0x300, 16, 0), CS_IN_USE);
+    expect_code("remove a part", short_io(&m, CS_ACTION_REMOVE, 0x308, 8, 0), CS_BAD_BASE);
     expect_code("deregister a holder", deregister(&m, 1), CS_IN_USE);
     expect_code("released without a card", release_io(&m, 0, 1, 0x300, 8, 0), CS_SUCCESS);
     expect_code("released again", release_io(&m, 0, 1, 0x300, 8, 0), CS_BAD_BASE);
-    expect_code("remove it then", short_io(&m, REMOVE, 0x300, 16, 0), CS_SUCCESS);
+    expect_code("remove it then", short_io(&m, CS_ACTION_REMOVE, 0x300, 16, 0), CS_SUCCESS);
 }
+
+/* On N6's table, with 300, 16 managed too. */
+static const struct {
+    const char *what;
+    uint8_t packet[13];
+    size_t len;
+    uint32_t code;
+} adjust_cases[] = {
+    {"length 1", {9}, 1, CS_BAD_ARG_LENGTH},
+    {"action 4", {4, 0}, 2, CS_BAD_ARGS},
+    {"resource 0", {1, 0}, 2, CS_UNSUPPORTED_SERVICE},
+    {"resource 3", {1, 3}, 2, CS_UNSUPPORTED_SERVICE},
+    {"resource 4", {1, 4}, 2, CS_UNSUPPORTED_SERVICE},
+    {"resource 5", {1, 5}, 2, CS_BAD_ARGS},
+    {"IRQ, length 5", {1, 2, 0, 4, 0}, 5, CS_BAD_ARG_LENGTH},
+    {"I/O, length 8", {1, 1, 0, 1, 8, 0, 16, 0}, 8, CS_BAD_ARG_LENGTH},
+    {"Add IRQ, bit 7", {1, 2, 0x80, 4}, 4, CS_BAD_ATTRIBUTE},
+    {"Add IRQ, bit 6", {1, 2, 0x40, 15}, 4, CS_SUCCESS},
+    {"Remove IRQ, bit 6", {0, 2, 0x40, 3}, 4, CS_BAD_ATTRIBUTE},
+    {"level 16", {1, 2, 0, 16}, 4, CS_BAD_IRQ},
+    {"Add a managed level", {1, 2, 0, 3}, 4, CS_IN_USE},
+    {"lines 15", {1, 1, 0, 1, 8, 0, 15}, 7, CS_BAD_ATTRIBUTE},
+    {"no port", {1, 1, 0, 1, 0, 0, 16}, 7, CS_BAD_SIZE},
+    {"all ports", {1, 1, 0, 0, 0, 0, 0, 0, 1, 0, 0, 16}, 12, CS_IN_USE},
+    {"65,537 ports", {1, 1, 0, 0, 0, 0, 1, 0, 1, 0, 0, 16}, 12, CS_BAD_SIZE},
+    {"base 10000H", {1, 1, 0, 0, 1, 0, 1, 0, 0, 0, 0, 16}, 12, CS_BAD_BASE},
+    {"base FFFFFFFFH", {1, 1, 255, 255, 255, 255, 1, 0, 0, 0, 0, 16}, 12, CS_BAD_BASE},
+    {"beside a range", {1, 1, 0x10, 3, 8, 0x40, 16}, 7, CS_SUCCESS},
+    {"over its last port", {1, 1, 0x0F, 3, 8, 0, 16}, 7, CS_IN_USE},
+    {"Next after the last", {3, 1, 0, 3, 0, 0, 0}, 7, CS_NO_MORE_ITEMS},
+    {"Next after the last level", {3, 2, 0, 5}, 4, CS_NO_MORE_ITEMS},
+    {"Next after level 255", {3, 2, 0, 255}, 4, CS_NO_MORE_ITEMS},
+    {"length 0", {0}, 0, CS_BAD_ARG_LENGTH},
+    {"action 255 before resource 0", {255, 0}, 2, CS_BAD_ARGS},
+    {"resource 255", {3, 255}, 2, CS_BAD_ARGS},
+    {"resource 3 before the length", {2, 3, 0}, 3, CS_UNSUPPORTED_SERVICE},
+    {"IRQ, length 3", {2, 2, 0}, 3, CS_BAD_ARG_LENGTH},
+    {"IRQ, length 7", {2, 2, 0, 0, 0, 0, 0}, 7, CS_BAD_ARG_LENGTH},
+    {"I/O, length 4", {2, 1, 0, 0}, 4, CS_BAD_ARG_LENGTH},
+    {"I/O, length 11", {2, 1}, 11, CS_BAD_ARG_LENGTH},
+    {"I/O, length 13", {2, 1}, 13, CS_BAD_ARG_LENGTH},
+    {"Add IRQ, attribute before level", {1, 2, 1, 16}, 4, CS_BAD_ATTRIBUTE},
+    {"Remove level 16", {0, 2, 0, 16}, 4, CS_BAD_IRQ},
+    {"Remove a level not managed", {0, 2, 0, 4}, 4, CS_BAD_IRQ},
+    {"Remove a level, held by nobody", {0, 2, 0, 3}, 4, CS_SUCCESS},
+    {"Add I/O, bits 6 and 0", {1, 1, 0, 1, 8, 0x41, 16}, 7, CS_BAD_ATTRIBUTE},
+    {"Remove I/O, bit 6", {0, 1, 0, 3, 16, 0x40, 16}, 7, CS_BAD_ATTRIBUTE},
+    {"Remove I/O, lines 17", {0, 1, 0, 3, 16, 0, 17}, 7, CS_BAD_ATTRIBUTE},
+    {"lines before ports", {1, 1, 0, 1, 0, 0, 15}, 7, CS_BAD_ATTRIBUTE},
+    {"ports before base", {1, 1, 0, 0, 1, 0, 0, 0, 0, 0, 0, 16}, 12, CS_BAD_SIZE},
+    {"a sum of 2^32", {1, 1, 0, 0, 255, 255, 0, 0, 1, 0, 0, 16}, 12, CS_BAD_BASE},
+    {"ports FFFFFFFFH", {1, 1, 1, 0, 0, 0, 255, 255, 255, 255, 0, 16}, 12, CS_BAD_SIZE},
+    {"Remove 300, 16", {0, 1, 0, 3, 16, 0, 16}, 7, CS_SUCCESS},
+    {"Remove 300, 16, long", {0, 1, 0, 3, 0, 0, 16, 0, 0, 0, 0, 16}, 12, CS_SUCCESS},
+    {"Remove 300, 15", {0, 1, 0, 3, 15, 0, 16}, 7, CS_BAD_BASE},
+    {"Remove 301, 16", {0, 1, 1, 3, 16, 0, 16}, 7, CS_BAD_BASE},
+    {"Next from below", {3, 1, 0xFF, 2, 0, 0, 0}, 7, CS_SUCCESS},
+    {"Next from 10000H", {3, 1, 0, 0, 1, 0, 0, 0, 0, 0, 0, 0}, 12, CS_NO_MORE_ITEMS},
+    {"First, all else any byte", {2, 1, 255, 255, 255, 255, 255}, 7, CS_SUCCESS},
+};
 
 static void adjust_codes(void)
 {
-    static const struct {
-        const char *what;
-        uint8_t packet[13];
-        size_t len;
-        uint32_t code;
-    } cases[] = {
-        {"length 1", {9}, 1, CS_BAD_ARG_LENGTH},
-        {"action 4", {4, 0}, 2, CS_BAD_ARGS},
-        {"resource 0", {1, 0}, 2, CS_UNSUPPORTED_SERVICE},
-        {"resource 3", {1, 3}, 2, CS_UNSUPPORTED_SERVICE},
-        {"resource 4", {1, 4}, 2, CS_UNSUPPORTED_SERVICE},
-        {"resource 5", {1, 5}, 2, CS_BAD_ARGS},
-        {"IRQ, length 5", {1, 2, 0, 4, 0}, 5, CS_BAD_ARG_LENGTH},
-        {"I/O, length 8", {1, 1, 0, 1, 8, 0, 16, 0}, 8, CS_BAD_ARG_LENGTH},
-        {"Add IRQ, bit 7", {1, 2, 0x80, 4}, 4, CS_BAD_ATTRIBUTE},
-        {"Add IRQ, bit 6", {1, 2, 0x40, 15}, 4, CS_SUCCESS},
-        {"Remove IRQ, bit 6", {0, 2, 0x40, 3}, 4, CS_BAD_ATTRIBUTE},
-        {"level 16", {1, 2, 0, 16}, 4, CS_BAD_IRQ},
-        {"Add a managed level", {1, 2, 0, 3}, 4, CS_IN_USE},
-        {"lines 15", {1, 1, 0, 1, 8, 0, 15}, 7, CS_BAD_ATTRIBUTE},
-        {"no port", {1, 1, 0, 1, 0, 0, 16}, 7, CS_BAD_SIZE},
-        {"all ports", {1, 1, 0, 0, 0, 0, 0, 0, 1, 0, 0, 16}, 12, CS_IN_USE},
-        {"65,537 ports", {1, 1, 0, 0, 0, 0, 1, 0, 1, 0, 0, 16}, 12, CS_BAD_SIZE},
-        {"base 10000H", {1, 1, 0, 0, 1, 0, 1, 0, 0, 0, 0, 16}, 12, CS_BAD_BASE},
-        {"base FFFFFFFFH", {1, 1, 255, 255, 255, 255, 1, 0, 0, 0, 0, 16}, 12, CS_BAD_BASE},
-        {"beside a range", {1, 1, 0x10, 3, 8, 0x40, 16}, 7, CS_SUCCESS},
-        {"over its last port", {1, 1, 0x0F, 3, 8, 0, 16}, 7, CS_IN_USE},
-        {"Next after the last", {3, 1, 0, 3, 0, 0, 0}, 7, CS_NO_MORE_ITEMS},
-        {"Next after the last level", {3, 2, 0, 5}, 4, CS_NO_MORE_ITEMS},
-        {"Next after level 255", {3, 2, 0, 255}, 4, CS_NO_MORE_ITEMS},
-    };
-    for (size_t i = 0; i < sizeof cases / sizeof *cases; i++) {
+    for (size_t i = 0; i < sizeof adjust_cases / sizeof *adjust_cases; i++) {
         struct model m;
         uint8_t packet[13];
         ready_n6(&m);
         add_io(&m, 0x300, 16);
-        memcpy(packet, cases[i].packet, sizeof packet);
-        expect_code(cases[i].what,
-                    model_call(&m, CS_ADJUST_RESOURCE_INFO, 77, packet, cases[i].len),
-                    cases[i].code);
+        memcpy(packet, adjust_cases[i].packet, sizeof packet);
+        expect_code(adjust_cases[i].what,
+                    model_call(&m, CS_ADJUST_RESOURCE_INFO, 77, packet, adjust_cases[i].len),
+                    adjust_cases[i].code);
     }
 }
 
@@ -592,7 +656,7 @@ static void shown(void)
     struct model m;
     uint8_t level[4] = {2, 2, 0xFF, 0xFF}, range[12] = {3, 1, 0xFF, 2};
     ready_n6(&m);
-    long_io(&m, ADD, 0x300, 256);
+    long_io(&m, CS_ACTION_ADD, 0x300, 256);
     add_io(&m, 0x100, 255);
     request_irq_code(&m, 0, 6, 0xC3, 0);
     request_io_code(&m, 0, 0x308, 8, 1, 16);
@@ -629,6 +693,48 @@ static void shown_holders(void)
     m.io[1].shared = true;
     model_call(&m, CS_ADJUST_RESOURCE_INFO, 9, range, 7);
     expect("all of them share", range[5] == 0x81);
+}
+
+/* Its own ports hold a range: the first, the last, not the ones beside it. */
+static void ports_that_hold(void)
+{
+    static const struct {
+        uint16_t base;
+        uint8_t count;
+        bool holds;
+    } grants[] = {{0x2FF, 1, false}, {0x300, 1, true}, {0x30F, 1, true}, {0x310, 1, false},
+                  {0x2FF, 2, true},  {0x30F, 2, true}, {0x700, 8, false}};
+    for (size_t i = 0; i < sizeof grants / sizeof *grants; i++) {
+        struct model m;
+        uint8_t range[7] = {3, 1, 0xFF, 2};
+        ready(&m);
+        add_io(&m, 0x2F0, 16);
+        add_io(&m, 0x300, 16);
+        long_io(&m, CS_ACTION_ADD, 0x310, 0x500);
+        m.io[3] = (struct io_grant){true, 2, grants[i].base, grants[i].count, 10, false};
+        expect("the holder", model_call(&m, CS_ADJUST_RESOURCE_INFO, 9, range, 7) ==
+                                 (grants[i].holds ? 2u << 16 : 0));
+        expect("bit 7", range[5] == (grants[i].holds ? 0x80 : 0));
+        expect_code("Remove", short_io(&m, CS_ACTION_REMOVE, 0x300, 16, 0),
+                    grants[i].holds ? CS_IN_USE : CS_SUCCESS);
+    }
+}
+
+/* Add and Remove answer the handle given, whatever it is. */
+static void given_handles(void)
+{
+    static const uint16_t given[] = {0, 1, 2, 9, 0xFFFF};
+    for (size_t i = 0; i < sizeof given / sizeof *given; i++) {
+        struct model m;
+        uint8_t add[4] = {1, 2, 0, 7}, take[4] = {0, 2, 0, 7}, first[4] = {2, 2, 0, 0};
+        uint32_t answer = (uint32_t)given[i] << 16;
+        ready(&m);
+        expect("Add's handle", model_call(&m, CS_ADJUST_RESOURCE_INFO, given[i], add, 4) == answer);
+        expect("First's handle",
+               model_call(&m, CS_ADJUST_RESOURCE_INFO, given[i], first, 4) == CS_SUCCESS);
+        expect("Remove's handle",
+               model_call(&m, CS_ADJUST_RESOURCE_INFO, given[i], take, 4) == answer);
+    }
 }
 
 /* NumPorts2, and a socket's function. */
@@ -683,11 +789,64 @@ static void boot_list(void)
            model_boot(&m, records, 19) == (CS_BAD_ARG_LENGTH | (uint64_t)1 << 32));
 }
 
+static void boot_codes(void)
+{
+    static const struct {
+        const char *what;
+        uint8_t record[CS_BOOT_RECORD];
+        uint32_t code;
+    } cases[] = {
+        {"boot, resource 0", {0, 0, 3, 0, 0, 0, 1, 0, 0, 0}, CS_UNSUPPORTED_SERVICE},
+        {"boot, resource 4", {4, 0, 3, 0, 0, 0, 1, 0, 0, 0}, CS_UNSUPPORTED_SERVICE},
+        {"boot, resource 5", {5, 0x80, 3, 0, 0, 0, 1, 0, 0, 0}, CS_BAD_ARGS},
+        {"boot, bit 7", {2, 0x80, 16, 0, 0, 0, 1, 0, 0, 0}, CS_BAD_ATTRIBUTE},
+        {"boot, level 15", {2, 0, 15, 0, 0, 0, 1, 0, 0, 0}, CS_SUCCESS},
+        {"boot, level 16", {2, 0, 16, 0, 0, 0, 1, 0, 0, 0}, CS_BAD_IRQ},
+        {"boot, level 256", {2, 0, 0, 1, 0, 0, 1, 0, 0, 0}, CS_BAD_IRQ},
+        {"boot, level 65,539", {2, 0, 3, 0, 1, 0, 1, 0, 0, 0}, CS_BAD_IRQ},
+        {"boot, no port", {1, 0, 0, 3, 0, 0, 0, 0, 0, 0}, CS_BAD_SIZE},
+        {"boot, all ports", {1, 0x40, 0, 0, 0, 0, 0, 0, 1, 0}, CS_SUCCESS},
+        {"boot, 65,537 ports", {1, 0, 0, 0, 0, 0, 1, 0, 1, 0}, CS_BAD_SIZE},
+        {"boot, FFF9, 8", {1, 0, 0xF9, 0xFF, 0, 0, 8, 0, 0, 0}, CS_BAD_BASE},
+        {"boot, a sum of 2^32", {1, 0, 0xFF, 0xFF, 0xFF, 0xFF, 1, 0, 0, 0}, CS_BAD_BASE},
+    };
+    for (size_t i = 0; i < sizeof cases / sizeof *cases; i++) {
+        struct model m;
+        ready(&m);
+        uint64_t answer = model_boot(&m, cases[i].record, CS_BOOT_RECORD);
+        expect_code(cases[i].what, CS_BOOT_CODE(answer), cases[i].code);
+        expect("its place", CS_BOOT_PLACE(answer) == (cases[i].code == CS_SUCCESS ? 1 : 0));
+    }
+}
+
+/* A refused record comes before the bytes that are too few, and nothing after
+   it is added; 48 records are all there is to add. */
+static void boot_places(void)
+{
+    struct model m;
+    uint8_t records[49 * CS_BOOT_RECORD] = {0};
+    for (unsigned i = 0; i < 49; i++) {
+        uint8_t *record = records + i * CS_BOOT_RECORD;
+        record[0] = i < 16 ? CS_RESOURCE_IRQ : CS_RESOURCE_IO;
+        record[i < 16 ? 2 : 3] = (uint8_t)i;
+        record[6] = 8;
+    }
+    ready(&m);
+    expect("boot, 48", model_boot(&m, records, 480) == (uint64_t)48 << 32);
+    ready(&m);
+    expect("boot, 49", model_boot(&m, records, 490) == (CS_OUT_OF_RESOURCE | (uint64_t)48 << 32));
+    records[20] = 9;
+    ready(&m);
+    expect("boot, place 2", model_boot(&m, records, 45) == (CS_BAD_ARGS | (uint64_t)2 << 32));
+    expect("boot, only those before",
+           m.level[0].managed && m.level[1].managed && !m.level[2].managed && !m.level[3].managed);
+}
+
 static void range_limit(void)
 {
     struct model m;
     ready(&m);
-    for (uint16_t i = 0; i < RANGES; i++)
+    for (uint16_t i = 0; i < CS_RANGES; i++)
         expect_code("32 ranges", add_io(&m, (uint16_t)(16 * i), 8), CS_SUCCESS);
     expect_code("the 33rd", add_io(&m, 0x8000, 8), CS_OUT_OF_RESOURCE);
     expect_code("held comes first", add_io(&m, 0, 8), CS_IN_USE);
@@ -738,6 +897,7 @@ int main(void)
     codes();
     service_numbers();
     event_bits();
+    resource_numbers();
     host_numbers();
     n1_to_n4();
     n5();
@@ -759,9 +919,13 @@ int main(void)
     adjust_codes();
     shown();
     shown_holders();
+    ports_that_hold();
+    given_handles();
     fields_that_must_be_zero();
     masks();
     boot_list();
+    boot_codes();
+    boot_places();
     range_limit();
     runs();
     printf("model_cases: %lu checks, %lu differ\n", checks, failed);

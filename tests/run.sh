@@ -40,8 +40,9 @@ build model_cases tests/model_cases.c $model
 run model_cases
 
 # shellcheck disable=SC2086
-build compare tests/compare.c tests/compare_calls.c tests/compare_tables.c tests/clauses.c \
-    tests/check.c $model "$archive"
+build compare tests/compare.c tests/compare_calls.c tests/compare_resources.c \
+    tests/compare_holders.c tests/compare_boot.c tests/compare_runs.c tests/compare_tables.c \
+    tests/resources.c tests/clauses.c tests/check.c $model "$archive"
 run compare
 
 echo "run: the demo"

@@ -44,13 +44,13 @@ void full_set(struct model *m, unsigned clients)
     }
     for (unsigned level = 0; level < CS_LEVELS; level++)
         m->level[level] = (struct level){true, level % 2 == 1};
-    m->ranges = RANGES;
-    for (uint32_t i = 0; i < RANGES; i++)
+    m->ranges = CS_RANGES;
+    for (uint32_t i = 0; i < CS_RANGES; i++)
         m->range[i] = (struct range){0x100 + 0x40 * i, 0x10, i % 2 == 1};
     for (unsigned s = 0; s < CS_SOCKETS; s++) {
         uint16_t client = (uint16_t)(s + 1), base = (uint16_t)(0x100 + 0x40 * (s / 2));
         m->card[s] = true;
-        m->io[s] = (struct io_grant){true, client, base, 8, LINES, true};
+        m->io[s] = (struct io_grant){true, client, base, 8, CS_LINES, true};
         m->irq[s] = (struct irq_grant){true, client, (uint8_t)(s / 2), DYNAMIC_LEVEL};
     }
 }
@@ -79,7 +79,7 @@ static uint32_t some_port(struct chance *c)
     static const uint32_t known[] = {0,     1,     0x2F8, 0x300,  0x3E8,
                                      0x3F0, 0x6F8, 0x700, 0xFF00, 0xFFF8};
     uint32_t base = known[pick(c, sizeof known / sizeof *known)];
-    return one_in(c, 4) ? pick(c, PORTS) : (base + pick(c, 16)) % PORTS;
+    return one_in(c, 4) ? pick(c, CS_PORTS) : (base + pick(c, 16)) % CS_PORTS;
 }
 
 static uint32_t some_count(struct chance *c)
@@ -91,7 +91,7 @@ static uint32_t some_count(struct chance *c)
 static uint8_t some_lines(struct chance *c)
 {
     static const uint8_t known[] = {16, 16, 10, 12, 8};
-    return one_in(c, 3) ? (uint8_t)(1 + pick(c, LINES)) : known[pick(c, sizeof known)];
+    return one_in(c, 3) ? (uint8_t)(1 + pick(c, CS_LINES)) : known[pick(c, sizeof known)];
 }
 
 static void random_range(struct chance *c, struct model *m)
@@ -156,8 +156,8 @@ void random_set(struct chance *c, struct model *m)
     for (unsigned tries = m->issued == 0 ? 0 : pick(c, CS_CLIENTS + 1); tries > 0; tries--)
         random_client(c, m);
     if (one_in(c, 8))
-        m->range[m->ranges++] = (struct range){0, PORTS, one_in(c, 2)};
-    for (unsigned tries = pick(c, RANGES); tries > 0; tries--)
+        m->range[m->ranges++] = (struct range){0, CS_PORTS, one_in(c, 2)};
+    for (unsigned tries = pick(c, CS_RANGES); tries > 0; tries--)
         random_range(c, m);
     for (unsigned s = 0; m->clients > 0 && s < m->sockets; s++)
         random_grants(c, m, s);
@@ -165,10 +165,15 @@ void random_set(struct chance *c, struct model *m)
 
 /* ---- Requests ---- */
 
-static void put(struct request *r, size_t at, size_t size, uint32_t value)
+static void put_number(uint8_t *at, size_t size, uint32_t value)
 {
     for (size_t i = 0; i < size; i++)
-        r->packet[at + i] = (uint8_t)(value >> (8 * i));
+        at[i] = (uint8_t)(value >> (8 * i));
+}
+
+static void put(struct request *r, size_t at, size_t size, uint32_t value)
+{
+    put_number(r->packet + at, size, value);
 }
 
 static void put_socket(struct chance *c, const struct model *m, struct request *r)
@@ -189,29 +194,69 @@ static void any_packet(struct chance *c, const struct model *m, struct request *
     (void)c, (void)m, (void)r;
 }
 
+/* Mostly the number itself; else one of 32 bits, near it or at a limit. */
+static uint32_t perhaps_wide(struct chance *c, uint32_t number)
+{
+    static const uint32_t known[] = {0,     255,   256,        0xFFFF,    65536,
+                                     65537, 65539, 0x80000000, 0xFFFFFFFF};
+    if (!one_in(c, 8))
+        return number;
+    return one_in(c, 2) ? number | (uint32_t)1 << (8 + pick(c, 24))
+                        : known[pick(c, sizeof known / sizeof *known)];
+}
+
+/* Ports that are managed, or next to them, or others. */
+static struct range some_ports(struct chance *c, const struct model *m)
+{
+    struct range ports = {one_in(c, 2) ? pick(c, CS_PORTS) : some_port(c), some_count(c), false};
+    if (m->ranges > 0 && one_in(c, 2)) {
+        const struct range *known = &m->range[pick(c, m->ranges)];
+        ports.base = known->base;
+        switch (pick(c, 4)) {
+        case 0:
+            ports.base += known->count;
+            break;
+        case 1:
+            ports.base += pick(c, 3) - 1;
+            break;
+        default:
+            ports.count = known->count;
+        }
+    }
+    return (struct range){perhaps_wide(c, ports.base), perhaps_wide(c, ports.count), false};
+}
+
+static uint8_t some_attributes(struct chance *c)
+{
+    return one_in(c, 16) ? byte(c) : one_in(c, 3) ? CS_RESERVE : 0;
+}
+
+static uint8_t some_resource(struct chance *c)
+{
+    if (one_in(c, 16))
+        return one_in(c, 4) ? byte(c) : (uint8_t)pick(c, RESOURCES + 1);
+    return one_in(c, 3) ? CS_RESOURCE_IRQ : CS_RESOURCE_IO;
+}
+
 static void adjust_packet(struct chance *c, const struct model *m, struct request *r)
 {
-    bool known = m->ranges > 0 && one_in(c, 2), reserve = one_in(c, 3);
-    const struct range *range = &m->range[known ? pick(c, m->ranges) : 0];
-    uint32_t base = known ? range->base : some_port(c),
-             count = known ? range->count : some_count(c);
-    uint8_t attributes = one_in(c, 16) ? byte(c) : reserve ? RESERVE : 0;
-    uint8_t lines = one_in(c, 16) ? byte(c) : LINES;
+    struct range ports = some_ports(c, m);
+    uint32_t ends = some_attributes(c) | (uint32_t)(one_in(c, 16) ? byte(c) : CS_LINES) << 8;
     r->packet[0] = one_in(c, 32) ? byte(c) : (uint8_t)pick(c, ACTIONS);
-    r->packet[1] = (uint8_t)(one_in(c, 16) ? pick(c, RESOURCES + 1) : RESOURCE_IO + pick(c, 2));
-    if (r->packet[1] == RESOURCE_IRQ) {
+    r->packet[1] = some_resource(c);
+    if (r->packet[1] == CS_RESOURCE_IRQ) {
         r->len = CS_ADJUST_IRQ_LENGTH;
-        r->packet[2] = attributes;
-        r->packet[3] = (uint8_t)pick(c, CS_LEVELS + 1);
+        r->packet[2] = (uint8_t)ends;
+        r->packet[3] = one_in(c, 16) ? byte(c) : (uint8_t)pick(c, CS_LEVELS + 1);
     } else if (one_in(c, 2)) {
         r->len = CS_ADJUST_IO_SHORT_LENGTH;
-        put(r, 2, 2, base);
-        put(r, 4, 1, count);
-        put(r, 5, 2, attributes | (uint32_t)lines << 8);
+        put(r, 2, 2, ports.base);
+        put(r, 4, 1, ports.count);
+        put(r, 5, 2, ends);
     } else {
-        put(r, 2, 4, one_in(c, 16) ? PORTS + base : base);
-        put(r, 6, 4, one_in(c, 16) ? PORTS + count - 1 : count);
-        put(r, 10, 2, attributes | (uint32_t)lines << 8);
+        put(r, 2, 4, ports.base);
+        put(r, 6, 4, ports.count);
+        put(r, 10, 2, ends);
     }
 }
 
@@ -291,4 +336,25 @@ void random_request(struct chance *c, const struct model *m, struct request *r)
     kinds[kind].packet(c, m, r);
     if (one_in(c, 16))
         r->len = pick(c, MOST_PACKET + 1);
+}
+
+/* ---- Boot lists ---- */
+
+static void boot_record(struct chance *c, const struct model *m, uint8_t *record)
+{
+    struct range ports = some_ports(c, m);
+    record[0] = some_resource(c);
+    record[1] = some_attributes(c);
+    if (record[0] == CS_RESOURCE_IRQ)
+        ports.base = perhaps_wide(c, pick(c, CS_LEVELS + 1));
+    put_number(record + 2, 4, ports.base);
+    put_number(record + 6, 4, ports.count);
+}
+
+size_t random_boot_list(struct chance *c, const struct model *m, uint8_t records[MOST_BOOT_LIST])
+{
+    size_t len = pick(c, one_in(c, 8) ? MOST_BOOT_LIST / CS_BOOT_RECORD : 6) * CS_BOOT_RECORD;
+    for (size_t at = 0; at < len; at += CS_BOOT_RECORD)
+        boot_record(c, m, records + at);
+    return len > 0 && one_in(c, 6) ? len - 1 - pick(c, CS_BOOT_RECORD - 1) : len;
 }

@@ -33,4 +33,8 @@ struct request {
 /* Some request, mostly one that the facts are near to accepting. */
 void random_request(struct chance *c, const struct model *m, struct request *r);
 
+/* Some boot list, mostly of a few records that add something; its length. */
+#define MOST_BOOT_LIST (64 * CS_BOOT_RECORD)
+size_t random_boot_list(struct chance *c, const struct model *m, uint8_t records[MOST_BOOT_LIST]);
+
 #endif

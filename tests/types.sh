@@ -57,3 +57,7 @@ refused keeper lib.rt 'irq::pack(irq::sharers(table, level))' \
     'answers::pack(irq::sharers(table, level))' Answer SharerCount
 refused keeper lib.rt 'facts::number(sockets::card(table, socket, present))' \
     'answers::pack(sockets::card(table, socket, present))' Answer Code
+refused holders lib.rt 'better(t, what, best, Socket(s))' 'better(t, what, best, s)' Socket usize
+refused boot lib.rt 'return Booted::Stopped(place, code)' 'return Booted::Stopped(code, place)' usize Code
+refused keeper lib.rt 'boot::pack(boot::boot(table, records))' \
+    'answers::pack(boot::boot(table, records))' Answer Booted

@@ -1,3 +1,4 @@
 -- How a call is served, and the number that packs an answer. Assumes nothing.
 pub mod Serve
 pub mod Packing
+pub mod Changing

@@ -4,16 +4,26 @@ use mathlib.Core.Logic.{_≢_}
 use mathlib.Core.List.{List}
 use Prim.Native.Nat.{ℕ, _+_, _*_, _≤_, _<_}
 use lib.ListN.{length}
+use lib.Dec.{eqb}
 use Rattle.facts.specs.declared.Code.{Code}
 use Rattle.facts.specs.declared.Code.the-variants.{Success}
 use Rattle.facts.specs.Codes.{numberOf}
+use Rattle.facts.specs.Table
 use Rattle.layout.specs.Reading.{socketsIn}
+use Rattle.facts.specs.Resources.{AddBits, reserveBit}
+use Rattle.layout.specs.Layout.{mark}
 use Rattle.answers.specs.declared.Answer.{Answer}
 use Rattle.answers.specs.declared.Answer.the-variants.{Done, Refused}
 use Rattle.answers.specs.declared.Size.{Size}
 use Rattle.answers.specs.declared.Size.the-variants.{Right, Wrong}
 use Rattle.answers.specs.declared.Counted.{Counted}
 use Rattle.answers.specs.declared.Counted.the-variants.{Below, Past}
+use Rattle.answers.specs.declared.LevelNumber.{LevelNumber}
+use Rattle.answers.specs.declared.LevelNumber.the-variants as level
+use Rattle.answers.specs.declared.Reserve.{Reserve}
+use Rattle.answers.specs.declared.Reserve.the-variants.{Mark, Other}
+use Rattle.answers.specs.declared.Bits.{Bits}
+use Rattle.answers.specs.declared.Bits.the-variants.{Clear, Set}
 
 -- "It answers a code and a handle."; "a refusal answers 0"
 abbrev pub codeOf : Answer → Code
@@ -37,3 +47,17 @@ SizeIs p n Wrong = length p ≢ n
 abbrev pub CountedIs : List ℕ → ℕ → Counted → Type 0
 CountedIs b n (Below s) = (s .0 ≡ n) × (n < socketsIn b)
 CountedIs b n Past = socketsIn b ≤ n
+
+-- the number is that of one of a table's levels, or it is over them
+abbrev pub LevelIs : ℕ → LevelNumber → Type 0
+LevelIs n (level.Below l) = (l ≡ n) × (n < Table.allLevels)
+LevelIs n level.Over = Table.allLevels ≤ n
+
+-- the bits of an Add and of a Remove
+abbrev pub ReserveIs : ℕ → Reserve → Type 0
+ReserveIs a (Mark m) = AddBits a × (m ≡ mark (eqb a reserveBit))
+ReserveIs a Other = AddBits a → ⊥
+
+abbrev pub BitsAre : ℕ → Bits → Type 0
+BitsAre a Clear = a ≡ 0
+BitsAre a Set = a ≢ 0

@@ -1,2 +1,3 @@
 -- What the contracts of `answers` cite. Assumes nothing.
 pub mod Answers
+pub mod Changing

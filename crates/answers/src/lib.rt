@@ -2,11 +2,12 @@
 use facts::Code;
 use facts::Handle;
 use facts::Socket;
+use layout::ALL_LEVELS;
 use layout::SOCKETS_IN;
 ghost use mathlib.Core.Path.{_≡_};
 ghost use lib.ListN.{length};
 ghost use Rattle.layout.specs.Layout.{tableSize};
-ghost use Rattle.answers.specs.Answers.{packed, codeOf, handleOf, SizeIs, CountedIs};
+ghost use Rattle.answers.specs.Answers.{packed, codeOf, handleOf, SizeIs, CountedIs, LevelIs, ReserveIs, BitsAre};
 
 // What a service answers: a handle, or the code of a refusal.
 pub enum Answer {
@@ -58,5 +59,60 @@ pub fn below_count(t: &[u8], socket: Socket) -> Counted
         Counted::Below(socket)
     } else {
         Counted::Past
+    }
+}
+
+// Whether a level that is named is one of a table's levels.
+pub enum LevelNumber {
+    Below(usize),
+    Over,
+}
+
+pub fn below_levels(level: u32) -> LevelNumber
+    ensures { λ r. ⌜ LevelIs level r ⌝ }
+{
+    let number = level as usize;
+    if number < ALL_LEVELS {
+        LevelNumber::Below(number)
+    } else {
+        LevelNumber::Over
+    }
+}
+
+// A change of what is managed is made, or refused with a code.
+pub enum Change {
+    Made,
+    Refused(Code),
+}
+
+// "Add (1) allows only bit 6, reserve": the reserve mark that is asked for, or other bits.
+pub enum Reserve {
+    Mark(u8),
+    Other,
+}
+
+pub fn reserve_asked(attributes: u8) -> Reserve
+    ensures { λ r. ⌜ ReserveIs attributes r ⌝ }
+{
+    match attributes {
+        0x00 => Reserve::Mark(0),
+        0x40 => Reserve::Mark(1),
+        0x01..=0x3F | 0x41..=0xFF => Reserve::Other,
+    }
+}
+
+// "Remove (0) no bit".
+pub enum Bits {
+    Clear,
+    Set,
+}
+
+pub fn no_bit(attributes: u8) -> Bits
+    ensures { λ r. ⌜ BitsAre attributes r ⌝ }
+{
+    if attributes == 0 {
+        Bits::Clear
+    } else {
+        Bits::Set
     }
 }

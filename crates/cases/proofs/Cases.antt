@@ -6,6 +6,7 @@ use mathlib.Core.Option.{Option·none-ne-some}
 use Prim.Native.Nat.{ℕ, _+_, _≤_, _<_}
 use native.Mathlib.Omega.{arith}
 use lib.ListN.{length}
+use Rattle.facts.specs.declared.Width.the-variants.{Short}
 use Rattle.facts.specs.declared.Code.the-variants.{BadBase}
 use Rattle.facts.specs.declared.Manner.the-variants.{Exclusive, DynamicLevel}
 use Rattle.facts.specs.Table.{Facts, Range, IrqGrant, fresh}
@@ -13,7 +14,7 @@ use Rattle.facts.specs.WellFormed.{Apart}
 use Rattle.facts.specs.Levels.{typeOf}
 use Rattle.facts.specs.Checks.{Outcome}
 use Rattle.facts.specs.Clients.{Register, Deregister, nextHandle, registered}
-use Rattle.facts.specs.Resources.{AdjustResourceInfo, AdjustIo, Follows, RangeHeld, RangeNext, unheld, first, short, mostShown, showingRange}
+use Rattle.facts.specs.Resources.{AdjustResourceInfo, AdjustIo, Follows, RangeHeld, RangeNext, unheld, first, mostShown, showingRange}
 use Rattle.cases.specs.Cases.{Cases, Exactly, done, refused, range, managing, ready, twoLevels, threeHeld, bothHeld, oneSharer, twoSharers}
 use Rattle.cases.specs.Cases.{halfHeld, unheldRange, oneClient, noClient, clientPacket, addPacket, firstPacket}
 use Rattle.facts.proofs.Unique.{register-unique, deregister-unique, sharers-unique, adjust-unique}
@@ -26,13 +27,13 @@ module _ (F : Facts) (apart : Apart 0 (F .ranges)) (a b c d e f : ℕ) (action :
   abbrev shortPacket : List ℕ
   shortPacket = a ∷ 0x01 ∷ b ∷ c ∷ d ∷ e ∷ f ∷ []
 
-  adjusts : {o : Outcome} → AdjustIo short F 1 shortPacket o → Exactly (AdjustResourceInfo F 1 shortPacket) o
+  adjusts : {o : Outcome} → AdjustIo Short F 1 shortPacket o → Exactly (AdjustResourceInfo F 1 shortPacket) o
   adjusts r =
       exactly (adjust-unique F 1 shortPacket apart)
       (inr (
         (omega arith) then (omega arith) then (omega arith nor omega arith nor omega arith) then (omega arith) then
             (omega arith nor omega arith) then tt,
-        inr (refl, short, refl, r),
+        inr (refl, Short, refl, r),
       ))
 
 -- N5's packets: up to the base FFF8 the 8 ports are added, past it they are not
@@ -66,7 +67,7 @@ only-next r F action given f =
     (inl refl, record { fits = (r, inl refl, refl, f); least = λ b g. omega (arith, g .2, ap (λ (x : Range). x .base) (listed-alone (g .1))) })
 
 first-shows : (r : Range) (F : Facts) → r .count ≤ mostShown → (RangeHeld (managing r F) r → ⊥)
-    → AdjustIo short (managing r F) 1 firstPacket (done 0 (showingRange short firstPacket r 0) (managing r F))
+    → AdjustIo Short (managing r F) 1 firstPacket (done 0 (showingRange Short firstPacket r 0) (managing r F))
 first-shows r F fits free =
     inr (inr (
       inl refl,

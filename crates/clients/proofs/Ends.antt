@@ -19,13 +19,13 @@ use Rattle.layout.specs.Layout.{image}
 use Rattle.layout.specs.Reading.{clientsIn, issuedIn, maskPlace, ioPlace, irqPlace}
 use Rattle.layout.specs.Sound.{Accepted, LiveIn}
 use Rattle.layout.specs.Served.{ServedBy}
-use Rattle.layout.specs.Changed.{entered, Withdrawn}
+use Rattle.layout.specs.Changed.{entered}
 use Rattle.layout.proofs.Lists.{at-in, in-at}
 use Rattle.layout.proofs.RoundTrip.{live-positive, zero-test, positive-test}
 use Rattle.layout.proofs.Of
 use Rattle.layout.proofs.Clients.{entered-image, withdrawn-image}
 use Rattle.reading.specs.Finding.{FirstAt}
-use Rattle.clients.specs.Clients.{Asks, NextIs, GrantIn, GrantHeldIn, MaskHeldIn, HoldsSome}
+use Rattle.clients.specs.Clients.{Asks, NextIs, GrantIn, GrantHeldIn, MaskHeldIn, HoldsSome, Withdrawn}
 use Rattle.answers.proofs.Serve.{kept, left, stays, becomes}
 
 -- the rules, of a packet

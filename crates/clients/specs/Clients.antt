@@ -8,7 +8,9 @@ use Rattle.facts.specs.Table.{Facts}
 use Rattle.facts.specs.Packets.{word}
 use Rattle.facts.specs.WellFormed.{AttributesAllowed, EventsAllowed}
 use Rattle.facts.specs.Clients.{Register, Deregister}
-use Rattle.layout.specs.Reading.{clientsIn, issuedIn, maskPlace, ioPlace, irqPlace}
+use Rattle.layout.specs.Layout
+use Rattle.layout.specs.Reading.{clientsIn, issuedIn, clientPlace, maskPlace, ioPlace, irqPlace}
+use Rattle.layout.specs.Changed.{TakenOut}
 use Rattle.layout.specs.Served.{ServedBy}
 use Rattle.answers.specs.declared.Answer.{Answer}
 use Rattle.answers.specs.Answers.{codeOf, handleOf}
@@ -62,6 +64,10 @@ HoldsSome b i h = GrantHeldIn b h ⊎ MaskHeldIn b i
 abbrev pub HeldIs : List ℕ → ℕ → ℕ → Held → Type 0
 HeldIs b i h Something = HoldsSome b i h
 HeldIs b i h Nothing = HoldsSome b i h → ⊥
+
+-- the client in the place i is taken out
+abbrev pub Withdrawn : List ℕ → List ℕ → ℕ → Type 0
+Withdrawn b b′ i = TakenOut b b′ 1 (clientPlace i) Layout.clientSize Layout.rangesAt
 
 -- RegisterClient and DeregisterClient are served as their rules say: they answer r, and leave the table b′; the packet stays
 abbrev pub RegisterServed : List ℕ → List ℕ → List ℕ → Answer → Type 0

@@ -32,8 +32,9 @@ ghost use Rattle.facts.specs.Clients.{registerLength};
 ghost use Rattle.layout.specs.Layout.{tableSize};
 ghost use Rattle.layout.specs.Reading.{clientsIn};
 ghost use Rattle.layout.specs.Sound.{Accepted};
-ghost use Rattle.layout.specs.Changed.{entered, Withdrawn};
-ghost use Rattle.clients.specs.Clients.{AsksFor, RoomIs, GrantIn, GrantHeldIn, MaskIn, MaskHeldIn, HeldIs, RegisterServed, DeregisterServed};
+ghost use Rattle.layout.specs.Changed.{entered};
+ghost use Rattle.clients.specs.Clients.{AsksFor, RoomIs, GrantIn, GrantHeldIn, MaskIn, MaskHeldIn, HeldIs, Withdrawn, RegisterServed};
+ghost use Rattle.clients.specs.Clients.{DeregisterServed};
 
 // The packet of RegisterClient (5.37) is 14 bytes, that of DeregisterClient (5.8) is empty.
 const REGISTER_LENGTH: usize = 14;
@@ -201,11 +202,13 @@ fn withdraw(t: &mut [u8], i: usize)
     requires { ⌜ (length (now t) ≡ tableSize) × (i < clientsIn (now t)) × (clientsIn (now t) ≤ Table.mostClients) ⌝ }
     ensures { λ _. ⌜ Withdrawn (now (t .entry)) (now (t .exit)) i ⌝ }
 {
-    let n = reading::byte(t, CLIENTS_IN);
-    let last = RANGES_AT - CLIENT_SIZE;
-    image::move_down(t, CLIENTS_AT + i * CLIENT_SIZE, last, CLIENT_SIZE);
-    image::clear(t, last, RANGES_AT);
-    t[CLIENTS_IN] = (n - 1) as u8;
+    image::take_out(
+        t,
+        CLIENTS_IN,
+        CLIENTS_AT + i * CLIENT_SIZE,
+        CLIENT_SIZE,
+        RANGES_AT,
+    );
 }
 
 pub fn deregister(t: &mut [u8], h: Handle, p: &[u8]) -> Answer

@@ -252,7 +252,8 @@ module _ (F : Facts) (w : WellFormed F) where
         ranges = w .ranges;
         ios = λ t g e. still-io (withIrq F s o) refl refl refl t g (w .ios t g e);
         irqs = put-all (λ (t : ℕ) (x : Option IrqGrant). (g : IrqGrant) → x ≡ some g → IrqFits (withIrq F s o) t g) (F .irq) s o
-            (λ g e. still-irq (withIrq F s o) refl refl refl s g (fits g e)) (λ t d g e. still-irq (withIrq F s o) refl refl refl t g (w .irqs t g e));
+            (λ g e. still-irq (withIrq F s o) refl refl refl s g (fits g e))
+            (λ t d g e. still-irq (withIrq F s o) refl refl refl t g (w .irqs t g e));
         io-company = w .io-company;
         irq-company = put-pairs IrqCompany irq-turned (F .irq) s o (w .irq-company) company;
       }

@@ -13,6 +13,7 @@ use Rattle.facts.proofs.Sharing.{sharers-most}
 use Rattle.facts.proofs.Formed.{fresh-formed}
 use Rattle.facts.proofs.ClientsStay.{card-stays}
 use Rattle.facts.proofs.ResourcesStay.{boot-stays}
+use Rattle.facts.proofs.Places.{boot-most}
 use Rattle.facts.proofs.Stays.{service-stays}
 
 pub service-laws : ServiceLaws
@@ -42,4 +43,5 @@ host-laws =
       boot-leaves = λ F b o r. boot-leaves F b 0 o (o .place) r (omega arith);
       boot-success = λ F b o r e. omega (arith, boot-success F b 0 o r e);
       boot-stays = λ F b o w r. boot-stays F b 0 o w r;
+      boot-most = boot-most;
     }

@@ -7,9 +7,11 @@ pub mod Unique
 pub mod Refusals
 pub mod Sharing
 pub mod Told
+pub mod Resources
 pub mod Formed
 pub mod ClientsStay
 pub mod ResourcesStay
+pub mod Places
 pub mod GrantsStay
 pub mod Stays
 pub mod Exactly

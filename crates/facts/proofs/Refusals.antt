@@ -11,20 +11,21 @@ use lib.Dec.{T, eqb}
 use Rattle.facts.specs.declared.Code.{Code}
 use Rattle.facts.specs.declared.Code.the-variants.{Success}
 use Rattle.facts.specs.Codes.{numberOf}
+use Rattle.facts.specs.declared.Width.{Width}
+use Rattle.facts.specs.declared.Record.{Record}
 use Rattle.facts.specs.Table
 use Rattle.facts.specs.Table.{Facts}
-use Rattle.facts.specs.Packets.{byte, long}
 use Rattle.facts.specs.Checks.{Check, Outcome, FirstGiven, Passed, RuledThen, Ruled, Rule}
 use Rattle.facts.specs.Laws.{RefusalKeeps, NoSuccess, everyCheck}
 use Rattle.facts.specs.Clients.{registerChecks, deregisterChecks}
 use Rattle.facts.specs.Sockets.{CardTo, CardOutcome, requestMaskChecks, releaseMaskChecks}
-use Rattle.facts.specs.Resources.{Width, ByAction, AdjustIrq, AdjustIo, AddLevel, RemoveLevel, ShowLevel, AddRange, RemoveRange, ShowRange}
+use Rattle.facts.specs.Resources.{ByAction, AdjustIrq, AdjustIo, AddLevel, RemoveLevel, ShowLevel, AddRange, RemoveRange, ShowRange}
 use Rattle.facts.specs.Resources.{actionOf, ioRange, levelGiven, levelAttributes, baseGiven, countGiven, attributesGiven, linesGiven}
 use Rattle.facts.specs.Resources.{adjustChecks, addLevelChecks, removeLevelChecks, showLevelChecks, addRangeChecks, removeRangeChecks}
 use Rattle.facts.specs.Resources.{showRangeChecks}
 use Rattle.facts.specs.Irq.{Sharers, Count, irqRequestChecks, irqReleaseChecks}
 use Rattle.facts.specs.Io.{ioRequestChecks, ioReleaseChecks}
-use Rattle.facts.specs.Boot.{Boot, Booted, done, broken, refused, added, recordSize, recordChecks, recordsAdded, recordAdded}
+use Rattle.facts.specs.Boot.{Boot, Booted, done, broken, refused, added, recordSize, recordOf, recordChecks, recordsAdded, recordAdded}
 use Rattle.facts.specs.Services.{Service, registerClient, deregisterClient, adjustResourceInfo, requestIrq, releaseIrq, requestIo, releaseIo}
 use Rattle.facts.specs.Services.{requestSocketMask, releaseSocketMask, ruleOf, Call}
 use Rattle.facts.proofs.Unique.{first-not-passed}
@@ -115,11 +116,11 @@ module _ (cs : List Check) (n : NoSuccess cs) {F : Facts} {p : List ℕ} (D : Ou
 pub no-success : (F : Facts) (h : ℕ) (p : List ℕ) (w : Width) (x y a n : ℕ) → NoSuccess (everyCheck F h p w x y a n)
 no-success F h p w x y a n = none-succeeds (everyCheck F h p w x y a n) tt
 
-pub record-no-success : (F : Facts) (b : List ℕ) → NoSuccess (recordChecks F b)
-record-no-success F b = none-succeeds (recordChecks F b) (go (eqb (byte b 0) ioRange))
+pub record-no-success : (F : Facts) (r : Record) → NoSuccess (recordChecks F r)
+record-no-success F r = none-succeeds (recordChecks F r) (go (eqb (r .resource) ioRange))
   where
     go : (io : Bool)
-        → T (noSuccess (cond io (addRangeChecks F (long b 2) (long b 6) (byte b 1) Table.mostLines) (addLevelChecks F (long b 2) (byte b 1))))
+        → T (noSuccess (cond io (addRangeChecks F (r .base) (r .count) (r .attributes) Table.mostLines) (addLevelChecks F (r .base) (r .attributes))))
     go true = tt
     go false = tt
 
@@ -139,12 +140,12 @@ boot-leaves F b i o n done e = stays F b i n e
 boot-leaves F b i o n (broken one few) e = stays F b i n e
 boot-leaves F b i o n (refused full r) e = stays F b i n e
 boot-leaves F b i o zero (added full passed r) e = absurd (omega (arith, boot-place _ _ _ o r))
-boot-leaves F b i o (suc n) (added full passed r) e = boot-leaves (recordAdded F b) (drop recordSize b) (i + 1) o n r (omega arith)
+boot-leaves F b i o (suc n) (added full passed r) e = boot-leaves (recordAdded F (recordOf b)) (drop recordSize b) (i + 1) o n r (omega arith)
 
 -- "Success answers the list's length in records"
 pub boot-success : (F : Facts) (b : List ℕ) (i : ℕ) (o : Booted) → Boot F b i o → o .code ≡ Success
     → i * recordSize + length b ≡ o .place * recordSize
 boot-success F b i o done e = omega arith
 boot-success F b i o (broken one few) e = absurd (omega (arith, ap numberOf e))
-boot-success F b i o (refused full r) e = absurd (first-not-success (recordChecks F b) _ (record-no-success F b) r e)
+boot-success F b i o (refused full r) e = absurd (first-not-success (recordChecks F (recordOf b)) _ (record-no-success F (recordOf b)) r e)
 boot-success F b i o (added full passed r) e = omega (arith, boot-success _ _ _ o r e, length-drop recordSize b)

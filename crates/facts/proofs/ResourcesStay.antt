@@ -10,17 +10,18 @@ use native.Mathlib.Omega.{arith}
 use lib.Dec.{eqb, ltb}
 use lib.ListN.{length}
 use borrow.Author.Tests.{ltb-true, ltb-false}
+use Rattle.facts.specs.declared.Width.{Width}
+use Rattle.facts.specs.declared.Record.{Record}
 use Rattle.facts.specs.Table
 use Rattle.facts.specs.Table.{Facts, Range, IoGrant}
 use Rattle.facts.specs.Sets.{_∈_}
-use Rattle.facts.specs.Packets.{byte, long}
 use Rattle.facts.specs.Ports.{Within, Has, Managed}
 use Rattle.facts.specs.WellFormed.{WellFormed, Apart}
 use Rattle.facts.specs.Checks.{Outcome, Passed}
-use Rattle.facts.specs.Resources.{AdjustResourceInfo, AdjustIrq, AdjustIo, Width, inserted, withoutRange, ioRange}
+use Rattle.facts.specs.Resources.{AdjustResourceInfo, AdjustIrq, AdjustIo, inserted, withoutRange, ioRange}
 use Rattle.facts.specs.Resources.{addLevelChecks, removeLevelChecks, addRangeChecks, removeRangeChecks, levelAdded, levelRemoved, rangeAdded}
 use Rattle.facts.specs.Resources.{rangeRemoved, reserveBit, levelGiven, levelAttributes, baseGiven, countGiven, attributesGiven, linesGiven}
-use Rattle.facts.specs.Boot.{Boot, Booted, done, broken, refused, added, recordAdded, recordChecks}
+use Rattle.facts.specs.Boot.{Boot, Booted, done, broken, refused, added, recordOf, recordAdded, recordChecks}
 use Rattle.facts.proofs.Sets.{without-in, in-without, without-fewer, apart-without}
 use Rattle.facts.proofs.Unique.{range-unique}
 use Rattle.facts.proofs.Told.{told}
@@ -38,7 +39,7 @@ module _ (F : Facts) (w : WellFormed F) (l attributes : ℕ) where
       (λ s g e q. absurd (passed .1 .1 .1 .0 (record { socket = s; grant = g; holds = record { live = e; at = q } })))
 
 -- ranges: one put in its place
-inserted-cases : (P : List Range → Type 0) (r x : Range) (xs : List Range) → (r .base < x .base → P (r ∷ x ∷ xs))
+pub inserted-cases : (P : List Range → Type 0) (r x : Range) (xs : List Range) → (r .base < x .base → P (r ∷ x ∷ xs))
     → (x .base ≤ r .base → P (x ∷ inserted r xs))
     → P (inserted r (x ∷ xs))
 inserted-cases P r x xs before after = go (ltb (r .base) (x .base)) (ltb-true (r .base) (x .base)) (ltb-false (r .base) (x .base))
@@ -47,7 +48,7 @@ inserted-cases P r x xs before after = go (ltb (r .base) (x .base)) (ltb-true (r
     go true f g = before (f refl)
     go false f g = after (g refl)
 
-inserted-more : (r : Range) (xs : List Range) → length (inserted r xs) ≡ suc (length xs)
+pub inserted-more : (r : Range) (xs : List Range) → length (inserted r xs) ≡ suc (length xs)
 inserted-more r [] = refl
 inserted-more r (x ∷ xs) = inserted-cases (λ (l : List Range). length l ≡ suc (suc (length xs))) r x xs (λ b. refl) (λ b. ap suc (inserted-more r xs))
 
@@ -174,16 +175,17 @@ module _ (F : Facts) (h : ℕ) (p : List ℕ) (o : Outcome) (w : WellFormed F) w
   adjust-stays (inr (passed, inr r)) = adjust-io-stays (r .1) (r .3)
 
 -- the boot list
-record-added-formed : (F : Facts) (b : List ℕ) → WellFormed F → Passed (recordChecks F b) → WellFormed (recordAdded F b)
-record-added-formed F b w passed = go (eqb (byte b 0) ioRange) (passed .1 .1)
+pub record-added-formed : (F : Facts) (r : Record) → WellFormed F → Passed (recordChecks F r) → WellFormed (recordAdded F r)
+record-added-formed F r w passed = go (eqb (r .resource) ioRange) (passed .1 .1)
   where
-    go : (io : Bool) → Passed (cond io (addRangeChecks F (long b 2) (long b 6) (byte b 1) Table.mostLines) (addLevelChecks F (long b 2) (byte b 1)))
-        → WellFormed (cond io (rangeAdded F (long b 2) (long b 6) (byte b 1)) (levelAdded F (long b 2) (byte b 1)))
-    go true passed = range-added-formed F w (long b 2) (long b 6) (byte b 1) Table.mostLines passed
-    go false passed = level-added-formed F w (long b 2) (byte b 1) passed
+    go : (io : Bool)
+        → Passed (cond io (addRangeChecks F (r .base) (r .count) (r .attributes) Table.mostLines) (addLevelChecks F (r .base) (r .attributes)))
+        → WellFormed (cond io (rangeAdded F (r .base) (r .count) (r .attributes)) (levelAdded F (r .base) (r .attributes)))
+    go true passed = range-added-formed F w (r .base) (r .count) (r .attributes) Table.mostLines passed
+    go false passed = level-added-formed F w (r .base) (r .attributes) passed
 
 pub boot-stays : (F : Facts) (b : List ℕ) (i : ℕ) (o : Booted) → WellFormed F → Boot F b i o → WellFormed (o .facts)
 boot-stays F b i o w done = w
 boot-stays F b i o w (broken one few) = w
 boot-stays F b i o w (refused full r) = w
-boot-stays F b i o w (added full passed r) = boot-stays _ _ _ o (record-added-formed F b w passed) r
+boot-stays F b i o w (added full passed r) = boot-stays _ _ _ o (record-added-formed F (recordOf b) w passed) r

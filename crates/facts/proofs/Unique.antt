@@ -2,13 +2,14 @@
 use mathlib.Core.Path.{_≡_, refl, sym, ap, ap₂, subst, _∙_}
 use mathlib.Core.Logic.{_⊎_, inl, inr, ⊎-elim}
 use mathlib.Core.List.{List, [], _∷_}
-use mathlib.Core.Bool.{Bool, false, cond}
+use mathlib.Core.Bool.{Bool, false}
 use mathlib.Core.Option.{some}
 use Prim.Native.Nat.{ℕ, _+_, _≤_, _<_}
 use native.Mathlib.Omega.{arith}
 use lib.ListN.{length}
-use lib.Dec.{eqb}
 use Rattle.facts.specs.declared.Code.{Code}
+use Rattle.facts.specs.declared.Width.{Width}
+use Rattle.facts.specs.declared.Width.the-variants.{Short, Wide}
 use Rattle.facts.specs.Table.{Facts, Range}
 use Rattle.facts.specs.Sets.{_∈_}
 use Rattle.facts.specs.WellFormed.{Apart}
@@ -18,7 +19,7 @@ use Rattle.facts.specs.Laws.{Coincide}
 use Rattle.facts.specs.Clients.{Register, Deregister, registerChecks, deregisterChecks}
 use Rattle.facts.specs.Sockets.{CardTo, CardOutcome, RequestSocketMask, ReleaseSocketMask, socketOf, cardChecks, requestMaskChecks}
 use Rattle.facts.specs.Sockets.{releaseMaskChecks}
-use Rattle.facts.specs.Resources.{Width, short, wide, ioAdjustLength, ByAction, AdjustIrq, AdjustIo, AdjustResourceInfo, AddLevel, RemoveLevel}
+use Rattle.facts.specs.Resources.{ioAdjustLength, ByAction, AdjustIrq, AdjustIo, AdjustResourceInfo, AddLevel, RemoveLevel}
 use Rattle.facts.specs.Resources.{ShowLevel, AddRange, RemoveRange, ShowRange}
 use Rattle.facts.specs.Resources.{LevelHeld, LevelHolder, LevelShown, RangeHeld, RangeHolder, RangeShown, unheld, of-type, one-alone, all-share}
 use Rattle.facts.specs.Resources.{actionOf, first, next, levelGiven, levelAttributes, baseGiven, countGiven, attributesGiven, linesGiven}
@@ -29,7 +30,7 @@ use Rattle.facts.specs.Packets.{withWord}
 use Rattle.facts.specs.Irq.{RequestIrq, ReleaseIrq, Sharers, Count, irqRequestChecks, irqReleaseChecks, sharersChecks, irqGrant, assigning}
 use Rattle.facts.specs.Irq.{withIrq}
 use Rattle.facts.specs.Io.{RequestIo, ReleaseIo, BaseTaken, ioRequestChecks, ioReleaseChecks, ioGrant, withIo}
-use Rattle.facts.specs.Boot.{Boot, Booted, done, broken, refused, added, stopped, recordChecks}
+use Rattle.facts.specs.Boot.{Boot, Booted, done, broken, refused, added, stopped, recordOf, recordChecks}
 use Rattle.facts.specs.Services.{Service, registerClient, deregisterClient, adjustResourceInfo, requestIrq, releaseIrq, requestIo, releaseIo}
 use Rattle.facts.specs.Services.{requestSocketMask, releaseSocketMask, serviceNumber, ruleOf, Call}
 use Rattle.facts.proofs.Sets.{found}
@@ -218,10 +219,10 @@ module _ (F : Facts) (h : ℕ) (p : List ℕ) where
         (leaves-coincide (removeRangeChecks F (baseGiven w p) (countGiven w p) (attributesGiven w p) (linesGiven w p))) (show-range-unique w)
 
     at-width : Coincide (λ (o : Outcome). (w : Width) × (length p ≡ ioAdjustLength w) × AdjustIo w F h p o)
-    at-width o o′ (short, e, r) (short, e′, r′) = adjust-io-unique short o o′ r r′
-    at-width o o′ (short, e, r) (wide, e′, r′) = absurd (omega arith)
-    at-width o o′ (wide, e, r) (short, e′, r′) = absurd (omega arith)
-    at-width o o′ (wide, e, r) (wide, e′, r′) = adjust-io-unique wide o o′ r r′
+    at-width o o′ (Short, e, r) (Short, e′, r′) = adjust-io-unique Short o o′ r r′
+    at-width o o′ (Short, e, r) (Wide, e′, r′) = absurd (omega arith)
+    at-width o o′ (Wide, e, r) (Short, e′, r′) = absurd (omega arith)
+    at-width o o′ (Wide, e, r) (Wide, e′, r′) = adjust-io-unique Wide o o′ r r′
 
     pub adjust-unique : Coincide (AdjustResourceInfo F h p)
     adjust-unique =
@@ -304,9 +305,9 @@ boot-unique F b i o o′ (broken one few) (refused full′ r′) = absurd (omega
 boot-unique F b i o o′ (broken one few) (added full′ p′ r′) = absurd (omega arith)
 boot-unique F b i o o′ (refused full r) done = absurd (omega arith)
 boot-unique F b i o o′ (refused full r) (broken one′ few′) = absurd (omega arith)
-boot-unique F b i o o′ (refused full r) (refused full′ r′) = ap (λ (k : Code). stopped i k F) (first-unique (recordChecks F b) _ _ r r′)
-boot-unique F b i o o′ (refused full r) (added full′ p′ r′) = absurd (first-not-passed (recordChecks F b) _ r p′)
+boot-unique F b i o o′ (refused full r) (refused full′ r′) = ap (λ (k : Code). stopped i k F) (first-unique (recordChecks F (recordOf b)) _ _ r r′)
+boot-unique F b i o o′ (refused full r) (added full′ p′ r′) = absurd (first-not-passed (recordChecks F (recordOf b)) _ r p′)
 boot-unique F b i o o′ (added full p r) done = absurd (omega arith)
 boot-unique F b i o o′ (added full p r) (broken one′ few′) = absurd (omega arith)
-boot-unique F b i o o′ (added full p r) (refused full′ r′) = absurd (first-not-passed (recordChecks F b) _ r′ p)
+boot-unique F b i o o′ (added full p r) (refused full′ r′) = absurd (first-not-passed (recordChecks F (recordOf b)) _ r′ p)
 boot-unique F b i o o′ (added full p r) (added full′ p′ r′) = boot-unique _ _ _ o o′ r r′

@@ -3,9 +3,10 @@ use mathlib.Core.Path.{_≡_}
 use mathlib.Core.Logic.{_⊎_, _≢_, _↔_}
 use mathlib.Core.List.{List, [], _∷_, _++_}
 use mathlib.Core.Bool.{Bool}
-use Prim.Native.Nat.{ℕ, _*_, _≤_}
+use Prim.Native.Nat.{ℕ, _+_, _*_, _≤_}
 use lib.ListN.{length}
 use Rattle.facts.specs.declared.Code.the-variants.{Success, BadBase, BadIrq, InUse}
+use Rattle.facts.specs.declared.Width.{Width}
 use Rattle.facts.specs.Table
 use Rattle.facts.specs.Table.{Facts, fresh}
 use Rattle.facts.specs.WellFormed.{WellFormed}
@@ -13,7 +14,7 @@ use Rattle.facts.specs.Packets.{Bytes}
 use Rattle.facts.specs.Checks.{Check, Outcome, Kept, Passed}
 use Rattle.facts.specs.Clients.{registerChecks, deregisterChecks}
 use Rattle.facts.specs.Sockets.{CardOutcome, CardTo, cardChecks, requestMaskChecks, releaseMaskChecks}
-use Rattle.facts.specs.Resources.{Width, adjustChecks, addLevelChecks, removeLevelChecks, showLevelChecks, addRangeChecks, removeRangeChecks}
+use Rattle.facts.specs.Resources.{adjustChecks, addLevelChecks, removeLevelChecks, showLevelChecks, addRangeChecks, removeRangeChecks}
 use Rattle.facts.specs.Resources.{showRangeChecks}
 use Rattle.facts.specs.Irq.{Count, Sharers, RequestIrq, NoLevelFits, irqAheadChecks, irqRequestChecks, irqReleaseChecks, sharersChecks}
 use Rattle.facts.specs.Io.{RequestIo, NotAllManaged, InTheWay, NoCandidate, baseAsked, ioAheadChecks, ioRequestChecks, ioReleaseChecks}
@@ -79,6 +80,8 @@ pub record HostLaws : Type 0 where
   -- "Success answers the list's length in records"
   pub boot-success : (F : Facts) (b : List ℕ) (o : Booted) → Boot F b 0 o → o .code ≡ Success → length b ≡ o .place * recordSize
   pub boot-stays : (F : Facts) (b : List ℕ) (o : Booted) → WellFormed F → Boot F b 0 o → WellFormed (o .facts)
+  -- no more than all levels and ranges can be added, so no place is past that
+  pub boot-most : (F : Facts) (b : List ℕ) (o : Booted) → WellFormed F → Boot F b 0 o → o .place ≤ Table.allLevels + Table.mostRanges
 
 -- demand 2: "Where the earlier checks pass, an I/O or IRQ request is refused exactly when no resource fits."
 pub record ExactlyWhen : Type 0 where

@@ -9,6 +9,8 @@ use lib.ListN.{length, set}
 use lib.Dec.{eqb, ltb}
 use Rattle.facts.specs.declared.Code.the-variants.{BadAttribute, BadBase, BadIrq, BadSize, UnsupportedService, BadArgLength, BadArgs, InUse}
 use Rattle.facts.specs.declared.Code.the-variants.{NoMoreItems, OutOfResource}
+use Rattle.facts.specs.declared.Width.{Width}
+use Rattle.facts.specs.declared.Width.the-variants.{Short, Wide}
 use Rattle.facts.specs.Table
 use Rattle.facts.specs.Table.{Facts, Level, Range, IoGrant, IrqGrant}
 use Rattle.facts.specs.Sets.{_∈_, put, without}
@@ -47,13 +49,9 @@ resourceOf p = byte p 1
 abbrev pub irqAdjustLength : ℕ
 irqAdjustLength = 4
 
-pub data Width : Type 0 where
-  short : Width
-  wide : Width
-
 abbrev pub ioAdjustLength : Width → ℕ
-ioAdjustLength short = 7
-ioAdjustLength wide = 12
+ioAdjustLength Short = 7
+ioAdjustLength Wide = 12
 
 -- "IRQ: attributes at 2, level at 3."
 abbrev pub levelAttributesAt : ℕ
@@ -70,20 +68,20 @@ levelGiven p = byte p levelAt
 
 -- "I/O fields, short: base 2 bytes at 2, ports 1 at 4, attributes at 5, lines at 6. Long: base 4 at 2, ports 4 at 6, attributes at 10, lines at 11."
 abbrev pub baseGiven : Width → List ℕ → ℕ
-baseGiven short p = word p 2
-baseGiven wide p = long p 2
+baseGiven Short p = word p 2
+baseGiven Wide p = long p 2
 
 abbrev pub countGiven : Width → List ℕ → ℕ
-countGiven short p = byte p 4
-countGiven wide p = long p 6
+countGiven Short p = byte p 4
+countGiven Wide p = long p 6
 
 abbrev pub attributesAt : Width → ℕ
-attributesAt short = 5
-attributesAt wide = 10
+attributesAt Short = 5
+attributesAt Wide = 10
 
 abbrev pub linesAt : Width → ℕ
-linesAt short = 6
-linesAt wide = 11
+linesAt Short = 6
+linesAt Wide = 11
 
 abbrev pub attributesGiven : Width → List ℕ → ℕ
 attributesGiven w p = byte p (attributesAt w)
@@ -96,13 +94,13 @@ abbrev pub mostShown : ℕ
 mostShown = 255
 
 abbrev pub TooMany : Width → ℕ → Type 0
-TooMany short n = mostShown < n
-TooMany wide n = ⊥
+TooMany Short n = mostShown < n
+TooMany Wide n = ⊥
 
 -- "Written: base and ports, or level; attributes; lines 16."
 abbrev pub withRange : Width → List ℕ → ℕ → ℕ → List ℕ
-withRange short p base count = set (withWord p 2 base) 4 count
-withRange wide p base count = withLong (withLong p 2 base) 6 count
+withRange Short p base count = set (withWord p 2 base) 4 count
+withRange Wide p base count = withLong (withLong p 2 base) 6 count
 
 abbrev pub showingRange : Width → List ℕ → Range → ℕ → List ℕ
 showingRange w p r attributes = set (set (withRange w p (r .base) (r .count)) (attributesAt w) attributes) (linesAt w) Table.mostLines
@@ -119,7 +117,7 @@ resourceChecks r own = (NotBuilt r gives UnsupportedService) ∷ ((4 < r) gives 
 
 -- "Then the length: IRQ 4; I/O 7 or 12."
 abbrev pub WrongLength : ℕ → ℕ → Type 0
-WrongLength r n = ((r ≡ irqLevel) × (n ≢ irqAdjustLength)) ⊎ ((r ≡ ioRange) × (n ≢ ioAdjustLength short) × (n ≢ ioAdjustLength wide))
+WrongLength r n = ((r ≡ irqLevel) × (n ≢ irqAdjustLength)) ⊎ ((r ≡ ioRange) × (n ≢ ioAdjustLength Short) × (n ≢ ioAdjustLength Wide))
 
 -- "Length under 2: BAD_ARG_LENGTH. Then Action over 3: BAD_ARGS."
 abbrev pub adjustChecks : List ℕ → List Check

@@ -1,5 +1,5 @@
-// The words of document 01 that code and definitions share: handles, sockets, codes and manners. What a table says, which
-// sets of facts are well formed and what each call does with them is in specs/.
+// The words of document 01 that code and definitions share: handles, sockets, codes, manners, a packet's width, what it asks
+// for and a boot record. What a table says, which sets of facts are well formed and what each call does with them is in specs/.
 ghost use mathlib.Core.Path.{_≡_};
 ghost use Rattle.facts.specs.Codes.{numberOf};
 
@@ -34,6 +34,33 @@ pub enum Manner {
     TimeMultiplexed,
     DynamicLevel,
     DynamicPulse,
+}
+
+// The two widths of AdjustResourceInfo's packet for I/O.
+pub enum Width {
+    Short,
+    Wide,
+}
+
+// A record of the boot list: its resource type and attributes, its base or level, its port count.
+pub struct Record {
+    pub resource: u8,
+    pub attributes: u8,
+    pub base: u32,
+    pub count: u32,
+}
+
+// The resource types (5.3) that are managed.
+pub const IO_RANGE: u8 = 1;
+
+pub const IRQ_LEVEL: u8 = 2;
+
+// What an Add or a Remove of a range names.
+pub struct Asked {
+    pub base: u32,
+    pub count: u32,
+    pub attributes: u8,
+    pub lines: u8,
 }
 
 // A code's number.

@@ -2,7 +2,7 @@
 use mathlib.Core.Path.{_≡_, refl, ap, sym, _∙_}
 use mathlib.Core.Logic.{_⊎_, inl, inr, _≢_}
 use mathlib.Core.List.{List}
-use Prim.Native.Nat.{ℕ, _+_, _≤_, _<_}
+use Prim.Native.Nat.{ℕ, _+_, _-_, _≤_, _<_}
 use native.Mathlib.Decide.{decLt}
 use native.Mathlib.Omega.{arith}
 use lib.ListN.{length, set, length-set}
@@ -10,10 +10,11 @@ use Rattle.facts.specs.Table.{fresh}
 use Rattle.facts.specs.Packets.{byte}
 use Rattle.layout.specs.Layout
 use Rattle.layout.specs.Layout.{image}
+use Rattle.layout.specs.Changed.{TakenOut}
 use Rattle.layout.proofs.Shows.{shows-image}
 use Rattle.layout.proofs.Changes.{fresh-shown}
 use Rattle.layout.proofs.Written.{byte-same, byte-other}
-use Rattle.image.specs.Writing.{Moved, Cleared}
+use Rattle.image.specs.Writing.{Moved, MovedUp, RoomMade, Cleared}
 
 -- below i + 1: below i, or i itself
 below-more : (p i : ℕ) → p < i + 1 → (p < i) ⊎ (p ≡ i)
@@ -60,6 +61,73 @@ moved-more b b′ from i far l h f c =
         ap (byte (set b′ i (byte b′ (i + far)))) e ∙ byte-same b′ i (byte b′ (i + far)) (omega (arith, c .size))
         ∙ c .other (i + far) (inr (omega arith))
         ∙ ap (λ (q : ℕ). byte b (q + far)) (sym e)
+
+pub moved-up-none : (b : List ℕ) (to far : ℕ) → MovedUp b b to to far
+moved-up-none b to far = record { size = refl; moved = λ p l m. absurd (omega arith); other = λ p o. refl }
+
+pub moved-up-more : (b b′ : List ℕ) (i to far : ℕ) → i + far < length b → i < to → MovedUp b b′ (i + 1) to far
+    → MovedUp b (set b′ (i + far) (byte b′ i)) i to far
+moved-up-more b b′ i to far h l c =
+    record { size = length-set b′ (i + far) (byte b′ i) ∙ c .size; moved = λ p m n. at p n (from-more p i m); other = out }
+  where
+    -- i, or past it
+    from-more : (p i : ℕ) → i ≤ p → (p ≡ i) ⊎ (i + 1 ≤ p)
+    from-more p i m = go (decLt i p)
+      where
+        go : Dec (i < p) → (p ≡ i) ⊎ (i + 1 ≤ p)
+        go (yes n) = inr (omega arith)
+        go (no n) = inl (omega arith)
+
+    at : (p : ℕ) → p < to → (p ≡ i) ⊎ (i + 1 ≤ p) → byte (set b′ (i + far) (byte b′ i)) (p + far) ≡ byte b p
+    at p n (inl e) =
+        ap (λ (q : ℕ). byte (set b′ (i + far) (byte b′ i)) (q + far)) e ∙ byte-same b′ (i + far) (byte b′ i) (omega (arith, c .size))
+        ∙ c .other i (inl (omega arith))
+        ∙ ap (byte b) (sym e)
+    at p n (inr m) = byte-other b′ (i + far) (byte b′ i) (p + far) (λ e. omega (arith, e)) ∙ c .moved p m n
+
+    out : (p : ℕ) → (p < i + far) ⊎ (to + far ≤ p) → byte (set b′ (i + far) (byte b′ i)) p ≡ byte b p
+    out p (inl m) = byte-other b′ (i + far) (byte b′ i) p (λ e. omega (arith, e)) ∙ c .other p (inl (omega arith))
+    out p (inr m) = byte-other b′ (i + far) (byte b′ i) p (λ e. omega (arith, e)) ∙ c .other p (inr m)
+
+-- a record taken out: those after it moved down, the last one cleared, the number written
+module _ (b b₁ b₂ : List ℕ) (count at bytes end last : ℕ) (before : count < at) (fits : at + bytes ≤ end) (is : last ≡ end - bytes)
+    (lent : end ≤ length b) (some : 1 ≤ byte b count) (m : Moved b b₁ at last bytes) (z : Cleared b₁ b₂ last end) where
+  pub takes-length : length (set b₂ count (byte b count - 1)) ≡ length b
+  takes-length = length-set b₂ count (byte b count - 1) ∙ z .size ∙ m .size
+
+  pub takes : TakenOut b (set b₂ count (byte b count - 1)) count at bytes end
+  takes =
+      record {
+        size = takes-length;
+        fewer = omega (arith, byte-same b₂ count (byte b count - 1) (omega (arith, z .size, m .size)));
+        moved = λ p l h. byte-other b₂ count (byte b count - 1) p (λ e. omega (arith, e)) ∙ z .other p (inl (omega arith))
+            ∙ m .moved p l (omega arith);
+        last = λ p l h. byte-other b₂ count (byte b count - 1) p (λ e. omega (arith, e)) ∙ z .zero p (omega arith) h;
+        other = λ p d o. byte-other b₂ count (byte b count - 1) p d ∙ rest p o;
+      }
+    where
+      rest : (p : ℕ) → (p < at) ⊎ (end ≤ p) → byte b₂ p ≡ byte b p
+      rest p (inl l) = z .other p (inl (omega arith)) ∙ m .other p (inl l)
+      rest p (inr l) = z .other p (inr l) ∙ m .other p (inr (omega arith))
+
+-- room made: those from there on moved up, the number written
+module _ (b b₁ : List ℕ) (count at bytes end last : ℕ) (before : count < at) (fits : at + bytes ≤ end) (is : last ≡ end - bytes)
+    (lent : end ≤ length b) (m : MovedUp b b₁ at last bytes) where
+  pub makes-length : length (set b₁ count (byte b count + 1)) ≡ length b
+  makes-length = length-set b₁ count (byte b count + 1) ∙ m .size
+
+  pub makes : RoomMade b (set b₁ count (byte b count + 1)) count at bytes end
+  makes =
+      record {
+        size = makes-length;
+        more = byte-same b₁ count (byte b count + 1) (omega (arith, m .size));
+        moved = λ p l h. byte-other b₁ count (byte b count + 1) (p + bytes) (λ e. omega (arith, e)) ∙ m .moved p l (omega arith);
+        other = λ p d o. byte-other b₁ count (byte b count + 1) p d ∙ rest p o;
+      }
+    where
+      rest : (p : ℕ) → (p < at + bytes) ⊎ (end ≤ p) → byte b₁ p ≡ byte b p
+      rest p (inl l) = m .other p (inl l)
+      rest p (inr l) = m .other p (inr (omega arith))
 
 -- a cleared table with a socket count is a fresh one
 pub fresh-image : (b b′ : List ℕ) (n : ℕ) → length b ≡ Layout.tableSize → Cleared b b′ 0 Layout.tableSize → set b′ 0 n ≡ image (fresh n)

@@ -1,17 +1,13 @@
 -- The number of sharers of a level, said of the bytes, and what the question for them answers. Assumes nothing.
-use mathlib.Core.Path.{_≡_}
 use mathlib.Core.List.{List}
 use mathlib.Core.Bool.{cond}
-use Prim.Native.Nat.{ℕ, zero, suc, _+_, _≤_, _<_}
+use Prim.Native.Nat.{ℕ, zero, suc, _+_}
 use lib.Dec.{eqb}
 use Rattle.facts.specs.declared.Code.the-variants.{Success}
-use Rattle.facts.specs.Table
 use Rattle.facts.specs.Packets.{byte, word}
 use Rattle.facts.specs.Irq.{Count, Sharers}
 use Rattle.layout.specs.Reading.{irqPlace}
 use Rattle.layout.specs.Sound.{Accepted}
-use Rattle.irq.specs.declared.LevelNumber.{LevelNumber}
-use Rattle.irq.specs.declared.LevelNumber.the-variants.{Below, Over}
 use Rattle.irq.specs.declared.SharerCount.{SharerCount}
 use Rattle.irq.specs.declared.SharerCount.the-variants.{Number, Refused}
 
@@ -22,11 +18,6 @@ sharerIn b l s = cond (eqb (word b (irqPlace s)) 0) 0 (cond (eqb (byte b (irqPla
 unfoldable pub sharersIn : List ℕ → ℕ → ℕ → ℕ
 sharersIn b l zero = 0
 sharersIn b l (suc n) = sharersIn b l n + sharerIn b l n
-
--- the number is that of one of a table's levels, or it is over them
-abbrev pub LevelIs : ℕ → LevelNumber → Type 0
-LevelIs n (Below l) = (l ≡ n) × (n < Table.allLevels)
-LevelIs n Over = Table.allLevels ≤ n
 
 -- a code and a count; "a refusal's count is 0"
 abbrev pub countOf : SharerCount → Count

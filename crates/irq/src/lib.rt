@@ -1,7 +1,7 @@
 // The number of sharers of an IRQ level, on a table that is the image of a well-formed set.
+use answers::LevelNumber;
 use facts::Code;
 use facts::Socket;
-use layout::ALL_LEVELS;
 use layout::IRQ_LEVEL;
 use layout::IRQ_SIZE;
 use layout::IRQS_AT;
@@ -14,7 +14,7 @@ ghost use Rattle.layout.specs.Layout.{tableSize};
 ghost use Rattle.layout.specs.Reading.{socketsIn};
 ghost use Rattle.layout.specs.Sound.{Accepted};
 ghost use Rattle.answers.specs.Answers.{packed};
-ghost use Rattle.irq.specs.Sharing.{LevelIs, CountsSharers, countOf, sharerIn, sharersIn};
+ghost use Rattle.irq.specs.Sharing.{CountsSharers, countOf, sharerIn, sharersIn};
 
 // One for a grant of the socket on the level, else none.
 fn sharer(t: &[u8], level: usize, socket: Socket) -> usize
@@ -47,23 +47,6 @@ fn count(t: &[u8], level: usize) -> usize
     n
 }
 
-// Whether a level that the host names is one of a table's levels.
-pub enum LevelNumber {
-    Below(usize),
-    Over,
-}
-
-fn below_levels(level: u32) -> LevelNumber
-    ensures { λ r. ⌜ LevelIs level r ⌝ }
-{
-    let number = level as usize;
-    if number < ALL_LEVELS {
-        LevelNumber::Below(number)
-    } else {
-        LevelNumber::Over
-    }
-}
-
 // What the question for sharers answers: their number, or the code of a refusal.
 pub enum SharerCount {
     Number(u16),
@@ -74,7 +57,7 @@ pub fn sharers(t: &[u8], level: u32) -> SharerCount
     requires { ⌜ Accepted (now t) ⌝ }
     ensures { λ r. ⌜ CountsSharers level (now (t .entry)) r ⌝ }
 {
-    let LevelNumber::Below(l) = below_levels(level) else {
+    let LevelNumber::Below(l) = answers::below_levels(level) else {
         return SharerCount::Refused(Code::BadIrq);
     };
     SharerCount::Number(count(t, l) as u16)

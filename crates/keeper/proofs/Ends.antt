@@ -3,18 +3,23 @@ use mathlib.Core.Path.{_≡_, refl, sym}
 use mathlib.Core.Logic.{inl, inr, _≢_}
 use mathlib.Core.List.{List}
 use mathlib.Core.Bool.{Bool, true, false≢true}
-use Prim.Native.Nat.{ℕ}
+use Prim.Native.Nat.{ℕ, _+_, _≤_}
 use Rattle.facts.specs.declared.Code.the-variants.{UnsupportedService, GeneralFailure}
 use Rattle.facts.specs.Codes.{numberOf}
+use Rattle.facts.specs.Table
 use Rattle.facts.specs.Table.{Facts}
 use Rattle.facts.specs.Services.{Service, registerClient, deregisterClient, adjustResourceInfo, requestIrq, releaseIrq, requestIo, releaseIo}
 use Rattle.facts.specs.Services.{requestSocketMask, releaseSocketMask, Serves, serviceNumber, ruleOf, Call}
+use Rattle.facts.proofs.Laws.{host-laws}
 use Rattle.layout.specs.Sound.{Accepted}
 use Rattle.layout.specs.Served.{ServedBy, TableRefused}
 use Rattle.answers.specs.declared.Answer.{Answer}
 use Rattle.answers.specs.Answers.{packed, codeOf, handleOf}
 use Rattle.answers.proofs.Serve.{kept, stays}
-use Rattle.keeper.specs.Entries.{built, CallAnswers, CardAnswers, SharersAnswers}
+use Rattle.boot.specs.declared.Booted.{Booted}
+use Rattle.boot.specs.Booting.{placed, placeOf, Boots}
+use Rattle.boot.specs.Booting as boot
+use Rattle.keeper.specs.Entries.{built, CallAnswers, CardAnswers, SharersAnswers, BootAnswers}
 
 -- no well-formed set has these bytes
 module _ (b : List ℕ) (none : Accepted b → ⊥) where
@@ -27,17 +32,21 @@ module _ (b : List ℕ) (none : Accepted b → ⊥) where
   pub card-unformed : (present : Bool) (s r : ℕ) → r ≡ numberOf GeneralFailure → CardAnswers present s b b r
   card-unformed present s r e = record { code = GeneralFailure; is = e; permitted = inr stands }
 
+  pub boot-unformed : (records : List ℕ) (r : ℕ) → r ≡ placed GeneralFailure 0 → BootAnswers records b b r
+  boot-unformed records r e = record { code = GeneralFailure; place = 0; packs = e; permitted = inr (stands, refl) }
+
   pub sharers-unformed : (l r : ℕ) → r ≡ numberOf GeneralFailure → SharersAnswers l b r
   sharers-unformed l r e = record { code = GeneralFailure; count = 0; packs = e; permitted = inr (stands, refl) }
 
 -- the numbers that are no built service's
-not-built : (n : ℕ) → n ≢ serviceNumber deregisterClient → n ≢ serviceNumber registerClient → Serves built n → ⊥
-not-built n x y s = go (s .service) (s .is-built) (s .number-is)
+not-built : (n : ℕ) → n ≢ serviceNumber deregisterClient → n ≢ serviceNumber registerClient → n ≢ serviceNumber adjustResourceInfo → Serves built n
+    → ⊥
+not-built n x y z s = go (s .service) (s .is-built) (s .number-is)
   where
     go : (v : Service) → built v ≡ true → serviceNumber v ≡ n → ⊥
     go registerClient t e = y (sym e)
     go deregisterClient t e = x (sym e)
-    go adjustResourceInfo t e = false≢true t
+    go adjustResourceInfo t e = z (sym e)
     go requestIrq t e = false≢true t
     go releaseIrq t e = false≢true t
     go requestIo t e = false≢true t
@@ -46,9 +55,10 @@ not-built n x y s = go (s .service) (s .is-built) (s .number-is)
     go releaseSocketMask t e = false≢true t
 
 pub unsupported : (b p : List ℕ) (n h r : ℕ) → Accepted b → n ≢ serviceNumber deregisterClient → n ≢ serviceNumber registerClient
+    → n ≢ serviceNumber adjustResourceInfo
     → r ≡ packed UnsupportedService 0
     → CallAnswers n h b b p p r
-unsupported b p n h r a x y e =
+unsupported b p n h r a x y z e =
     record {
       code = UnsupportedService;
       answered = 0;
@@ -56,7 +66,7 @@ unsupported b p n h r a x y e =
       permitted =
           inl
           (stays (λ (F G : Facts). Call built n F h p (record { code = UnsupportedService; handle = 0; packet = p; facts = G })) b a
-          (inr (not-built n x y, refl, kept (a .facts) p UnsupportedService)));
+          (inr (not-built n x y z, refl, kept (a .facts) p UnsupportedService)));
     }
 
 -- a built service, by its number
@@ -78,3 +88,11 @@ by-service v t b b′ p p′ n h r a i s e =
             table = s .table;
           });
     }
+
+-- a boot list
+pub boots : (records b b′ : List ℕ) (x : Booted) (r : ℕ) → Boots records b b′ x → r ≡ placed (boot.codeOf x) (placeOf x) → BootAnswers records b b′ r
+boots records b b′ x r s e = record { code = boot.codeOf x; place = placeOf x; packs = e; permitted = inl s }
+
+-- its place is low
+pub low-place : (records b b′ : List ℕ) (x : Booted) → Boots records b b′ x → placeOf x ≤ Table.allLevels + Table.mostRanges
+low-place records b b′ x s = host-laws .boot-most (s .accepted .facts) records _ (s .accepted .formed) (s .rule)

@@ -26,7 +26,8 @@ use Rattle.layout.specs.Sound.{Accepted}
 use Rattle.layout.specs.Served.{Served, TableRefused}
 use Rattle.layout.proofs.Accepts.{one-set}
 use Rattle.answers.specs.Answers.{packed}
-use Rattle.keeper.specs.Entries.{placed, built, CallPermitted, CardPermitted, SharersPermitted, BootPermitted, CallAnswers, CardAnswers}
+use Rattle.boot.specs.Booting.{placed}
+use Rattle.keeper.specs.Entries.{built, CallPermitted, CardPermitted, SharersPermitted, BootPermitted, CallAnswers, CardAnswers}
 use Rattle.keeper.specs.Entries.{SharersAnswers, FreshAnswers, BootAnswers}
 use Rattle.keeper.specs.Laws.{Laws, TakenApart, CallLaws, CardLaws, SharersLaws, FreshLaws, BootLaws}
 
@@ -237,6 +238,11 @@ module _ (records b : List ℕ) where
           is = s .table;
         })
             (λ u. absurd (u .0 .unformed a)) (x .permitted);
+        success = λ b₁ r x e. ⊎-elim (λ s. host-laws .boot-success (s .accepted .facts) records _ (s .rule) e)
+            (λ u. absurd (omega (arith, ap numberOf (sym e ∙ u .0 .code-is)))) (x .permitted);
+        most = λ b₁ r x. ⊎-elim (λ s. host-laws .boot-most (s .accepted .facts) records _ (s .accepted .formed) (s .rule))
+            (λ u. omega (arith, u .1)) (x .permitted);
+        taken-apart = λ b₁ r x. (omega (arith, x .packs, code-byte (x .code)), omega (arith, x .packs, code-byte (x .code)));
       }
 
 pub laws : Laws

@@ -3,7 +3,7 @@ use mathlib.Core.Path.{_≡_}
 use mathlib.Core.Logic.{_⊎_}
 use mathlib.Core.List.{List}
 use mathlib.Core.Bool.{Bool, true, false}
-use Prim.Native.Nat.{ℕ, _+_, _*_, _^_, _≤_}
+use Prim.Native.Nat.{ℕ, _≤_}
 use lib.ListN.{length}
 use Rattle.facts.specs.declared.Code.{Code}
 use Rattle.facts.specs.declared.Code.the-variants.{Success, GeneralFailure}
@@ -20,16 +20,13 @@ use Rattle.layout.specs.Layout.{image}
 use Rattle.layout.specs.Sound.{Accepted}
 use Rattle.layout.specs.Served.{Served, ServedBy, TableRefused}
 use Rattle.answers.specs.Answers.{packed}
-
--- code + 2^32 * place
-abbrev pub placed : Code → ℕ → ℕ
-placed code place = numberOf code + 2 ^ 32 * place
+use Rattle.boot.specs.Booting.{placed}
 
 -- the services that are built today; the others of document 01 answer as not built
 abbrev pub built : Service → Bool
 built registerClient = true
 built deregisterClient = true
-built adjustResourceInfo = false
+built adjustResourceInfo = true
 built requestIrq = false
 built releaseIrq = false
 built requestIo = false
@@ -84,7 +81,7 @@ FreshAnswers sockets b b′ r =
     (FreshAllowed sockets b × (r ≡ numberOf Success) × (b′ ≡ image (fresh sockets)))
     ⊎ ((FreshAllowed sockets b → ⊥) × (r ≡ numberOf GeneralFailure) × (b′ ≡ b))
 
--- cs_boot, which is to come: a code and a place. "If the table is not well formed: place 0, GENERAL_FAILURE."
+-- cs_boot: a code and a place. "If the table is not well formed: place 0, GENERAL_FAILURE."
 abbrev pub BootPermitted : List ℕ → List ℕ → List ℕ → Code → ℕ → Type 0
 BootPermitted records b b′ code place =
     Served (λ (F G : Facts). Boot F records 0 (stopped place code G)) b b′

@@ -3,14 +3,15 @@ use mathlib.Core.Path.{_≡_}
 use mathlib.Core.Logic.{_≢_}
 use mathlib.Core.List.{List}
 use mathlib.Core.Bool.{Bool}
-use Prim.Native.Nat.{ℕ, _/_, _%_, _≤_}
+use Prim.Native.Nat.{ℕ, _+_, _*_, _/_, _%_, _^_, _≤_}
+use lib.ListN.{length}
 use Rattle.facts.specs.declared.Code.{Code}
 use Rattle.facts.specs.declared.Code.the-variants.{Success, GeneralFailure}
 use Rattle.facts.specs.Codes.{numberOf}
 use Rattle.facts.specs.Table
 use Rattle.layout.specs.Layout.{image}
 use Rattle.layout.specs.Sound.{Accepted}
-use Rattle.facts.specs.Boot.{recordsAdded}
+use Rattle.facts.specs.Boot.{recordSize, recordsAdded}
 use Rattle.keeper.specs.Entries.{CallAnswers, CardAnswers, SharersAnswers, FreshAnswers, BootAnswers}
 
 -- the number answered can be taken apart again: its low 16 bits are the code, the rest is the handle or the count
@@ -53,13 +54,19 @@ pub record FreshLaws (sockets : ℕ) (b : List ℕ) : Type 0 where
   -- a table made fresh is accepted
   pub accepted : (b₁ : List ℕ) (r : ℕ) → FreshAnswers sockets b b₁ r → r ≡ numberOf Success → Accepted b₁
 
--- cs_boot, which is to come
+-- cs_boot
 pub record BootLaws (records b : List ℕ) : Type 0 where
   pub one : (b₁ b₂ : List ℕ) (r₁ r₂ : ℕ) → BootAnswers records b b₁ r₁ → BootAnswers records b b₂ r₂ → (r₁ ≡ r₂) × (b₁ ≡ b₂)
   -- "earlier ones stay": the table left is that of the records before the place, added in order, and nothing else
   pub leaves : (b₁ : List ℕ) (r : ℕ) (x : BootAnswers records b b₁ r) (a : Accepted b) → b₁ ≡ image (recordsAdded (x .place) (a .facts) records)
   pub unformed : (b₁ : List ℕ) (r : ℕ) (x : BootAnswers records b b₁ r) → (Accepted b → ⊥) → (x .code ≡ GeneralFailure) × (x .place ≡ 0) × (b₁ ≡ b)
   pub stays : (b₁ : List ℕ) (r : ℕ) → Accepted b → BootAnswers records b b₁ r → Accepted b₁
+  -- "Success answers the list's length in records"
+  pub success : (b₁ : List ℕ) (r : ℕ) (x : BootAnswers records b b₁ r) → x .code ≡ Success → length records ≡ x .place * recordSize
+  -- no place is past the levels and ranges that there can be
+  pub most : (b₁ : List ℕ) (r : ℕ) (x : BootAnswers records b b₁ r) → x .place ≤ Table.allLevels + Table.mostRanges
+  -- the low 32 bits of the number answered are the code, the rest is the place
+  pub taken-apart : (b₁ : List ℕ) (r : ℕ) (x : BootAnswers records b b₁ r) → (r % 2 ^ 32 ≡ numberOf (x .code)) × (r / 2 ^ 32 ≡ x .place)
 
 -- all of them, for every input
 pub record Laws : Type 0 where

@@ -1,6 +1,7 @@
 // The C boundary: numbers and lent bytes. Any bytes, service number, handle and packet get an answer.
 use answers::Answer;
 use answers::Size;
+use boot::Booted;
 use facts::Code;
 use facts::Handle;
 use facts::Socket;
@@ -10,7 +11,7 @@ use sockets::SocketCount;
 ghost use mathlib.Core.Path.{_≡_};
 ghost use mathlib.Core.Bool.{true, false};
 ghost use Rattle.facts.specs.Codes.{numberOf};
-ghost use Rattle.keeper.specs.Entries.{CallAnswers, CardAnswers, SharersAnswers, FreshAnswers};
+ghost use Rattle.keeper.specs.Entries.{CallAnswers, CardAnswers, SharersAnswers, FreshAnswers, BootAnswers};
 
 // The answer where no well-formed set has the table's bytes.
 fn unformed() -> u32
@@ -40,11 +41,12 @@ pub extern "C" fn cs_call(table: &mut [u8], service: u16, handle: u16, packet: &
     let Loaded::Formed = scan::load(table) else {
         return unformed();
     };
-    // DeregisterClient, RegisterClient, and every other number.
+    // DeregisterClient, RegisterClient, AdjustResourceInfo, and every other number.
     match service {
         0x02 => answers::pack(clients::deregister(table, Handle(handle), packet)),
         0x10 => answers::pack(clients::register(table, packet)),
-        0x00..=0x01 | 0x03..=0x0F | 0x11..=0xFFFF => answers::pack(Answer::Refused(
+        0x35 => answers::pack(resources::adjust(table, Handle(handle), packet)),
+        0x00..=0x01 | 0x03..=0x0F | 0x11..=0x34 | 0x36..=0xFFFF => answers::pack(Answer::Refused(
             Code::UnsupportedService,
         )),
     }
@@ -81,4 +83,14 @@ pub extern "C" fn cs_sharers(table: &[u8], level: u32) -> u32
         return unformed();
     };
     irq::pack(irq::sharers(table, level))
+}
+
+#[no_mangle]
+pub extern "C" fn cs_boot(table: &mut [u8], records: &[u8]) -> u64
+    ensures { λ r. ⌜ BootAnswers (now (records .entry)) (now (table .entry)) (now (table .exit)) r ⌝ }
+{
+    let Loaded::Formed = scan::load(table) else {
+        return boot::pack(Booted::Stopped(0, Code::GeneralFailure));
+    };
+    boot::pack(boot::boot(table, records))
 }

@@ -4,23 +4,23 @@ use mathlib.Core.Logic.{_⊎_, inl, inr, _≢_}
 use mathlib.Core.List.{List, [], _∷_, _++_}
 use mathlib.Core.Bool.{Bool}
 use mathlib.Core.Option.{Option, none, some}
-use Prim.Native.Nat.{ℕ, suc, _+_, _*_, _-_, _/_, _%_, _≤_, _<_}
+use Prim.Native.Nat.{ℕ, _+_, _*_, _-_, _/_, _%_, _≤_, _<_}
 use native.Mathlib.Decide.{decLt, ℕ-discrete}
 use native.Mathlib.Omega.{arith}
 use lib.ListN.{length, getD, getElem?, length-append}
 use Rattle.facts.specs.Table
-use Rattle.facts.specs.Table.{Facts, Client, fresh}
+use Rattle.facts.specs.Table.{Facts, Client, Level, Range, fresh}
 use Rattle.facts.specs.Sets.{put}
 use Rattle.facts.specs.Packets.{byte}
-use Rattle.facts.specs.Clients.{registered, newClient, withClients, withoutClient}
+use Rattle.facts.specs.Clients.{registered, newClient, withClients}
+use Rattle.facts.specs.Resources.{withLevel, withRanges}
 use Rattle.facts.specs.Sockets.{withCard}
 use Rattle.facts.proofs.Sets.{put-same, put-other}
 use Rattle.layout.specs.Layout
-use Rattle.layout.specs.Layout.{mark, two, maskBytes, clientBytes, levelBytes, head}
+use Rattle.layout.specs.Layout.{mark, two, maskBytes, clientBytes, levelBytes, rangeBytes, head}
 use Rattle.layout.specs.Reading.{irqPlace, ioPlace, levelPlace, rangePlace, clientPlace}
-use Rattle.layout.specs.Changed.{lastClient}
 use Rattle.layout.proofs.Parts.{below-at}
-use Rattle.layout.proofs.Lists.{at-left, at-end, at-past, Fewer, without-at}
+use Rattle.layout.proofs.Lists.{at-left, at-end, at-past}
 use Rattle.layout.proofs.RoundTrip.{mask-bytes}
 use Rattle.layout.proofs.Grants.{zeros}
 use Rattle.layout.proofs.Shows.{Shows}
@@ -155,69 +155,110 @@ module _ (F : Facts) (b b′ : List ℕ) (attributes events : ℕ) (w : Shows F 
         rest-is = λ i m n. after i (omega arith) ∙ w .rest-is i m n;
       }
 
--- a client deregistered: the number of clients is written, and the records past the kth move one place down
-module _ (F : Facts) (b b′ : List ℕ) (h k : ℕ) (c : Client) (w : Shows F b) (most : length (F .clients) ≤ Table.mostClients)
-    (here : getElem? (F .clients) k ≡ some c)
-    (is : c .handle ≡ h) (first : (i : ℕ) (x : Client) → i < k → getElem? (F .clients) i ≡ some x → x .handle ≢ h) (size : length b′ ≡ length b)
-    (count : byte b′ 1 + 1 ≡ length (F .clients)) (moved : (p : ℕ) → clientPlace k ≤ p → p < lastClient → byte b′ p ≡ byte b (p + Layout.clientSize))
-    (last : (p : ℕ) → lastClient ≤ p → p < Layout.rangesAt → byte b′ p ≡ 0)
-    (other : (p : ℕ) → p ≢ 1 → (p < clientPlace k) ⊎ (Layout.rangesAt ≤ p) → byte b′ p ≡ byte b p) where
-  G : Facts
-  G = withClients F (withoutClient h (F .clients))
+-- other clients in place of those listed: their records and their number
+pub clients-shown : (F : Facts) (cs : List Client) (b b′ : List ℕ) → Shows F b → length b′ ≡ length b → byte b′ 1 ≡ length cs
+    → ((i j : ℕ) → i < Table.mostClients → j < Layout.clientSize → getD (clientBytes (getElem? cs i)) j 0 ≡ byte b′ (clientPlace i + j))
+    → ((p : ℕ) → p ≢ 1 → (p < Layout.clientsAt) ⊎ (Layout.rangesAt ≤ p) → byte b′ p ≡ byte b p)
+    → Shows (withClients F cs) b′
+unfolding head
+clients-shown F cs b b′ w size count records other =
+    record {
+      size = size ∙ w .size;
+      head-is = heads;
+      cards-are = λ s m. w .cards-are s m ∙ sym (before (Layout.cardsAt + s) (λ e. omega (arith, e)) (omega arith));
+      levels-are = λ i j m n. w .levels-are i j m n ∙ sym (before (levelPlace i + j) (λ e. omega (arith, e)) (omega arith));
+      ios-are = λ i j m n. w .ios-are i j m n ∙ sym (before (ioPlace i + j) (λ e. omega (arith, e)) (omega arith));
+      irqs-are = λ i j m n. w .irqs-are i j m n ∙ sym (before (irqPlace i + j) (λ e. omega (arith, e)) (omega arith));
+      clients-are = records;
+      ranges-are = λ i j m n. w .ranges-are i j m n ∙ sym (other (rangePlace i + j) (λ e. omega (arith, e)) (inr (omega arith)));
+      rest-is = λ i m n. other i (λ e. omega (arith, e)) (inr (omega arith)) ∙ w .rest-is i m n;
+    }
+  where
+    before : (p : ℕ) → p ≢ 1 → p < Layout.clientsAt → byte b′ p ≡ byte b p
+    before p d l = other p d (inl l)
 
-  fewer : Fewer (F .clients) (withoutClient h (F .clients)) k
-  fewer = without-at (λ (x : Client). x .handle) h (F .clients) k c here is first
+    heads : (j : ℕ) → j < 5 → getD (head (withClients F cs)) j 0 ≡ byte b′ j
+    heads =
+        below-at 5 (λ j. getD (head (withClients F cs)) j 0 ≡ byte b′ j) (
+          (
+            (((tt, keep 0 (omega arith) (λ e. omega (arith, e))), sym count), keep 2 (omega arith) (λ e. omega (arith, e))),
+            keep 3 (omega arith) (λ e. omega (arith, e)),
+          ),
+          keep 4 (omega arith) (λ e. omega (arith, e)),
+        )
+      where
+        keep : (j : ℕ) → j < 5 → j ≢ 1 → getD (head F) j 0 ≡ byte b′ j
+        keep j l d = w .head-is j l ∙ sym (before j d (omega arith))
 
-  stays : (p : ℕ) → p ≢ 1 → p < Layout.clientsAt → byte b′ p ≡ byte b p
-  stays p d l = other p d (inl (omega arith))
+-- other ranges in place of those listed
+pub ranges-shown : (F : Facts) (rs : List Range) (b b′ : List ℕ) → Shows F b → length b′ ≡ length b → byte b′ 2 ≡ length rs
+    → ((i j : ℕ) → i < Table.mostRanges → j < Layout.rangeSize → getD (rangeBytes (getElem? rs i)) j 0 ≡ byte b′ (rangePlace i + j))
+    → ((p : ℕ) → p ≢ 2 → (p < Layout.rangesAt) ⊎ (Layout.restAt ≤ p) → byte b′ p ≡ byte b p)
+    → Shows (withRanges F rs) b′
+unfolding head
+ranges-shown F rs b b′ w size count records other =
+    record {
+      size = size ∙ w .size;
+      head-is = heads;
+      cards-are = λ s m. w .cards-are s m ∙ sym (before (Layout.cardsAt + s) (λ e. omega (arith, e)) (omega arith));
+      levels-are = λ i j m n. w .levels-are i j m n ∙ sym (before (levelPlace i + j) (λ e. omega (arith, e)) (omega arith));
+      ios-are = λ i j m n. w .ios-are i j m n ∙ sym (before (ioPlace i + j) (λ e. omega (arith, e)) (omega arith));
+      irqs-are = λ i j m n. w .irqs-are i j m n ∙ sym (before (irqPlace i + j) (λ e. omega (arith, e)) (omega arith));
+      clients-are = λ i j m n. w .clients-are i j m n ∙ sym (before (clientPlace i + j) (λ e. omega (arith, e)) (omega arith));
+      ranges-are = records;
+      rest-is = λ i m n. other i (λ e. omega (arith, e)) (inr m) ∙ w .rest-is i m n;
+    }
+  where
+    before : (p : ℕ) → p ≢ 2 → p < Layout.rangesAt → byte b′ p ≡ byte b p
+    before p d l = other p d (inl l)
 
-  heads-less : (j : ℕ) → j < 5 → getD (head (withClients F (withoutClient h (F .clients)))) j 0 ≡ byte b′ j
-  unfolding head
-  heads-less =
-      below-at 5 (λ j. getD (head (withClients F (withoutClient h (F .clients)))) j 0 ≡ byte b′ j) (
-        (
-          (((tt, keep 0 (omega arith) (λ e. omega (arith, e))), omega (arith, fewer .one-less, count)), keep 2 (omega arith) (λ e. omega (arith, e))),
-          keep 3 (omega arith) (λ e. omega (arith, e)),
-        ),
-        keep 4 (omega arith) (λ e. omega (arith, e)),
-      )
-    where
-      keep : (j : ℕ) → j < 5 → j ≢ 1 → getD (head F) j 0 ≡ byte b′ j
-      keep j l d = w .head-is j l ∙ sym (stays j d (omega arith))
+    heads : (j : ℕ) → j < 5 → getD (head (withRanges F rs)) j 0 ≡ byte b′ j
+    heads =
+        below-at 5 (λ j. getD (head (withRanges F rs)) j 0 ≡ byte b′ j) (
+          (
+            (((tt, keep 0 (omega arith) (λ e. omega (arith, e))), keep 1 (omega arith) (λ e. omega (arith, e))), sym count),
+            keep 3 (omega arith) (λ e. omega (arith, e)),
+          ),
+          keep 4 (omega arith) (λ e. omega (arith, e)),
+        )
+      where
+        keep : (j : ℕ) → j < 5 → j ≢ 2 → getD (head F) j 0 ≡ byte b′ j
+        keep j l d = w .head-is j l ∙ sym (before j d (omega arith))
 
-  records-less : (i j : ℕ) → i < Table.mostClients → j < Layout.clientSize
-      → getD (clientBytes (getElem? (withoutClient h (F .clients)) i)) j 0 ≡ byte b′ (clientPlace i + j)
-  records-less i j l m = go (decLt i k) (decLt (suc i) Table.mostClients)
-    where
-      go : Dec (i < k) → Dec (suc i < Table.mostClients) → getD (clientBytes (getElem? (withoutClient h (F .clients)) i)) j 0 ≡ byte b′
-          (clientPlace i + j)
-      go (yes x) d =
-          ap (λ (o : Option Client). getD (clientBytes o) j 0) (fewer .ahead i x) ∙ w .clients-are i j l m
-          ∙ sym (other (clientPlace i + j) (λ e. omega (arith, e)) (inl (omega arith)))
-      go (no x) (yes y) =
-          ap (λ (o : Option Client). getD (clientBytes o) j 0) (fewer .behind i (omega arith)) ∙ w .clients-are (suc i) j (omega arith) m
-          ∙ ap (byte b) next ∙ sym (moved (clientPlace i + j) (omega arith) (omega arith))
-        where
-          next : clientPlace (suc i) + j ≡ clientPlace i + j + Layout.clientSize
-          next = omega arith
-      go (no x) (no y) =
-          ap (λ (o : Option Client). getD (clientBytes o) j 0) (fewer .behind i (omega arith) ∙ at-past (F .clients) (suc i) (omega arith))
-          ∙ zeros Layout.clientSize j m
-          ∙ sym (last (clientPlace i + j) (omega arith) (omega arith))
+-- a level's two bytes
+pub level-shown : (F : Facts) (b b′ : List ℕ) (l : ℕ) (v : Level) → Shows F b → l < Table.allLevels → length b′ ≡ length b
+    → ((j : ℕ) → j < Layout.levelSize → byte b′ (levelPlace l + j) ≡ getD (levelBytes v) j 0)
+    → ((p : ℕ) → p ≢ levelPlace l → p ≢ levelPlace l + 1 → byte b′ p ≡ byte b p)
+    → Shows (withLevel F l v) b′
+unfolding head
+level-shown F b b′ l v w h size there other =
+    record {
+      size = size ∙ w .size;
+      head-is = heads;
+      cards-are = λ s m. w .cards-are s m ∙ sym (away (Layout.cardsAt + s) (inl (omega arith)));
+      levels-are = λ i j m n. level i j m n (ℕ-discrete i l);
+      ios-are = λ i j m n. w .ios-are i j m n ∙ sym (away (ioPlace i + j) (inr (omega arith)));
+      irqs-are = λ i j m n. w .irqs-are i j m n ∙ sym (away (irqPlace i + j) (inr (omega arith)));
+      clients-are = λ i j m n. w .clients-are i j m n ∙ sym (away (clientPlace i + j) (inr (omega arith)));
+      ranges-are = λ i j m n. w .ranges-are i j m n ∙ sym (away (rangePlace i + j) (inr (omega arith)));
+      rest-is = λ i m n. away i (inr (omega arith)) ∙ w .rest-is i m n;
+    }
+  where
+    away : (p : ℕ) → (p < Layout.levelsAt) ⊎ (Layout.iosAt ≤ p) → byte b′ p ≡ byte b p
+    away p (inl m) = other p (λ e. omega (arith, e)) (λ e. omega (arith, e))
+    away p (inr m) = other p (λ e. omega (arith, e)) (λ e. omega (arith, e))
 
-  pub deregister-shown : Shows (withClients F (withoutClient h (F .clients))) b′
-  deregister-shown =
-      record {
-        size = size ∙ w .size;
-        head-is = heads-less;
-        cards-are = λ s m. w .cards-are s m ∙ sym (stays (Layout.cardsAt + s) (λ e. omega (arith, e)) (omega arith));
-        levels-are = λ i j m n. w .levels-are i j m n ∙ sym (stays (levelPlace i + j) (λ e. omega (arith, e)) (omega arith));
-        ios-are = λ i j m n. w .ios-are i j m n ∙ sym (stays (ioPlace i + j) (λ e. omega (arith, e)) (omega arith));
-        irqs-are = λ i j m n. w .irqs-are i j m n ∙ sym (stays (irqPlace i + j) (λ e. omega (arith, e)) (omega arith));
-        clients-are = records-less;
-        ranges-are = λ i j m n. w .ranges-are i j m n ∙ sym (other (rangePlace i + j) (λ e. omega (arith, e)) (inr (omega arith)));
-        rest-is = λ i m n. other i (λ e. omega (arith, e)) (inr (omega arith)) ∙ w .rest-is i m n;
-      }
+    heads : (j : ℕ) → j < 5 → getD (head (withLevel F l v)) j 0 ≡ byte b′ j
+    heads j m = w .head-is j m ∙ sym (away j (inl (omega arith)))
+
+    level : (i j : ℕ) → i < Table.allLevels → j < Layout.levelSize → Dec (i ≡ l)
+        → getD (levelBytes (put (F .level) l v i)) j 0 ≡ byte b′ (levelPlace i + j)
+    level i j m n (yes e) =
+        ap (λ (x : Level). getD (levelBytes x) j 0) (ap (put (F .level) l v) e ∙ put-same (F .level) l v) ∙ sym (there j n)
+        ∙ ap (λ (k : ℕ). byte b′ (levelPlace k + j)) (sym e)
+    level i j m n (no d) =
+        ap (λ (x : Level). getD (levelBytes x) j 0) (put-other (F .level) l v i d) ∙ w .levels-are i j m n
+        ∙ sym (other (levelPlace i + j) (λ e. d (omega (arith, e))) (λ e. d (omega (arith, e))))
 
 -- a fresh table: the socket count, and zero
 pub fresh-shown : (n : ℕ) (b : List ℕ) → length b ≡ Layout.tableSize → byte b 0 ≡ n → ((p : ℕ) → 1 ≤ p → p < Layout.tableSize → byte b p ≡ 0)

@@ -2,24 +2,28 @@
 use mathlib.Core.Path.{_≡_, ap, sym, _∙_}
 use mathlib.Core.Logic.{_⊎_, inl, inr, _≢_}
 use mathlib.Core.List.{List, _++_}
+use mathlib.Core.Option.{some}
 use Prim.Native.Nat.{ℕ, _+_, _/_, _%_, _≤_, _<_}
 use native.Mathlib.Nat.{add-zero, add-assoc}
 use native.Mathlib.Omega.{arith}
-use lib.ListN.{length, getD, length-set}
+use lib.ListN.{length, getD, getElem?, length-set}
 use Rattle.facts.specs.Table
-use Rattle.facts.specs.Table.{Facts}
+use Rattle.facts.specs.Table.{Facts, Client}
 use Rattle.facts.specs.Packets.{byte, withWord}
 use Rattle.facts.specs.Clients.{registered, withClients, withoutClient}
 use Rattle.layout.specs.Layout
-use Rattle.layout.specs.Layout.{image, two}
+use Rattle.layout.specs.Layout.{image, two, clientBytes}
 use Rattle.layout.specs.Reading.{clientsIn, handleIn, clientPlace}
 use Rattle.layout.specs.Sound.{Accepted}
-use Rattle.layout.specs.Changed.{entered, Withdrawn}
+use Rattle.layout.specs.Changed.{entered, TakenOut}
 use Rattle.layout.proofs.Of
 use Rattle.layout.proofs.Parts.{below-at}
+use Rattle.layout.proofs.Lists.{Fewer, without-at}
+use Rattle.layout.proofs.Records.{records-fewer}
+use Rattle.layout.proofs.Grants.{zeros}
 use Rattle.layout.proofs.Shows.{Shows, shows-image}
 use Rattle.layout.proofs.Written.{byte-same, byte-other, word-length, word-low, word-high, word-other}
-use Rattle.layout.proofs.Changes.{register-shown, deregister-shown}
+use Rattle.layout.proofs.Changes.{register-shown, clients-shown}
 
 -- the bytes of a table with a new client
 module _ (b : List ℕ) (n h attributes events : ℕ) (size : length b ≡ Layout.tableSize) (room : n < Table.mostClients) (low : h < 65536)
@@ -151,10 +155,25 @@ entered-image F b attributes events w room left lowa lowe =
 
 -- the facts without the client in the place i
 pub withdrawn-image : (b b′ : List ℕ) (a : Accepted b) (i h : ℕ) → i < clientsIn b → handleIn b i ≡ h → ((k : ℕ) → k < i → handleIn b k ≡ h → ⊥)
-    → Withdrawn b b′ i
+    → TakenOut b b′ 1 (clientPlace i) Layout.clientSize Layout.rangesAt
     → image (withClients (a .facts) (withoutClient h (a .facts .clients))) ≡ b′
 withdrawn-image b b′ a i h l e first d =
-    let c = Of.client-of b a i l in
     shows-image (withClients (a .facts) (withoutClient h (a .facts .clients))) b′
-    (deregister-shown (a .facts) b b′ h i (c .0) (Of.shows-in b a) (a .formed .clients-most) (c .1) (sym (Of.handle-of b a i (c .0) (c .1) l) ∙ e)
-    (λ k x m q r. first k m (Of.handle-of b a k x q (omega arith) ∙ r)) (d .size) (d .count ∙ Of.clients-in b a) (d .moved) (d .last) (d .other))
+    (clients-shown (a .facts) (withoutClient h (a .facts .clients)) b b′ (Of.shows-in b a) (d .size)
+    (omega (arith, d .fewer, Of.clients-in b a, fewer .one-less))
+    (records-fewer clientBytes Layout.clientsAt Layout.clientSize Table.mostClients (zeros Layout.clientSize) (a .facts .clients)
+    (withoutClient h (a .facts .clients)) b b′ i (Of.shows-in b a .clients-are)
+    (λ p m n. d .other p (λ q. omega (arith, q)) (inl n)) fewer (a .formed .clients-most) (d .moved) (d .last))
+    (λ p n o. d .other p n (outside p o)))
+  where
+    c : (c : Client) × (getElem? (a .facts .clients) i ≡ some c)
+    c = Of.client-of b a i l
+
+    fewer : Fewer (a .facts .clients) (withoutClient h (a .facts .clients)) i
+    fewer =
+        without-at (λ (x : Client). x .handle) h (a .facts .clients) i (c .0) (c .1) (sym (Of.handle-of b a i (c .0) (c .1) l) ∙ e)
+        (λ k x m q r. first k m (Of.handle-of b a k x q (omega arith) ∙ r))
+
+    outside : (p : ℕ) → (p < Layout.clientsAt) ⊎ (Layout.rangesAt ≤ p) → (p < clientPlace i) ⊎ (Layout.rangesAt ≤ p)
+    outside p (inl m) = inl (omega arith)
+    outside p (inr m) = inr m

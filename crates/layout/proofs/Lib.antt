@@ -1,6 +1,7 @@
 pub mod Parts
 pub mod Image
 pub mod Lists
+pub mod Records
 pub mod RoundTrip
 pub mod Grants
 pub mod Shows
@@ -12,3 +13,4 @@ pub mod Of
 pub mod Written
 pub mod Changes
 pub mod Clients
+pub mod Ranges

@@ -13,7 +13,9 @@ use borrow.Author.Tests.{lt-ltb, le-ltb}
 use Rattle.facts.specs.Table.{Client, Range}
 use Rattle.facts.specs.Sets.{_∈_, without}
 use Rattle.facts.specs.WellFormed.{Rising, Apart}
+use Rattle.facts.specs.Resources.{inserted}
 use Rattle.facts.proofs.Sets.{in-left, in-right, in-either, by-number, rising-over, rising-more}
+use Rattle.facts.proofs.ResourcesStay.{inserted-cases}
 use Rattle.layout.specs.Reading.{upTo, below}
 use Rattle.layout.proofs.Parts.{last-or-below}
 
@@ -140,6 +142,39 @@ without-at {A} number n (y ∷ s) (suc k) x e is first =
         back : (i : ℕ) → suc k ≤ i → getElem? (y ∷ without number n s) i ≡ getElem? (y ∷ s) (suc i)
         back zero l = absurd (not-suc-le-zero l)
         back (suc i) l = f .behind i (le-of-suc-le-suc l)
+
+-- the list t is s with x as its kth
+pub record More {A : Type 0} (s t : List A) (k : ℕ) (x : A) : Type 0 where
+  pub ahead : (i : ℕ) → i < k → getElem? t i ≡ getElem? s i
+  pub here : getElem? t k ≡ some x
+  pub behind : (i : ℕ) → k ≤ i → getElem? t (suc i) ≡ getElem? s i
+
+-- a range stands after those whose base is not over its own
+pub inserted-at : (r : Range) (s : List Range) (k : ℕ) → k ≤ length s → ((i : ℕ) (y : Range) → i < k → getElem? s i ≡ some y → y .base ≤ r .base)
+    → ((i : ℕ) (y : Range) → k ≤ i → getElem? s i ≡ some y → r .base < y .base)
+    → More s (inserted r s) k r
+inserted-at r [] zero l low high =
+    record { ahead = λ i h. absurd (not-suc-le-zero h); here = refl; behind = λ i h. refl }
+inserted-at r [] (suc k) l low high = absurd (not-suc-le-zero l)
+inserted-at r (y ∷ s) zero l low high =
+    inserted-cases (λ t. More (y ∷ s) t zero r) r y s
+    (λ _. record { ahead = λ i h. absurd (not-suc-le-zero h); here = refl; behind = λ i h. refl })
+    (λ b. absurd (omega (arith, b, high zero y (omega arith) refl)))
+inserted-at r (y ∷ s) (suc k) l low high =
+    inserted-cases (λ t. More (y ∷ s) t (suc k) r) r y s (λ b. absurd (omega (arith, b, low zero y (omega arith) refl)))
+    (λ _. later
+    (inserted-at r s k (le-of-suc-le-suc l) (λ i z h q. low (suc i) z (omega arith) q) (λ i z h q. high (suc i) z (omega arith) q)))
+  where
+    later : More s (inserted r s) k r → More (y ∷ s) (y ∷ inserted r s) (suc k) r
+    later m = record { ahead = front; here = m .here; behind = back }
+      where
+        front : (i : ℕ) → i < suc k → getElem? (y ∷ inserted r s) i ≡ getElem? (y ∷ s) i
+        front zero h = refl
+        front (suc i) h = m .ahead i (le-of-suc-le-suc h)
+
+        back : (i : ℕ) → suc k ≤ i → getElem? (y ∷ inserted r s) (suc i) ≡ getElem? (y ∷ s) i
+        back zero h = absurd (not-suc-le-zero h)
+        back (suc i) h = m .behind i (le-of-suc-le-suc h)
 
 -- one more at the end of what is in order
 apart-more : (lo : ℕ) (rs : List Range) (r : Range) → Apart lo rs → lo ≤ r .base → 1 ≤ r .count

@@ -2,22 +2,27 @@
 use mathlib.Core.Path.{_≡_, refl, ap, sym, _∙_, subst}
 use mathlib.Core.Logic.{_⊎_, inl, inr}
 use mathlib.Core.List.{List}
+use mathlib.Core.Bool.{false}
 use mathlib.Core.Option.{Option, none, some, Option·some-injective, Option·none-ne-some}
 use Prim.Native.Nat.{ℕ, _+_, _<_}
 use native.Mathlib.Decide.{decLt}
 use native.Mathlib.Omega.{arith}
 use lib.ListN.{length, getElem?}
 use Rattle.facts.specs.Table
-use Rattle.facts.specs.Table.{Client, IoGrant, IrqGrant}
+use Rattle.facts.specs.Table.{Facts, Client, Range, IoGrant, IrqGrant}
+use Rattle.facts.specs.Sets.{_∈_}
+use Rattle.facts.specs.Ports.{Managed}
 use Rattle.facts.specs.Packets.{byte, word}
 use Rattle.facts.specs.WellFormed.{Live}
 use Rattle.layout.specs.Layout
-use Rattle.layout.specs.Reading.{socketsIn, clientsIn, issuedIn, handleIn, maskOf, maskPlace, ioPlace, irqPlace, clientIn, ioIn, irqIn}
-use Rattle.layout.specs.Sound.{Accepted, LiveIn, Zero}
+use Rattle.layout.specs.Reading.{socketsIn, clientsIn, rangesIn, issuedIn, handleIn, maskOf, maskPlace, ioPlace, irqPlace, clientIn, ioIn}
+use Rattle.layout.specs.Reading.{irqIn}
+use Rattle.layout.specs.Reading.{upTo, ioHere, irqHere, levelIn, rangeIn, factsIn}
+use Rattle.layout.specs.Sound.{Accepted, Sound, LiveIn, ManagedIn, IoUsed, IrqUsed, Zero, rangeBase, rangeCount}
 use Rattle.layout.proofs.Sounds
 use Rattle.layout.proofs.Image.{image-length}
-use Rattle.layout.proofs.Lists.{below-in, at-below, at-in, rising-before}
-use Rattle.layout.proofs.RoundTrip.{client-is, live-positive}
+use Rattle.layout.proofs.Lists.{below-in, at-below, at-in, at-upTo, in-upTo, rising-before}
+use Rattle.layout.proofs.RoundTrip.{client-is, live-positive, read-back, positive-test}
 use Rattle.layout.proofs.Shows.{Shows, image-shows}
 use Rattle.layout.proofs.Grants.{no-client}
 
@@ -125,6 +130,91 @@ module _ (b : List ℕ) (a : Accepted b) where
           )
       go (some g) e =
           inr (g, e, ap (λ (x : IrqGrant). x .client) (irq-record s g l e), live-positive (a .formed) (a .formed .irqs s g e .client))
+
+  -- what is read off the bytes is what they say
+  pub facts-in : a .facts ≡ factsIn b
+  facts-in = sym (read-back (a .facts) (a .formed)) ∙ ap factsIn (a .is)
+
+  pub sound-in : Sound b
+  sound-in = subst Sound (a .is) (Sounds.image-sound (a .facts) (a .formed))
+
+  -- a socket's grant is the one that its record says, and its record says the grant that it has
+  pub io-said : (s : ℕ) → s < Table.mostSockets → IoUsed b s → a .facts .io s ≡ some (ioIn b s)
+  unfolding factsIn ioHere
+  io-said s l u =
+      ap (λ (F : Facts). F .io s) facts-in ∙ below-in Table.mostSockets none (ioHere b) s l
+      ∙ positive-test (word b (ioPlace s)) none (some (ioIn b s)) (omega (arith, u))
+
+  pub said-io : (s : ℕ) (g : IoGrant) → a .facts .io s ≡ some g → (s < Table.mostSockets) × IoUsed b s × (ioIn b s ≡ g)
+  said-io s g e =
+      let l : s < Table.mostSockets = omega (arith, a .formed .ios s g e .socket, a .formed .sockets-most) in
+      let is = subst (λ (x : List ℕ). (0 < word x (ioPlace s)) × (ioIn x s ≡ g)) (a .is) (Sounds.io-is (a .facts) (a .formed) s g l e) in
+      (l, λ z. omega (arith, z, is .0), is .1)
+
+  pub irq-said : (s : ℕ) → s < Table.mostSockets → IrqUsed b s → a .facts .irq s ≡ some (irqIn b s)
+  unfolding factsIn irqHere
+  irq-said s l u =
+      ap (λ (F : Facts). F .irq s) facts-in ∙ below-in Table.mostSockets none (irqHere b) s l
+      ∙ positive-test (word b (irqPlace s)) none (some (irqIn b s)) (omega (arith, u))
+
+  pub said-irq : (s : ℕ) (g : IrqGrant) → a .facts .irq s ≡ some g → (s < Table.mostSockets) × IrqUsed b s × (irqIn b s ≡ g)
+  said-irq s g e =
+      let l : s < Table.mostSockets = omega (arith, a .formed .irqs s g e .socket, a .formed .sockets-most) in
+      let is = subst (λ (x : List ℕ). (0 < word x (irqPlace s)) × (irqIn x s ≡ g)) (a .is) (Sounds.irq-is (a .facts) (a .formed) s g l e) in
+      (l, λ z. omega (arith, z, is .0), is .1)
+
+  -- a level is managed and reserved as its record says
+  pub level-said : (l : ℕ) → l < Table.allLevels → a .facts .level l ≡ levelIn b l
+  unfolding factsIn
+  level-said l h =
+      ap (λ (F : Facts). F .level l) facts-in
+      ∙ below-in Table.allLevels (record { managed = false; reserved = false }) (levelIn b) l h
+
+  -- the ranges are those that the records say, each in its place
+  pub ranges-in : rangesIn b ≡ length (a .facts .ranges)
+  ranges-in = ap rangesIn (sym (a .is)) ∙ Sounds.ranges-is (a .facts) (a .formed)
+
+  ranges-said : a .facts .ranges ≡ upTo (rangesIn b) (rangeIn b)
+  unfolding factsIn
+  ranges-said = ap (λ (F : Facts). F .ranges) facts-in
+
+  pub range-of : (i : ℕ) → i < rangesIn b → getElem? (a .facts .ranges) i ≡ some (rangeIn b i)
+  range-of i l = ap (λ (rs : List Range). getElem? rs i) ranges-said ∙ at-upTo (rangesIn b) (rangeIn b) i l
+
+  pub range-listed : (i : ℕ) → i < rangesIn b → rangeIn b i ∈ a .facts .ranges
+  range-listed i l = at-in (a .facts .ranges) i (range-of i l)
+
+  pub listed-range : (r : Range) → r ∈ a .facts .ranges → (i : ℕ) × (i < rangesIn b) × (r ≡ rangeIn b i)
+  listed-range r m = in-upTo r (rangesIn b) (rangeIn b) (subst (λ (rs : List Range). r ∈ rs) ranges-said m)
+
+  pub range-base : (i : ℕ) → rangeIn b i .base ≡ rangeBase b i
+  unfolding rangeIn
+  range-base i = refl
+
+  pub range-count : (i : ℕ) → rangeIn b i .count ≡ rangeCount b i
+  unfolding rangeIn
+  range-count i = refl
+
+  -- a port is managed as the records say
+  pub managed-said : (p : ℕ) → ManagedIn b p → Managed (a .facts) p
+  managed-said p m =
+      record {
+        range = rangeIn b (m .0);
+        listed = range-listed (m .0) (m .1);
+        has = record {
+          from = omega (arith, range-base (m .0), m .2 .from);
+          below = omega (arith, range-base (m .0), range-count (m .0), m .2 .below);
+        };
+      }
+
+  pub said-managed : (p : ℕ) → Managed (a .facts) p → ManagedIn b p
+  said-managed p m = go (listed-range (m .range) (m .listed))
+    where
+      go : (i : ℕ) × (i < rangesIn b) × (m .range ≡ rangeIn b i) → ManagedIn b p
+      go x =
+          let base = ap (λ (r : Range). r .base) (x .2) ∙ range-base (x .0) in
+          let count = ap (λ (r : Range). r .count) (x .2) ∙ range-count (x .0) in
+          (x .0, x .1, record { from = omega (arith, base, m .has .from); below = omega (arith, base, count, m .has .below) })
 
   pub irq-level : (s : ℕ) (g : IrqGrant) → s < Table.mostSockets → a .facts .irq s ≡ some g → byte b (irqPlace s + 2) ≡ g .level
   unfolding irqIn

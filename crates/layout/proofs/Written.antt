@@ -1,12 +1,15 @@
--- The bytes of a table after a byte or a number of two bytes is written. Assumes nothing.
-use mathlib.Core.Path.{_≡_, _∙_}
-use mathlib.Core.Logic.{_≢_}
+-- The bytes of a table after a byte, or a number of two or of four bytes, is written. Assumes nothing.
+use mathlib.Core.Path.{_≡_, ap, sym, _∙_}
+use mathlib.Core.Logic.{_⊎_, inl, inr, _≢_}
 use mathlib.Core.List.{List}
-use Prim.Native.Nat.{ℕ, _+_, _/_, _%_, _<_}
+use Prim.Native.Nat.{ℕ, _+_, _/_, _%_, _≤_, _<_}
+use native.Mathlib.Nat.{add-zero, add-assoc}
 use native.Mathlib.Omega.{arith}
-use lib.ListN.{length, set, length-set}
+use lib.ListN.{length, getD, set, length-set}
 use lib.Seq.{getD-set-same, getD-set-other}
-use Rattle.facts.specs.Packets.{byte, withWord}
+use Rattle.facts.specs.Packets.{byte, withWord, withLong}
+use Rattle.layout.specs.Layout.{four}
+use Rattle.layout.proofs.Parts.{below-at}
 
 pub byte-same : (b : List ℕ) (at v : ℕ) → at < length b → byte (set b at v) at ≡ v
 byte-same b at v l = getD-set-same b at v 0 l
@@ -27,3 +30,43 @@ module _ (b : List ℕ) (at n : ℕ) where
 
   pub word-other : (p : ℕ) → p ≢ at → p ≢ at + 1 → byte (withWord b at n) p ≡ byte b p
   word-other p d e = byte-other (set b at (n % 256)) (at + 1) (n / 256 % 256) p e ∙ byte-other b at (n % 256) p d
+
+-- a number of four bytes is two of two bytes
+module _ (b : List ℕ) (at n : ℕ) where
+  abbrev lower : List ℕ
+  lower = withWord b at (n % 65536)
+
+  pub long-length : length (withLong b at n) ≡ length b
+  long-length = word-length lower (at + 2) (n / 65536 % 65536) ∙ word-length b at (n % 65536)
+
+  pub long-other : (p : ℕ) → (p < at) ⊎ (at + 4 ≤ p) → byte (withLong b at n) p ≡ byte b p
+  long-other p (inl l) =
+      word-other lower (at + 2) (n / 65536 % 65536) p (λ e. omega (arith, e)) (λ e. omega (arith, e))
+      ∙ word-other b at (n % 65536) p (λ e. omega (arith, e)) (λ e. omega (arith, e))
+  long-other p (inr l) =
+      word-other lower (at + 2) (n / 65536 % 65536) p (λ e. omega (arith, e)) (λ e. omega (arith, e))
+      ∙ word-other b at (n % 65536) p (λ e. omega (arith, e)) (λ e. omega (arith, e))
+
+  -- its bytes, the lowest first
+  pub long-bytes : at + 3 < length b → n < 4294967296 → (j : ℕ) → j < 4 → byte (withLong b at n) (at + j) ≡ getD (four n) j 0
+  long-bytes l h =
+      below-at 4 (λ j. byte (withLong b at n) (at + j) ≡ getD (four n) j 0) (
+        (
+          (
+            (
+              tt,
+              ap (byte (withLong b at n)) (add-zero at)
+                  ∙ word-other lower (at + 2) (n / 65536 % 65536) at (λ e. omega (arith, e)) (λ e. omega (arith, e))
+                  ∙ word-low b at (n % 65536) (omega arith)
+                  ∙ omega arith,
+            ),
+            word-other lower (at + 2) (n / 65536 % 65536) (at + 1) (λ e. omega (arith, e)) (λ e. omega (arith, e))
+                ∙ word-high b at (n % 65536) (omega arith)
+                ∙ omega arith,
+          ),
+          word-low lower (at + 2) (n / 65536 % 65536) (omega (arith, word-length b at (n % 65536))) ∙ omega arith,
+        ),
+        ap (byte (withLong b at n)) (sym (add-assoc at 2 1))
+            ∙ word-high lower (at + 2) (n / 65536 % 65536) (omega (arith, word-length b at (n % 65536)))
+            ∙ omega arith,
+      )

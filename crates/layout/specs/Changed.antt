@@ -2,25 +2,29 @@
 use mathlib.Core.Path.{_≡_}
 use mathlib.Core.Logic.{_⊎_, _≢_}
 use mathlib.Core.List.{List}
-use Prim.Native.Nat.{ℕ, _+_, _-_, _≤_, _<_}
-use lib.ListN.{length, set}
+use Prim.Native.Nat.{ℕ, _+_, _≤_, _<_}
+use lib.ListN.{length, getD, set}
 use Rattle.facts.specs.Packets.{byte, withWord}
-use Rattle.layout.specs.Layout
-use Rattle.layout.specs.Reading.{clientsIn, clientPlace}
+use Rattle.layout.specs.Reading.{clientPlace}
 
 -- a new client in the place n: its record, the handles issued, the number of clients
 unfoldable pub entered : List ℕ → ℕ → ℕ → ℕ → ℕ → List ℕ
 entered b n h attributes events =
     set (withWord (withWord (withWord (withWord b (clientPlace n) h) (clientPlace n + 2) attributes) (clientPlace n + 4) events) 3 h) 1 (n + 1)
 
--- where the last client's record stands
-abbrev pub lastClient : ℕ
-lastClient = Layout.rangesAt - Layout.clientSize
-
--- the client in the place i is taken out: the records after it stand one place lower, the last one is zero, and there is one client less
-pub record Withdrawn (b b′ : List ℕ) (i : ℕ) : Type 0 where
+-- the record of so many bytes at a place, in a part that ends at the end, is taken out: those after it stand one place lower, the last one is
+-- zero, and the number of records, which stands at count, is one less
+pub record TakenOut (b b′ : List ℕ) (count at bytes end : ℕ) : Type 0 where
   pub size : length b′ ≡ length b
-  pub count : byte b′ 1 + 1 ≡ clientsIn b
-  pub moved : (p : ℕ) → clientPlace i ≤ p → p < lastClient → byte b′ p ≡ byte b (p + Layout.clientSize)
-  pub last : (p : ℕ) → lastClient ≤ p → p < Layout.rangesAt → byte b′ p ≡ 0
-  pub other : (p : ℕ) → p ≢ 1 → (p < clientPlace i) ⊎ (Layout.rangesAt ≤ p) → byte b′ p ≡ byte b p
+  pub fewer : byte b′ count + 1 ≡ byte b count
+  pub moved : (p : ℕ) → at ≤ p → p + bytes < end → byte b′ p ≡ byte b (p + bytes)
+  pub last : (p : ℕ) → end ≤ p + bytes → p < end → byte b′ p ≡ 0
+  pub other : (p : ℕ) → p ≢ count → (p < at) ⊎ (end ≤ p) → byte b′ p ≡ byte b p
+
+-- the record x is put in at a place, in a part that ends at the end: those from there on stand one place higher, and their number is one more
+pub record PutIn (b b′ : List ℕ) (count at end : ℕ) (x : List ℕ) : Type 0 where
+  pub size : length b′ ≡ length b
+  pub more : byte b′ count ≡ byte b count + 1
+  pub new : (j : ℕ) → j < length x → byte b′ (at + j) ≡ getD x j 0
+  pub moved : (p : ℕ) → at ≤ p → p + length x < end → byte b′ (p + length x) ≡ byte b p
+  pub other : (p : ℕ) → p ≢ count → (p < at) ⊎ (end ≤ p) → byte b′ p ≡ byte b p

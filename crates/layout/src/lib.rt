@@ -55,6 +55,8 @@ pub const RANGES_AT: usize = CLIENTS_AT + MOST_CLIENTS * CLIENT_SIZE;
 
 pub const RANGE_SIZE: usize = 7;
 
+pub const REST_AT: usize = RANGES_AT + MOST_RANGES * RANGE_SIZE;
+
 // Where a record's fields stand in it.
 pub const LEVEL_RESERVED: usize = 1;
 

@@ -15,17 +15,6 @@ ghost use Rattle.layout.specs.Layout.{tableSize};
 ghost use Rattle.layout.specs.Reading.{rangesIn};
 ghost use Rattle.layout.specs.Sound.{RangeSound, RangesSound, endBefore};
 
-// Where the range listed before the range `i` ends, or 0.
-fn end_before(t: &[u8], i: usize) -> usize
-    requires { ⌜ (length (now t) ≡ tableSize) × (i < Table.mostRanges) ⌝ }
-    ensures { λ r. ⌜ r ≡ endBefore (now (t .entry)) i ⌝ }
-{
-    if i == 0 {
-        return 0;
-    }
-    reading::range_end(t, i - 1)
-}
-
 // The record of the range `i`, which starts at or past the end of the one before it.
 fn range_sound(t: &[u8], i: usize) -> bool
     requires { ⌜ (length (now t) ≡ tableSize) × (i < Table.mostRanges) ⌝ }
@@ -34,7 +23,7 @@ fn range_sound(t: &[u8], i: usize) -> bool
     let at = RANGES_AT + i * RANGE_SIZE;
     let base = reading::word(t, at);
     let count = reading::long(t, at + RANGE_COUNT);
-    if base < end_before(t, i) {
+    if base < reading::end_before(t, i) {
         return false;
     }
     if count == 0 {

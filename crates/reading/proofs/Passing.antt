@@ -1,9 +1,8 @@
 -- A walk past the managed ports, one range after the other, decides whether a run of ports is managed. Assumes nothing.
-use mathlib.Core.Path.{_≡_, sym, subst}
-use mathlib.Core.Logic.{_⊎_, inl, inr}
+use mathlib.Core.Path.{sym, subst}
+use mathlib.Core.Logic.{inl, inr}
 use mathlib.Core.List.{List}
-use Prim.Native.Nat.{ℕ, zero, suc, _+_, _≤_, _<_}
-use native.Mathlib.Nat.{eq-or-lt-of-le}
+use Prim.Native.Nat.{ℕ, _+_, _≤_, _<_}
 use native.Mathlib.Decide.{decLt}
 use native.Mathlib.Omega.{arith}
 use borrow.Author.Tests.{leb-true, leb-false}
@@ -12,24 +11,9 @@ use Rattle.facts.specs.Says.{Says}
 use Rattle.facts.specs.Ports.{Within}
 use Rattle.layout.specs.Reading.{rangesIn}
 use Rattle.layout.specs.Sound.{ManagedIn, RangesSound, rangeBase, rangeCount}
+use Rattle.layout.proofs.Ranges.{rangeEnd, ends-before}
 use Rattle.reading.specs.Finding.{Passes}
 use Rattle.reading.proofs.All.{All, all-none, all-more}
-
--- where the ith range ends
-abbrev end : List ℕ → ℕ → ℕ
-end b i = rangeBase b i + rangeCount b i
-
--- each range ends at or before the start of every later one
-ends-before : (b : List ℕ) → RangesSound b → (j i : ℕ) → j < i → i < rangesIn b → end b j ≤ rangeBase b i
-ends-before b s j zero l h = absurd (omega arith)
-ends-before b s j (suc k) l h = go (eq-or-lt-of-le (omega arith)) (ends-before b s j k)
-  where
-    next : end b k ≤ rangeBase b (suc k)
-    next = s (suc k) h .from
-
-    go : (j ≡ k) ⊎ (j < k) → (j < k → k < rangesIn b → end b j ≤ rangeBase b k) → end b j ≤ rangeBase b (suc k)
-    go (inl q) f = rw q next
-    go (inr q) f = omega (arith, f q (omega arith), next)
 
 -- from base on every port before p is managed, and p is in none of the first i ranges
 pub record Passed (b : List ℕ) (base p i : ℕ) : Type 0 where
@@ -45,17 +29,17 @@ module _ (b : List ℕ) (base p i : ℕ) (g : Passed b base p i) where
   stay n = record { from = g .from; behind = g .behind; clear = all-more (g .clear) n }
 
   module _ (s : RangesSound b) (h : i < rangesIn b) (w : Within p (rangeBase b i) (rangeCount b i)) where
-    behind-end : (q : ℕ) → base ≤ q → q < end b i → ManagedIn b q
+    behind-end : (q : ℕ) → base ≤ q → q < rangeEnd b i → ManagedIn b q
     behind-end q f l = go (decLt q p)
       where
         go : Dec (q < p) → ManagedIn b q
         go (yes l′) = g .behind q f l′
         go (no n) = (i, h, record { from = omega arith; below = l })
 
-    clear-end : All i (λ j. Within (end b i) (rangeBase b j) (rangeCount b j) → ⊥)
+    clear-end : All i (λ j. Within (rangeEnd b i) (rangeBase b j) (rangeCount b j) → ⊥)
     clear-end j l v = omega (arith, ends-before b s j i l h, v .below)
 
-    move : Passed b base (end b i) (i + 1)
+    move : Passed b base (rangeEnd b i) (i + 1)
     move = record { from = omega arith; behind = behind-end; clear = all-more clear-end (λ v. omega (arith, v .below)) }
 
   pub passed-more : RangesSound b → i < rangesIn b → (r : ℕ) → Passes p (rangeBase b i) (rangeCount b i) r → Passed b base r (i + 1)

@@ -18,7 +18,7 @@ ghost use Rattle.facts.specs.Ports.{Within};
 ghost use Rattle.facts.specs.WellFormed.{AttributesAllowed};
 ghost use Rattle.layout.specs.Layout.{tableSize};
 ghost use Rattle.layout.specs.Reading.{clientsIn, rangesIn, mannerOf};
-ghost use Rattle.layout.specs.Sound.{Zero, LiveIn, ManagedIn, RangesSound, rangeBase, rangeCount};
+ghost use Rattle.layout.specs.Sound.{Zero, LiveIn, ManagedIn, RangesSound, rangeBase, rangeCount, endBefore};
 ghost use Rattle.reading.specs.Finding.{Finds, Passes};
 
 // How many numbers one byte and two bytes hold.
@@ -147,6 +147,17 @@ pub fn range_end(t: &[u8], i: usize) -> usize
 {
     let at = RANGES_AT + i * RANGE_SIZE;
     word(t, at) + long(t, at + RANGE_COUNT)
+}
+
+// Where the range listed before the place `i` ends, or 0.
+pub fn end_before(t: &[u8], i: usize) -> usize
+    requires { ⌜ (length (now t) ≡ tableSize) × (i ≤ Table.mostRanges) ⌝ }
+    ensures { λ r. ⌜ r ≡ endBefore (now (t .entry)) i ⌝ }
+{
+    if i == 0 {
+        return 0;
+    }
+    range_end(t, i - 1)
 }
 
 // The port after the range `i`, where `p` is one of its ports, and else `p`.

@@ -7,8 +7,9 @@ use native.Mathlib.Omega.{arith}
 use borrow.Author.Needs.{needs}
 use denote.Ref.{now}
 use Rattle.layout.proofs.Of.{size-in, sockets-in}
-use Rattle.irq.specs.declared.LevelNumber.the-variants.{Below}
-use Rattle.irq.specs.Sharing.{LevelIs, sharersIn}
+use Rattle.answers.specs.declared.LevelNumber.the-variants.{Below}
+use Rattle.answers.specs.Answers.{LevelIs}
+use Rattle.irq.specs.Sharing.{sharersIn}
 use Rattle.layout.specs.Reading.{socketsIn}
 use Rattle.irq.proofs.Counting.{sharers-past, sharers-done}
 use Rattle.irq.proofs.sharers.Statement.{statement}

@@ -7,7 +7,7 @@ use borrow.Author.Needs.{needs}
 use denote.Ref.{now}
 use Rattle.layout.specs.Sound.{Accepted}
 use Rattle.scan.specs.Loading.{LoadedIs}
-use Rattle.facts.specs.Services.{registerClient, deregisterClient}
+use Rattle.facts.specs.Services.{registerClient, deregisterClient, adjustResourceInfo}
 use Rattle.keeper.proofs.Ends.{call-unformed, unsupported, by-service}
 use Rattle.keeper.proofs.cs_call.Statement.{statement}
 use Rattle.keeper.proofs.cs_call.Tie as tie
@@ -39,6 +39,13 @@ chosen1 c = c .before .before .before
 
 abbrev chosen2 : tie.After-register → tie.At-match2-keys2
 chosen2 c = c .before .before .before
+
+abbrev chosen3 : tie.After-adjust → tie.At-match2-keys3
+chosen3 c = c .before .before .before
+
+-- both lent slices come back from AdjustResourceInfo
+abbrev returned : tie.After-slice-known6 → tie.After-table3
+returned c = c .before .before .before
 
 load-requires : tie.Need-load-requires
 load-requires c κs = search needs
@@ -73,8 +80,14 @@ register-requires c κs = formed (c .before .before .before)
 pack-requires-2 : tie.Need-pack-requires-2
 pack-requires-2 c κs = search needs
 
+adjust-requires : tie.Need-adjust-requires
+adjust-requires c κs = formed (c .before .before .before)
+
 pack-requires-3 : tie.Need-pack-requires-3
 pack-requires-3 c κs = search needs
+
+pack-requires-4 : tie.Need-pack-requires-4
+pack-requires-4 c κs = search needs
 
 same-length-2 : tie.Need-same-length-2
 same-length-2 c = search needs
@@ -109,14 +122,30 @@ returns-3 c =
 same-length-6 : tie.Need-same-length-6
 same-length-6 c = search needs
 
+same-length-7 : tie.Need-same-length-7
+same-length-7 c = search needs
+
 returns-4 : tie.Need-returns-4
 returns-4 c =
+    let called = returned (c .before) .before in
+    let loaded = chosen3 called .before .before .before in
+    let a = start loaded .args in
+    by-service adjustResourceInfo refl (table loaded) (called .adjust .last .0) (packet loaded) (called .adjust .last .1 .1 .0) (a .service)
+    (a .handle)
+    (c .pack3 .result)
+    (called .adjust .result) (chosen3 called .match2 .keys3) (called .adjust .ensures) (c .pack3 .ensures)
+
+same-length-8 : tie.Need-same-length-8
+same-length-8 c = search needs
+
+returns-5 : tie.Need-returns-5
+returns-5 c =
     let told = c .before .before in
     let loaded = told .before .before in
     let a = start loaded .args in
-    unsupported (table loaded) (packet loaded) (a .service) (a .handle) (c .pack3 .result) (formed told) (c .before .match2 .rest .0 .1)
-    (c .before .match2 .rest .1)
-    (c .pack3 .ensures)
+    let other = c .before .match2 .rest in
+    unsupported (table loaded) (packet loaded) (a .service) (a .handle) (c .pack4 .result) (formed told) (other .0 .0 .1) (other .0 .1) (other .1)
+    (c .pack4 .ensures)
 
 pub cs-call-spec : {M : Type 1} → statement M
 cs-call-spec =
@@ -132,7 +161,9 @@ cs-call-spec =
     pack-requires
     register-requires
     pack-requires-2
+    adjust-requires
     pack-requires-3
+    pack-requires-4
     same-length-2
     same-length-3
     returns-2
@@ -140,4 +171,7 @@ cs-call-spec =
     same-length-5
     returns-3
     same-length-6
-    returns-4)
+    same-length-7
+    returns-4
+    same-length-8
+    returns-5)

@@ -1,11 +1,11 @@
--- `lists::ranges::end_before` meets its contract: the first range has none before it.
+-- `reading::end_before` meets its contract: the first range has none before it.
 -- Assumes nothing.
 use mathlib.Core.Path.{_∙_}
 use borrow.Author.Needs.{needs}
 use denote.Ref.{now}
-use Rattle.lists.proofs.Order.{end-before}
-use Rattle.lists.proofs.ranges.end_before.Statement.{statement}
-use Rattle.lists.proofs.ranges.end_before.Tie as tie
+use Rattle.layout.proofs.Ranges.{end-before}
+use Rattle.reading.proofs.end_before.Statement.{statement}
+use Rattle.reading.proofs.end_before.Tie as tie
 
 returns : tie.Need-returns
 returns c = search needs

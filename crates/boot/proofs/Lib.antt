@@ -1,0 +1,3 @@
+-- The walk along a boot list. Assumes nothing.
+pub mod Walk
+pub mod Bytes

@@ -1,0 +1,35 @@
+-- What the boot list and one record of it come to. Assumes nothing.
+use mathlib.Core.List.{List}
+use Prim.Native.Nat.{ℕ, _+_, _*_, _^_}
+use Rattle.facts.specs.declared.Code.{Code}
+use Rattle.facts.specs.declared.Code.the-variants.{Success}
+use Rattle.facts.specs.declared.Record.{Record}
+use Rattle.facts.specs.Codes.{numberOf}
+use Rattle.facts.specs.Table.{Facts}
+use Rattle.facts.specs.Boot.{Boot, stopped, recordChecks, recordAdded}
+use Rattle.layout.specs.Served.{Served}
+use Rattle.answers.specs.declared.Change.{Change}
+use Rattle.answers.specs.Changing.{Changes}
+use Rattle.boot.specs.declared.Booted.{Booted}
+use Rattle.boot.specs.declared.Booted.the-variants.{All, Stopped}
+
+-- one record
+abbrev pub AddsRecord : Record → List ℕ → List ℕ → Change → Type 0
+AddsRecord r = Changes (λ (F : Facts). recordChecks F r) (λ (F : Facts). recordAdded F r)
+
+-- the place and the code that a list answers
+abbrev pub placeOf : Booted → ℕ
+placeOf (All n) = n
+placeOf (Stopped i k) = i
+
+abbrev pub codeOf : Booted → Code
+codeOf (All n) = Success
+codeOf (Stopped i k) = k
+
+-- code + 2^32 * place
+abbrev pub placed : Code → ℕ → ℕ
+placed code place = numberOf code + 2 ^ 32 * place
+
+-- the list's bytes are served as the rule says
+abbrev pub Boots : List ℕ → List ℕ → List ℕ → Booted → Type 0
+Boots records b b′ r = Served (λ (F G : Facts). Boot F records 0 (stopped (placeOf r) (codeOf r) G)) b b′

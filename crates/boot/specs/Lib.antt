@@ -1,0 +1,2 @@
+-- What the boot list comes to. Assumes nothing.
+pub mod Booting

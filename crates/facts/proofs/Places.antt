@@ -1,0 +1,101 @@
+-- How far a boot list comes: each record that is added is a level or a range more, and a table has no more than so many. Assumes nothing.
+use mathlib.Core.Path.{_≡_, refl, ap, _∙_}
+use mathlib.Core.Logic.{_≢_}
+use mathlib.Core.List.{List}
+use mathlib.Core.Bool.{Bool, cond, true, false}
+use Prim.Native.Nat.{ℕ, zero, suc, _+_, _≤_, _<_}
+use native.Mathlib.Nat.{not-suc-le-zero}
+use native.Mathlib.Decide.{decLt, ℕ-discrete}
+use native.Mathlib.Omega.{arith}
+use lib.Dec.{eqb}
+use lib.ListN.{length}
+use Rattle.facts.specs.declared.Record.{Record}
+use Rattle.facts.specs.Table
+use Rattle.facts.specs.Table.{Facts, Level}
+use Rattle.facts.specs.Sets.{put}
+use Rattle.facts.specs.WellFormed.{WellFormed}
+use Rattle.facts.specs.Checks.{Passed}
+use Rattle.facts.specs.Resources.{addLevelChecks, addRangeChecks, levelAdded, rangeAdded, ioRange, reserveBit}
+use Rattle.facts.specs.Boot.{Boot, Booted, done, broken, refused, added, recordOf, recordAdded, recordChecks}
+use Rattle.facts.proofs.Sets.{put-same, put-other}
+use Rattle.facts.proofs.Told.{told}
+use Rattle.facts.proofs.ResourcesStay.{inserted-more, boot-stays}
+
+-- one for a managed level, and how many of the first n are
+abbrev one : Bool → ℕ
+one true = 1
+one false = 0
+
+one-most : (t : Bool) → one t ≤ 1
+one-most true = omega arith
+one-most false = omega arith
+
+levelsBelow : ℕ → (ℕ → Level) → ℕ
+levelsBelow zero level = 0
+levelsBelow (suc n) level = levelsBelow n level + one (level n .managed)
+
+levels-most : (n : ℕ) (level : ℕ → Level) → levelsBelow n level ≤ n
+unfolding levelsBelow
+levels-most zero level = omega arith
+levels-most (suc n) level = omega (arith, levels-most n level, one-most (level n .managed))
+
+module _ (level : ℕ → Level) (l : ℕ) (v : Level) (now : v .managed ≡ true) (free : level l .managed ≢ true) where
+  unmanaged : one (level l .managed) ≡ 0
+  unmanaged = go (level l .managed) free
+    where
+      go : (t : Bool) → t ≢ true → one t ≡ 0
+      go true d = absurd (d refl)
+      go false d = refl
+
+  levels-same : (n : ℕ) → n ≤ l → levelsBelow n (put level l v) ≡ levelsBelow n level
+  unfolding levelsBelow
+  levels-same zero h = refl
+  levels-same (suc n) h =
+      omega (arith, levels-same n (omega arith), ap (λ (x : Level). one (x .managed)) (put-other level l v n (λ e. omega (arith, e))))
+
+  levels-more : (n : ℕ) → l < n → levelsBelow n (put level l v) ≡ levelsBelow n level + 1
+  unfolding levelsBelow
+  levels-more zero h = absurd (not-suc-le-zero h)
+  levels-more (suc n) h = go (ℕ-discrete n l) (levels-more n)
+    where
+      go : Dec (n ≡ l) → (l < n → levelsBelow n (put level l v) ≡ levelsBelow n level + 1)
+          → levelsBelow n (put level l v) + one (put level l v n .managed) ≡ levelsBelow n level + one (level n .managed) + 1
+      go (yes e) ih =
+          omega (
+            arith,
+            levels-same n (omega arith),
+            ap (λ (k : ℕ). one (put level l v k .managed)) e ∙ ap (λ (x : Level). one (x .managed)) (put-same level l v) ∙ ap one now,
+            ap (λ (k : ℕ). one (level k .managed)) e ∙ unmanaged,
+          )
+      go (no d) ih =
+          omega (arith, ih (omega (arith, d)), ap (λ (x : Level). one (x .managed)) (put-other level l v n d))
+
+-- the levels and ranges that are managed
+abbrev managedIn : Facts → ℕ
+managedIn F = levelsBelow Table.allLevels (F .level) + length (F .ranges)
+
+-- a record that is added is one more
+one-more : (F : Facts) (r : Record) → Passed (recordChecks F r) → managedIn (recordAdded F r) ≡ managedIn F + 1
+one-more F r passed = go (eqb (r .resource) ioRange) (passed .1 .1)
+  where
+    go : (io : Bool)
+        → Passed (cond io (addRangeChecks F (r .base) (r .count) (r .attributes) Table.mostLines) (addLevelChecks F (r .base) (r .attributes)))
+        → managedIn (cond io (rangeAdded F (r .base) (r .count) (r .attributes)) (levelAdded F (r .base) (r .attributes))) ≡ managedIn F + 1
+    go true p =
+        omega (arith, inserted-more (record { base = r .base; count = r .count; reserved = eqb (r .attributes) reserveBit }) (F .ranges))
+    go false p =
+        omega (
+          arith,
+          levels-more (F .level) (r .base) (record { managed = true; reserved = eqb (r .attributes) reserveBit }) refl (p .1 .1 .0) Table.allLevels
+              (told (decLt (r .base) Table.allLevels) (λ d. p .1 .0 (omega arith))),
+        )
+
+boot-managed : (F : Facts) (b : List ℕ) (i : ℕ) (o : Booted) → Boot F b i o → o .place + managedIn F ≡ i + managedIn (o .facts)
+boot-managed F b i o done = refl
+boot-managed F b i o (broken one few) = refl
+boot-managed F b i o (refused full r) = refl
+boot-managed F b i o (added full passed r) = omega (arith, boot-managed _ _ _ o r, one-more F (recordOf b) passed)
+
+pub boot-most : (F : Facts) (b : List ℕ) (o : Booted) → WellFormed F → Boot F b 0 o → o .place ≤ Table.allLevels + Table.mostRanges
+boot-most F b o w r =
+    omega (arith, boot-managed F b 0 o r, levels-most Table.allLevels (o .facts .level), boot-stays F b 0 o w r .ranges-most)

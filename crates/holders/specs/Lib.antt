@@ -1,0 +1,2 @@
+-- Who holds a resource. Assumes nothing.
+pub mod Holders

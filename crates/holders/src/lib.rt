@@ -1,0 +1,228 @@
+// Who holds a managed level, or a port of a managed range, on a table that is the image of a well-formed set.
+use facts::Handle;
+use facts::Manner;
+use facts::Socket;
+use layout::IO_BASE;
+use layout::IO_COUNT;
+use layout::IO_SHARED;
+use layout::IO_SIZE;
+use layout::IOS_AT;
+use layout::IRQ_LEVEL;
+use layout::IRQ_MANNER;
+use layout::IRQ_SIZE;
+use layout::IRQS_AT;
+use layout::MARKED;
+use layout::MOST_SOCKETS;
+ghost use mathlib.Core.Path.{_≡_};
+ghost use Prim.Native.Nat.{_+_, _<_, _≤_};
+ghost use lib.ListN.{length};
+ghost use Rattle.facts.specs.Table;
+ghost use Rattle.facts.specs.Says.{Says};
+ghost use Rattle.facts.specs.Ports.{Overlap};
+ghost use Rattle.facts.specs.Levels.{typeOf};
+ghost use Rattle.layout.specs.Layout.{tableSize};
+ghost use Rattle.layout.specs.Sound.{Accepted};
+ghost use Rattle.holders.specs.Holders.{HoldsIn, holderIn, typeIn, AloneIn, SomeAloneIn, LowestBelow, LowestIs};
+ghost use Rattle.holders.specs.Holders.{LevelHoldersAre, RangeHoldersAre};
+
+// What a grant may hold: a level, or some of the ports from a base on.
+pub enum Resource {
+    Level(usize),
+    Ports(usize, usize),
+}
+
+// The socket of a holder with the lowest handle.
+pub enum Holder {
+    At(Socket),
+    Nobody,
+}
+
+// The lowest handle of the holders, and the attributes that First and Next show of them.
+pub enum Holders {
+    Lowest(Handle, u8),
+    Nobody,
+}
+
+// "Bit 7 is set exactly if a live grant holds the level or a port of the range"; "For I/O, bit 0 is set if there are holders and all of them share."
+const HELD: u8 = 0x80;
+
+const HELD_SHARED: u8 = HELD + 0x01;
+
+// The types of a request's bits 0 to 1 (5.53).
+const EXCLUSIVE_TYPE: u8 = 0;
+
+const TIME_MULTIPLEXED_TYPE: u8 = 1;
+
+const DYNAMIC_TYPE: u8 = 2;
+
+// Whether the `count` ports from `base` on and the `count2` from `base2` on have one in common.
+fn overlaps(base: usize, count: usize, base2: usize, count2: usize) -> bool
+    ensures { λ r. ⌜ Says r (Overlap base count base2 count2) ⌝ }
+{
+    if count == 0 {
+        return false;
+    }
+    if count2 == 0 {
+        return false;
+    }
+    if base < base2 {
+        return base2 - base < count;
+    }
+    base - base2 < count2
+}
+
+// Whether the grant of the socket holds the level.
+fn level_on(t: &[u8], l: usize, s: Socket) -> bool
+    requires { ⌜ (length (now t) ≡ tableSize) × (s .0 < Table.mostSockets) ⌝ }
+    ensures { λ r. ⌜ Says r (HoldsIn (now (t .entry)) (Resource.Level l) (s .0)) ⌝ }
+{
+    let number = s.0;
+    let at = IRQS_AT + number * IRQ_SIZE;
+    if reading::word(t, at) == 0 {
+        return false;
+    }
+    reading::byte(t, at + IRQ_LEVEL) == l
+}
+
+// Whether the grant of the socket holds one of the ports.
+fn ports_on(t: &[u8], base: usize, count: usize, s: Socket) -> bool
+    requires { ⌜ (length (now t) ≡ tableSize) × (s .0 < Table.mostSockets) ⌝ }
+    ensures { λ r. ⌜ Says r (HoldsIn (now (t .entry)) (Resource.Ports base count) (s .0)) ⌝ }
+{
+    let number = s.0;
+    let at = IOS_AT + number * IO_SIZE;
+    if reading::word(t, at) == 0 {
+        return false;
+    }
+    let held = reading::word(t, at + IO_BASE);
+    let ports = reading::byte(t, at + IO_COUNT);
+    overlaps(held, ports, base, count)
+}
+
+// Whether the grant of the socket holds what is asked for.
+fn holds(t: &[u8], what: Resource, s: Socket) -> bool
+    requires { ⌜ (length (now t) ≡ tableSize) × (s .0 < Table.mostSockets) ⌝ }
+    ensures { λ r. ⌜ Says r (HoldsIn (now (t .entry)) what (s .0)) ⌝ }
+{
+    match what {
+        Resource::Level(l) => level_on(t, l, s),
+        Resource::Ports(base, count) => ports_on(t, base, count, s),
+    }
+}
+
+// The handle of the client whose grant it is.
+fn handle_on(t: &[u8], what: Resource, s: Socket) -> Handle
+    requires { ⌜ (length (now t) ≡ tableSize) × (s .0 < Table.mostSockets) ⌝ }
+    ensures { λ r. ⌜ r .0 ≡ holderIn (now (t .entry)) what (s .0) ⌝ }
+{
+    let number = s.0;
+    match what {
+        Resource::Level(_) => reading::handle(t, IRQS_AT + number * IRQ_SIZE),
+        Resource::Ports(_, _) => reading::handle(t, IOS_AT + number * IO_SIZE),
+    }
+}
+
+// This socket, where it holds it and no holder below it has as low a handle; else the best of those below it.
+fn better(t: &[u8], what: Resource, best: Holder, s: Socket) -> Holder
+    requires { ⌜ (length (now t) ≡ tableSize) × (s .0 < Table.mostSockets) × LowestBelow (now t) what (s .0) best ⌝ }
+    ensures { λ r. ⌜ LowestBelow (now (t .entry)) what (s .0 + 1) r ⌝ }
+{
+    if !holds(t, what, s) {
+        return best;
+    }
+    let Holder::At(other) = best else {
+        return Holder::At(s);
+    };
+    let lowest = handle_on(t, what, other);
+    let handle = handle_on(t, what, s);
+    if handle.0 < lowest.0 {
+        return Holder::At(s);
+    }
+    Holder::At(other)
+}
+
+fn lowest(t: &[u8], what: Resource) -> Holder
+    requires { ⌜ length (now t) ≡ tableSize ⌝ }
+    ensures { λ r. ⌜ LowestIs (now (t .entry)) what r ⌝ }
+{
+    let mut best = Holder::Nobody;
+    for s in 0..MOST_SOCKETS {
+        best = better(t, what, best, Socket(s));
+    }
+    best
+}
+
+// Whether the grant of the socket holds one of the ports and doesn't share.
+fn alone_on(t: &[u8], base: usize, count: usize, s: Socket) -> bool
+    requires { ⌜ (length (now t) ≡ tableSize) × (s .0 < Table.mostSockets) ⌝ }
+    ensures { λ r. ⌜ Says r (AloneIn (now (t .entry)) base count (s .0)) ⌝ }
+{
+    let number = s.0;
+    if !ports_on(t, base, count, s) {
+        return false;
+    }
+    reading::byte(t, IOS_AT + number * IO_SIZE + IO_SHARED) != MARKED
+}
+
+fn unshared(t: &[u8], base: usize, count: usize) -> bool
+    requires { ⌜ length (now t) ≡ tableSize ⌝ }
+    ensures { λ r. ⌜ Says r (SomeAloneIn (now (t .entry)) base count) ⌝ }
+{
+    for s in 0..MOST_SOCKETS {
+        if alone_on(t, base, count, Socket(s)) {
+            return true;
+        }
+    }
+    false
+}
+
+// A manner's type.
+fn type_of(m: Manner) -> u8
+    ensures { λ r. ⌜ (r ≡ typeOf m) × (r ≤ 2) ⌝ }
+{
+    match m {
+        Manner::Exclusive => EXCLUSIVE_TYPE,
+        Manner::TimeMultiplexed => TIME_MULTIPLEXED_TYPE,
+        Manner::DynamicLevel => DYNAMIC_TYPE,
+        Manner::DynamicPulse => DYNAMIC_TYPE,
+    }
+}
+
+// The type of the socket's grant.
+fn type_on(t: &[u8], s: Socket) -> u8
+    requires { ⌜ (length (now t) ≡ tableSize) × (s .0 < Table.mostSockets) ⌝ }
+    ensures { λ r. ⌜ (r ≡ typeIn (now (t .entry)) (s .0)) × (r ≤ 2) ⌝ }
+{
+    let number = s.0;
+    let manner = reading::byte(t, IRQS_AT + number * IRQ_SIZE + IRQ_MANNER);
+    type_of(reading::manner_of(manner))
+}
+
+// "the handle answered is then the lowest of the holders' handles"; "For IRQ, bits 0 to 1 are the holders' type"
+pub fn of_level(t: &[u8], l: usize) -> Holders
+    requires { ⌜ Accepted (now t) ⌝ }
+    ensures { λ r. ⌜ LevelHoldersAre (now (t .entry)) l r ⌝ }
+{
+    let what = Resource::Level(l);
+    let Holder::At(s) = lowest(t, what) else {
+        return Holders::Nobody;
+    };
+    let h = handle_on(t, what, s);
+    let attributes = HELD + type_on(t, s);
+    Holders::Lowest(h, attributes)
+}
+
+pub fn of_range(t: &[u8], base: usize, count: usize) -> Holders
+    requires { ⌜ Accepted (now t) ⌝ }
+    ensures { λ r. ⌜ RangeHoldersAre (now (t .entry)) base count r ⌝ }
+{
+    let what = Resource::Ports(base, count);
+    let Holder::At(s) = lowest(t, what) else {
+        return Holders::Nobody;
+    };
+    let h = handle_on(t, what, s);
+    if unshared(t, base, count) {
+        return Holders::Lowest(h, HELD);
+    }
+    Holders::Lowest(h, HELD_SHARED)
+}

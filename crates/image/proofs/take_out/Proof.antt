@@ -1,0 +1,71 @@
+-- `image::take_out` meets its contract: the records move down, the last is cleared, and the number is written.
+-- Assumes nothing.
+use mathlib.Core.Path.{refl}
+use Prim.Native.Nat.{_-_}
+use borrow.Author.Needs.{needs}
+use denote.Ref.{now}
+use Rattle.image.proofs.Writing.{takes, takes-length}
+use Rattle.image.proofs.take_out.Statement.{statement}
+use Rattle.image.proofs.take_out.Tie as tie
+
+-- each step, and where the bytes were lent for it
+module _ (c : tie.After-slice-known4) where
+  abbrev cleared : tie.After-clear
+  cleared = c .before .before
+
+  abbrev lent : tie.After-t
+  lent = cleared .before .before .before
+
+  abbrev moved : tie.After-move-down
+  moved = lent .before
+
+  abbrev read : tie.After-slice-known
+  read = moved .before .before .before
+
+  abbrev start : tie.Start
+  start = read .before
+
+slice-read-n : tie.Need-slice-read-n
+slice-read-n c = search needs
+
+sub-last : tie.Need-sub-last
+sub-last c = search needs
+
+move-down-requires : tie.Need-move-down-requires
+move-down-requires c κs = search needs
+
+clear-requires : tie.Need-clear-requires
+clear-requires c κs = search needs
+
+sub-t : tie.Need-sub-t
+sub-t c = search needs
+
+slice-write-t : tie.Need-slice-write-t
+slice-write-t c = search needs
+
+same-length : tie.Need-same-length
+same-length c =
+    let s = start c in
+    let a = s .args in
+    takes-length (now (a .t)) (moved c .move-down .last .0) (cleared c .clear .last .0) (a .count) (a .at) (a .bytes) (a .end) (a .end - a .bytes)
+    (s .pre .0) (s .pre .1) refl (s .pre .2) (s .pre .4) (moved c .move-down .ensures) (cleared c .clear .ensures)
+
+returns : tie.Need-returns
+returns c =
+    let s = start c in
+    let a = s .args in
+    takes (now (a .t)) (moved c .move-down .last .0) (cleared c .clear .last .0) (a .count) (a .at) (a .bytes) (a .end) (a .end - a .bytes)
+    (s .pre .0) (s .pre .1) refl (s .pre .2) (s .pre .4) (moved c .move-down .ensures) (cleared c .clear .ensures)
+
+pub take-out-spec : {M : Type 1} → statement M
+take-out-spec =
+    tie.close
+    (tie.spec
+    slice-read-n
+    sub-last
+    move-down-requires
+    clear-requires
+    sub-t
+    slice-write-t
+    same-length
+    returns)

@@ -1,0 +1,191 @@
+-- `managed_levels::remove` meets its contract: each check's answer says which end of the rule it is.
+-- Assumes nothing.
+use mathlib.Core.Path.{_≡_, subst}
+use mathlib.Core.List.{List}
+use Prim.Native.Nat.{ℕ, _+_, _<_}
+use native.Mathlib.Omega.{arith}
+use borrow.Author.Needs.{needs}
+use lib.ListN.{set}
+use denote.Ref.{now}
+use Rattle.facts.specs.Table
+use Rattle.facts.specs.Packets.{byte}
+use Rattle.facts.specs.Resources.{LevelHeld}
+use Rattle.layout.specs.Reading.{levelPlace}
+use Rattle.layout.proofs.Of.{size-in}
+use Rattle.answers.specs.declared.LevelNumber.the-variants.{Below}
+use Rattle.answers.specs.Answers.{LevelIs}
+use Rattle.holders.specs.Holders.{LevelHoldersAre}
+use Rattle.answers.specs.Answers.{BitsAre}
+use Rattle.managed_levels.specs.Asked.{ManagingIs}
+use Rattle.managed_levels.proofs.Ends.{remove-bits, remove-over, remove-unmanaged, remove-held, remove-made}
+use Rattle.managed_levels.proofs.remove.Statement.{statement}
+use Rattle.managed_levels.proofs.remove.Tie as tie
+
+-- where the call began, and its table
+abbrev start : tie.After-no-bit → tie.Start
+start c = c .before .before
+
+abbrev table : tie.After-no-bit → List ℕ
+table c = now (start c .args .t)
+
+-- there is no bit
+none : (c : tie.After-enum-told) → start (c .before .before) .args .attributes ≡ 0
+none c = subst (BitsAre (start (c .before .before) .args .attributes)) (c .enum-told .given .1) (c .before .before .no-bit .ensures)
+
+-- the level is one of a table's
+abbrev numbered : tie.After-known-told → tie.After-below-levels
+numbered c = c .before .before .before
+
+abbrev clear : tie.After-known-told → tie.After-enum-told
+clear c = numbered c .before
+
+abbrev began : tie.After-known-told → tie.After-no-bit
+began c = clear c .before .before
+
+abbrev level : tie.After-known-told → ℕ
+level c = c .before .l .given .0 .0
+
+is-level : (c : tie.After-known-told) → LevelIs (start (began c) .args .level) (Below (level c))
+is-level c = subst (LevelIs (start (began c) .args .level)) (c .before .l .given .1) (numbered c .below-levels .ensures)
+
+low : (c : tie.After-known-told) → level c < Table.allLevels
+low c = omega (arith, is-level c .0, is-level c .1)
+
+-- it is managed
+abbrev looked : tie.After-whether-managed → tie.After-known-told
+looked c = c .before .before
+
+managed : (c : tie.After-enum-told4) → let k = looked (c .before .before) in byte (table (began k)) (levelPlace (start (began k) .args .level)) ≡ 1
+managed c =
+    let k = looked (c .before .before) in
+    subst (λ (l : ℕ). byte (table (began k)) (levelPlace l) ≡ 1) (is-level k .0)
+    (subst (ManagingIs (table (began k)) (level k)) (c .enum-told4 .given .1) (c .before .before .whether-managed .ensures))
+
+-- nobody holds it, or somebody does
+abbrev sought : tie.After-of-level → tie.After-enum-told4
+sought c = c .before .before
+
+abbrev place : tie.After-of-level → tie.After-known-told
+place c = looked (sought c .before .before)
+
+nobody : (c : tie.After-enum-told6) → let k = place (c .before .before) in LevelHeld (start (began k) .pre .facts) (start (began k) .args .level) → ⊥
+nobody c =
+    let k = place (c .before .before) in
+    subst (λ (l : ℕ). LevelHeld (start (began k) .pre .facts) l → ⊥) (is-level k .0)
+    (subst (LevelHoldersAre (table (began k)) (level k)) (c .enum-told6 .given .1) (c .before .before .of-level .ensures) (start (began k) .pre))
+
+no-bit-requires : tie.Need-no-bit-requires
+no-bit-requires c κs = search needs
+
+enum-told : tie.Need-enum-told
+enum-told c = search needs
+
+enum-told-2 : tie.Need-enum-told-2
+enum-told-2 c = search needs
+
+returns : tie.Need-returns
+returns c =
+    let asked = c .before .before in
+    let s = start asked in
+    remove-bits (table asked) (s .pre) (s .args .level) (s .args .attributes)
+    (subst (BitsAre (s .args .attributes)) (c .enum-told2 .given .1) (asked .no-bit .ensures))
+
+below-levels-requires : tie.Need-below-levels-requires
+below-levels-requires c κs = search needs
+
+enum-known-l : tie.Need-enum-known-l
+enum-known-l c = search needs
+
+enum-told-3 : tie.Need-enum-told-3
+enum-told-3 c = search needs
+
+returns-2 : tie.Need-returns-2
+returns-2 c =
+    let told = c .before .before .before in
+    let s = start (told .before .before) in
+    remove-over (table (told .before .before)) (s .pre) (s .args .level) (s .args .attributes) (none told)
+    (subst (LevelIs (s .args .level)) (c .enum-told3 .given .1) (c .before .before .below-levels .ensures))
+
+whether-managed-requires : tie.Need-whether-managed-requires
+whether-managed-requires c κs = let k = c .before in (size-in (table (began k)) (start (began k) .pre), low k)
+
+enum-told-4 : tie.Need-enum-told-4
+enum-told-4 c = search needs
+
+enum-told-5 : tie.Need-enum-told-5
+enum-told-5 c = search needs
+
+same-length : tie.Need-same-length
+same-length c = search needs
+
+returns-3 : tie.Need-returns-3
+returns-3 c =
+    let k = looked (c .before .before) in
+    let s = start (began k) in
+    let b = table (began k) in
+    remove-unmanaged b (s .pre) (s .args .level) (s .args .attributes) (none (clear k)) (is-level k .1)
+    (subst (λ (l : ℕ). byte b (levelPlace l) ≡ 1 → ⊥) (is-level k .0)
+    (subst (ManagingIs b (level k)) (c .enum-told5 .given .1) (c .before .before .whether-managed .ensures)))
+
+of-level-requires : tie.Need-of-level-requires
+of-level-requires c κs = search needs
+
+enum-told-6 : tie.Need-enum-told-6
+enum-told-6 c = search needs
+
+enum-told-7 : tie.Need-enum-told-7
+enum-told-7 c = search needs
+
+same-length-2 : tie.Need-same-length-2
+same-length-2 c = search needs
+
+returns-4 : tie.Need-returns-4
+returns-4 c =
+    let k = place (c .before .before) in
+    let s = start (began k) in
+    let held = subst (LevelHoldersAre (table (began k)) (level k)) (c .enum-told7 .given .1) (c .before .before .of-level .ensures) (s .pre) .0 in
+    remove-held (table (began k)) (s .pre) (s .args .level) (s .args .attributes) (none (clear k)) (is-level k .1)
+    (managed (sought (c .before .before))) (subst (LevelHeld (s .pre .facts)) (is-level k .0) held)
+
+mark-requires : tie.Need-mark-requires
+mark-requires c κs = let k = place (c .before .before .before) in (size-in (table (began k)) (start (began k) .pre), low k)
+
+same-length-3 : tie.Need-same-length-3
+same-length-3 c = search needs
+
+returns-5 : tie.Need-returns-5
+returns-5 c =
+    let marked = c .before .before in
+    let free = marked .before .before in
+    let k = place (free .before .before) in
+    let s = start (began k) in
+    let b = table (began k) in
+    remove-made b (s .pre) (s .args .level) (s .args .attributes) (marked .mark .last .0) (none (clear k)) (is-level k .1)
+    (managed (sought (free .before .before))) (nobody free)
+    (subst (λ (l : ℕ). marked .mark .last .0 ≡ set (set b (levelPlace l) 0) (levelPlace l + 1) 0) (is-level k .0) (marked .mark .ensures))
+
+pub remove-spec : {M : Type 1} → statement M
+remove-spec =
+    tie.close
+    (tie.spec
+    no-bit-requires
+    enum-told
+    enum-told-2
+    returns
+    below-levels-requires
+    enum-known-l
+    enum-told-3
+    returns-2
+    whether-managed-requires
+    enum-told-4
+    enum-told-5
+    same-length
+    returns-3
+    of-level-requires
+    enum-told-6
+    enum-told-7
+    same-length-2
+    returns-4
+    mark-requires
+    same-length-3
+    returns-5)

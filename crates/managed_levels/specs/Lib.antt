@@ -1,0 +1,2 @@
+-- What is asked of managed levels. Assumes nothing.
+pub mod Asked

@@ -1,0 +1,87 @@
+-- `managed_ranges::next` meets its contract: the range at the number's place, if there is one.
+-- Assumes nothing.
+use mathlib.Core.Path.{subst₂, sym}
+use mathlib.Core.List.{List}
+use Prim.Native.Nat.{ℕ, _+_, _≤_}
+use native.Mathlib.Omega.{arith}
+use borrow.Author.Needs.{needs}
+use lib.ListN.{length}
+use denote.Ref.{now}
+use Rattle.layout.specs.Layout
+use Rattle.layout.specs.Reading.{rangePlace}
+use Rattle.layout.proofs.Of.{size-in, sound-in}
+use Rattle.managed_ranges.specs.declared.NextRange.the-variants.{At}
+use Rattle.managed_ranges.specs.Asked.{NextRangeIs}
+use Rattle.managed_ranges.proofs.Places.{next-none, next-found}
+use Rattle.managed_ranges.proofs.next.Statement.{statement}
+use Rattle.managed_ranges.proofs.next.Tie as tie
+
+-- where the call began, and its table
+abbrev start : tie.After-place → tie.Start
+start c = c .before .before
+
+abbrev table : tie.After-place → List ℕ
+table c = now (start c .args .t)
+
+abbrev counted : tie.Else1 → tie.After-place
+counted c = c .before .before
+
+-- the range at the place stands in the table
+in-table : (c : tie.Else1) → rangePlace (counted c .place .result) + Layout.rangeSize ≤ length (table (counted c))
+in-table c =
+    let b = table (counted c) in
+    let a = start (counted c) .pre in
+    omega (arith, c .if1 .left, c .before .byte .ensures .0, size-in b a, sound-in b a .ranges-most)
+
+place-requires : tie.Need-place-requires
+place-requires c κs =
+    let s = c .before in
+    let b = now (s .args .t) in
+    (size-in b (s .pre), sound-in b (s .pre) .ranges-most, sound-in b (s .pre) .ranges)
+
+byte-requires : tie.Need-byte-requires
+byte-requires c κs = omega (arith, size-in (table c) (start c .pre))
+
+returns : tie.Need-returns
+returns c =
+    let placed = c .before .before in
+    next-none (table placed) (start placed .args .from) (placed .place .result) (placed .place .ensures)
+    (omega (arith, c .if1 .taken, c .before .byte .ensures .0))
+
+mul-at : tie.Need-mul-at
+mul-at c = search needs
+
+add-at : tie.Need-add-at
+add-at c = search needs
+
+word-requires : tie.Need-word-requires
+word-requires c κs = omega (arith, in-table c)
+
+add-long : tie.Need-add-long
+add-long c = search needs
+
+long-requires : tie.Need-long-requires
+long-requires c κs = omega (arith, in-table (c .before))
+
+returns-2 : tie.Need-returns-2
+returns-2 c =
+    let tested = c .before .before in
+    let placed = counted tested in
+    let b = table placed in
+    subst₂ (λ (x y : ℕ). NextRangeIs b (start placed .args .from) (At x y)) (sym (c .before .word .ensures .0)) (sym (c .long .ensures .0))
+    (next-found b (start placed .args .from) (placed .place .result) (placed .place .ensures)
+    (omega (arith, tested .if1 .left, tested .before .byte .ensures .0)))
+
+pub next-spec : {M : Type 1} → statement M
+next-spec =
+    tie.close
+    (tie.spec
+    place-requires
+    byte-requires
+    returns
+    mul-at
+    add-at
+    word-requires
+    add-long
+    long-requires
+    returns-2)

@@ -1,0 +1,103 @@
+-- What is asked of managed ranges: the answers of the checks, said of numbers and of the bytes, and what comes next. Assumes nothing.
+use mathlib.Core.Path.{_≡_}
+use mathlib.Core.Logic.{_⊎_, _≢_}
+use mathlib.Core.List.{List, [], _∷_, _++_}
+use Prim.Native.Nat.{ℕ, _+_, _≤_, _<_}
+use Rattle.facts.specs.Table
+use Rattle.facts.specs.Table.{Facts, Range}
+use Rattle.facts.specs.Sets.{_∈_}
+use Rattle.facts.specs.Choice.{Lowest}
+use Rattle.facts.specs.Ports.{Within}
+use Rattle.facts.specs.Resources.{addRangeChecks, removeRangeChecks}
+use Rattle.facts.specs.Resources.{rangeAdded, rangeRemoved}
+use Rattle.layout.specs.Layout
+use Rattle.layout.specs.Layout.{two, four}
+use Rattle.layout.specs.Reading.{rangesIn, rangePlace}
+use Rattle.layout.specs.Sound.{Accepted, ManagedIn, rangeBase, rangeCount}
+use Rattle.layout.specs.Changed.{PutIn}
+use Rattle.answers.specs.declared.Change.{Change}
+use Rattle.answers.specs.Changing.{Changes}
+use Rattle.managed_ranges.specs.declared.Lines.{Lines}
+use Rattle.managed_ranges.specs.declared.Lines.the-variants as lines
+use Rattle.managed_ranges.specs.declared.Count.{Count}
+use Rattle.managed_ranges.specs.declared.Count.the-variants as count
+use Rattle.managed_ranges.specs.declared.Reach.{Reach}
+use Rattle.managed_ranges.specs.declared.Reach.the-variants as reach
+use Rattle.managed_ranges.specs.declared.Ports.{Ports}
+use Rattle.managed_ranges.specs.declared.Ports.the-variants as ports
+use Rattle.managed_ranges.specs.declared.Room.{Room}
+use Rattle.managed_ranges.specs.declared.Room.the-variants as room
+use Rattle.managed_ranges.specs.declared.Found.{Found}
+use Rattle.managed_ranges.specs.declared.Found.the-variants as found
+use Rattle.managed_ranges.specs.declared.NextRange.{NextRange}
+use Rattle.managed_ranges.specs.declared.NextRange.the-variants as range
+
+abbrev pub AddsRange : ℕ → ℕ → ℕ → ℕ → List ℕ → List ℕ → Change → Type 0
+AddsRange base count attributes lines =
+    Changes (λ (F : Facts). addRangeChecks F base count attributes lines) (λ (F : Facts). rangeAdded F base count attributes)
+
+abbrev pub RemovesRange : ℕ → ℕ → ℕ → ℕ → List ℕ → List ℕ → Change → Type 0
+RemovesRange base count attributes lines =
+    Changes (λ (F : Facts). removeRangeChecks F base count attributes lines) (λ (F : Facts). rangeRemoved F base)
+
+-- lines, a count, and how far ports reach
+abbrev pub LinesAre : ℕ → Lines → Type 0
+LinesAre n lines.All = n ≡ Table.mostLines
+LinesAre n lines.Other = n ≢ Table.mostLines
+
+abbrev pub CountIs : ℕ → Count → Type 0
+CountIs n count.Right = (1 ≤ n) × (n ≤ Table.allPorts)
+CountIs n count.Wrong = (n ≡ 0) ⊎ (Table.allPorts < n)
+
+abbrev pub ReachIs : ℕ → ℕ → Reach → Type 0
+ReachIs base n reach.Within = base + n ≤ Table.allPorts
+ReachIs base n reach.Past = Table.allPorts < base + n
+
+-- i ranges have a base below the number
+pub record PlaceOf (b : List ℕ) (from i : ℕ) : Type 0 where
+  pub within : i ≤ rangesIn b
+  pub ahead : (j : ℕ) → j < i → rangeBase b j < from
+  pub behind : (j : ℕ) → i ≤ j → j < rangesIn b → from ≤ rangeBase b j
+
+-- where the range in the place i starts, or one past FFFF
+abbrev pub StartIs : List ℕ → ℕ → ℕ → Type 0
+StartIs b i r = ((i < rangesIn b) × (r ≡ rangeBase b i)) ⊎ ((rangesIn b ≤ i) × (r ≡ Table.allPorts))
+
+-- none of the ports is managed, and i is where they belong; or one is
+pub record FreeAt (b : List ℕ) (base count i : ℕ) : Type 0 where
+  pub place : PlaceOf b base i
+  pub free : (p : ℕ) → Within p base count → ManagedIn b p → ⊥
+
+abbrev pub FreeIs : List ℕ → ℕ → ℕ → Ports → Type 0
+FreeIs b base n (ports.Free i) = FreeAt b base n i
+FreeIs b base n ports.Taken = (p : ℕ) × Within p base n × ManagedIn b p
+
+abbrev pub RoomIs : List ℕ → Room → Type 0
+RoomIs b room.Left = rangesIn b < Table.mostRanges
+RoomIs b room.Full = Table.mostRanges ≤ rangesIn b
+
+-- the range of so many ports is put in at the place i
+abbrev pub Entered : List ℕ → List ℕ → ℕ → ℕ → ℕ → ℕ → Type 0
+Entered b b′ i base n reserved = PutIn b b′ 2 (rangePlace i) Layout.restAt (two base ++ four n ++ reserved ∷ [])
+
+-- the range in the place i has just that base and count; or none has
+pub record FoundAt (b : List ℕ) (base count i : ℕ) : Type 0 where
+  pub listed : i < rangesIn b
+  pub base-is : rangeBase b i ≡ base
+  pub count-is : rangeCount b i ≡ count
+
+abbrev pub FoundIs : List ℕ → ℕ → ℕ → Found → Type 0
+FoundIs b base n (found.At i) = FoundAt b base n i
+FoundIs b base n found.Nowhere = (i : ℕ) → FoundAt b base n i → ⊥
+
+-- the range with the lowest base that isn't below the number, or there is none
+pub record NextIs (F : Facts) (from base count : ℕ) : Type 0 where
+  pub range : Range
+  pub listed : range ∈ F .ranges
+  pub base-is : range .base ≡ base
+  pub count-is : range .count ≡ count
+  pub lowest : Lowest (λ b. (r : Range) × (r ∈ F .ranges) × (r .base ≡ b) × (from ≤ b)) (range .base)
+
+abbrev pub NextRangeIs : List ℕ → ℕ → NextRange → Type 0
+NextRangeIs b from (range.At base n) = (a : Accepted b) → NextIs (a .facts) from base n
+NextRangeIs b from range.End = (a : Accepted b) (r : Range) → r ∈ a .facts .ranges → from ≤ r .base → ⊥

@@ -1,0 +1,2 @@
+-- What is asked of managed ranges. Assumes nothing.
+pub mod Asked

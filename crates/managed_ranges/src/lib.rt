@@ -1,0 +1,257 @@
+// Managed ranges of I/O ports, on a table that is the image of a well-formed set.
+use answers::Bits;
+use answers::Change;
+use answers::Reserve;
+use facts::Asked;
+use facts::Code;
+use holders::Holders;
+use layout::ALL_PORTS;
+use layout::MOST_LINES;
+use layout::MOST_RANGES;
+use layout::RANGE_COUNT;
+use layout::RANGE_RESERVED;
+use layout::RANGE_SIZE;
+use layout::RANGES_AT;
+use layout::RANGES_IN;
+use layout::REST_AT;
+ghost use mathlib.Core.Path.{_≡_};
+ghost use Prim.Native.Nat.{_+_, _<_, _≤_};
+ghost use lib.ListN.{length};
+ghost use Rattle.facts.specs.Table;
+ghost use Rattle.layout.specs.Layout.{tableSize};
+ghost use Rattle.layout.specs.Reading.{rangesIn};
+ghost use Rattle.layout.specs.Sound.{Accepted, RangesSound};
+ghost use Rattle.managed_ranges.specs.Asked.{LinesAre, CountIs, ReachIs, PlaceOf, StartIs, FreeIs, FoundIs, RoomIs, Entered, NextRangeIs};
+ghost use Rattle.managed_ranges.specs.Asked.{AddsRange};
+ghost use Rattle.managed_ranges.specs.Asked.{RemovesRange};
+
+// "both need lines of 16 for I/O".
+pub enum Lines {
+    All,
+    Other,
+}
+
+fn lined(lines: u8) -> Lines
+    ensures { λ r. ⌜ LinesAre lines r ⌝ }
+{
+    if lines as usize == MOST_LINES {
+        Lines::All
+    } else {
+        Lines::Other
+    }
+}
+
+// "ports 0 or over 65,536 BAD_SIZE".
+pub enum Count {
+    Right,
+    Wrong,
+}
+
+fn counted(count: u32) -> Count
+    ensures { λ r. ⌜ CountIs count r ⌝ }
+{
+    if count == 0 {
+        return Count::Wrong;
+    }
+    if ALL_PORTS < count as usize {
+        return Count::Wrong;
+    }
+    Count::Right
+}
+
+// "a port past FFFF BAD_BASE".
+pub enum Reach {
+    Within,
+    Past,
+}
+
+fn reaches(base: u32, count: u32) -> Reach
+    ensures { λ r. ⌜ ReachIs base count r ⌝ }
+{
+    if ALL_PORTS < base as usize + count as usize {
+        Reach::Past
+    } else {
+        Reach::Within
+    }
+}
+
+// How many ranges have a base below a number: where such a base belongs. The last ones are looked at first.
+fn place(t: &[u8], from: usize) -> usize
+    requires { ⌜ (length (now t) ≡ tableSize) × (rangesIn (now t) ≤ Table.mostRanges) × RangesSound (now t) ⌝ }
+    ensures { λ r. ⌜ PlaceOf (now (t .entry)) from r ⌝ }
+{
+    let mut i = reading::byte(t, RANGES_IN);
+    while 0 < i {
+        if reading::word(t, RANGES_AT + (i - 1) * RANGE_SIZE) < from {
+            return i;
+        }
+        i -= 1;
+    }
+    0
+}
+
+// Where the range in the place i starts; past the last one, past FFFF.
+fn start(t: &[u8], i: usize) -> usize
+    requires { ⌜ (length (now t) ≡ tableSize) × (rangesIn (now t) ≤ Table.mostRanges) ⌝ }
+    ensures { λ r. ⌜ StartIs (now (t .entry)) i r ⌝ }
+{
+    if i < reading::byte(t, RANGES_IN) {
+        return reading::word(t, RANGES_AT + i * RANGE_SIZE);
+    }
+    ALL_PORTS
+}
+
+// Where new ports belong, if none of them is managed: the ranges before and after that place are the nearest.
+pub enum Ports {
+    Free(usize),
+    Taken,
+}
+
+fn free(t: &[u8], base: usize, count: usize) -> Ports
+    requires { ⌜ (length (now t) ≡ tableSize) × (rangesIn (now t) ≤ Table.mostRanges) × RangesSound (now t) ⌝ }
+    requires { ⌜ (1 ≤ count) × (base + count ≤ Table.allPorts) ⌝ }
+    ensures { λ r. ⌜ FreeIs (now (t .entry)) base count r ⌝ }
+{
+    let i = place(t, base);
+    if base < reading::end_before(t, i) {
+        return Ports::Taken;
+    }
+    if start(t, i) < base + count {
+        return Ports::Taken;
+    }
+    Ports::Free(i)
+}
+
+// Whether there is room for one more.
+pub enum Room {
+    Left,
+    Full,
+}
+
+fn has_room(t: &[u8]) -> Room
+    requires { ⌜ length (now t) ≡ tableSize ⌝ }
+    ensures { λ r. ⌜ RoomIs (now (t .entry)) r ⌝ }
+{
+    if reading::byte(t, RANGES_IN) < MOST_RANGES {
+        Room::Left
+    } else {
+        Room::Full
+    }
+}
+
+// The new range's record in the place i: those from there on move one place up.
+fn enter(t: &mut [u8], i: usize, base: usize, count: usize, reserved: u8)
+    requires { ⌜ (length (now t) ≡ tableSize) × (i ≤ rangesIn (now t)) × (rangesIn (now t) < Table.mostRanges) ⌝ }
+    requires { ⌜ (base < 65536) × (count < 4294967296) ⌝ }
+    ensures { λ _. ⌜ Entered (now (t .entry)) (now (t .exit)) i base count reserved ⌝ }
+{
+    let at = RANGES_AT + i * RANGE_SIZE;
+    image::make_room(t, RANGES_IN, at, RANGE_SIZE, REST_AT);
+    image::put_word(t, at, base);
+    image::put_long(t, at + RANGE_COUNT, count);
+    t[at + RANGE_RESERVED] = reserved;
+}
+
+pub fn add(t: &mut [u8], r: Asked) -> Change
+    requires { ⌜ Accepted (now t) ⌝ }
+    ensures { λ x. ⌜ AddsRange (r .base) (r .count) (r .attributes) (r .lines) (now (t .entry)) (now (t .exit)) x ⌝ }
+{
+    let Reserve::Mark(reserved) = answers::reserve_asked(r.attributes) else {
+        return Change::Refused(Code::BadAttribute);
+    };
+    let Lines::All = lined(r.lines) else {
+        return Change::Refused(Code::BadAttribute);
+    };
+    let Count::Right = counted(r.count) else {
+        return Change::Refused(Code::BadSize);
+    };
+    let Reach::Within = reaches(r.base, r.count) else {
+        return Change::Refused(Code::BadBase);
+    };
+    let base = r.base as usize;
+    let count = r.count as usize;
+    let Ports::Free(i) = free(t, base, count) else {
+        return Change::Refused(Code::InUse);
+    };
+    let Room::Left = has_room(t) else {
+        return Change::Refused(Code::OutOfResource);
+    };
+    enter(t, i, base, count, reserved);
+    Change::Made
+}
+
+// The place of the range with just that base and count.
+pub enum Found {
+    At(usize),
+    Nowhere,
+}
+
+fn find(t: &[u8], base: usize, count: usize) -> Found
+    requires { ⌜ (length (now t) ≡ tableSize) × (rangesIn (now t) ≤ Table.mostRanges) × RangesSound (now t) ⌝ }
+    ensures { λ r. ⌜ FoundIs (now (t .entry)) base count r ⌝ }
+{
+    let i = place(t, base);
+    if reading::byte(t, RANGES_IN) <= i {
+        return Found::Nowhere;
+    }
+    let at = RANGES_AT + i * RANGE_SIZE;
+    if reading::word(t, at) != base {
+        return Found::Nowhere;
+    }
+    if reading::long(t, at + RANGE_COUNT) != count {
+        return Found::Nowhere;
+    }
+    Found::At(i)
+}
+
+pub fn remove(t: &mut [u8], r: Asked) -> Change
+    requires { ⌜ Accepted (now t) ⌝ }
+    ensures { λ x. ⌜ RemovesRange (r .base) (r .count) (r .attributes) (r .lines) (now (t .entry)) (now (t .exit)) x ⌝ }
+{
+    let Bits::Clear = answers::no_bit(r.attributes) else {
+        return Change::Refused(Code::BadAttribute);
+    };
+    let Lines::All = lined(r.lines) else {
+        return Change::Refused(Code::BadAttribute);
+    };
+    let Count::Right = counted(r.count) else {
+        return Change::Refused(Code::BadSize);
+    };
+    let Reach::Within = reaches(r.base, r.count) else {
+        return Change::Refused(Code::BadBase);
+    };
+    let base = r.base as usize;
+    let count = r.count as usize;
+    let Found::At(i) = find(t, base, count) else {
+        return Change::Refused(Code::BadBase);
+    };
+    let Holders::Nobody = holders::of_range(t, base, count) else {
+        return Change::Refused(Code::InUse);
+    };
+    image::take_out(
+        t,
+        RANGES_IN,
+        RANGES_AT + i * RANGE_SIZE,
+        RANGE_SIZE,
+        REST_AT,
+    );
+    Change::Made
+}
+
+// The range with the lowest base that isn't below a number: its base and its count.
+pub enum NextRange {
+    At(usize, usize),
+    End,
+}
+
+pub fn next(t: &[u8], from: usize) -> NextRange
+    requires { ⌜ Accepted (now t) ⌝ }
+    ensures { λ r. ⌜ NextRangeIs (now (t .entry)) from r ⌝ }
+{
+    let i = place(t, from);
+    if reading::byte(t, RANGES_IN) <= i {
+        return NextRange::End;
+    }
+    let at = RANGES_AT + i * RANGE_SIZE;
+    NextRange::At(reading::word(t, at), reading::long(t, at + RANGE_COUNT))
+}

@@ -1,0 +1,2 @@
+-- Laws over the width. Assumes nothing.
+pub mod Widths

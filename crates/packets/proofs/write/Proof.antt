@@ -1,0 +1,162 @@
+-- `packets::write` meets its contract at either width: the fields are written one after the other.
+-- Assumes nothing.
+use mathlib.Core.Path.{_≡_, ap, sym, _∙_, subst}
+use mathlib.Core.List.{List}
+use Prim.Native.Nat.{ℕ, _≤_}
+use native.Mathlib.Decide.{decLe}
+use native.Mathlib.Omega.{arith}
+use borrow.Author.Needs.{needs}
+use lib.ListN.{length, set, length-set}
+use denote.Ref.{now}
+use Rattle.facts.specs.declared.Width.{Width}
+use Rattle.facts.specs.declared.Width.the-variants.{Short, Wide}
+use Rattle.facts.specs.Table
+use Rattle.facts.specs.Packets.{withLong}
+use Rattle.facts.specs.Resources.{ioAdjustLength, TooMany, mostShown}
+use Rattle.facts.proofs.Told.{told}
+use Rattle.layout.proofs.Written.{word-length, long-length}
+use Rattle.packets.proofs.Widths.{written-at}
+use Rattle.packets.proofs.write.Statement.{statement}
+use Rattle.packets.proofs.write.Tie as tie
+
+-- the packet is short, and so is the count
+abbrev start : tie.After-enum-told → tie.Start
+start c = c .before .before .before
+
+short : (c : tie.After-enum-told) → length (now (start c .args .p)) ≡ ioAdjustLength Short
+short c = start c .pre .0 ∙ ap ioAdjustLength (c .enum-told .given .1)
+
+few : (c : tie.After-enum-told) → start c .args .count ≤ mostShown
+few c =
+    told (decLe (start c .args .count) mostShown)
+    (λ n. start c .pre .1 (subst (λ (w : Width). TooMany w (start c .args .count)) (sym (c .enum-told .given .1)) (omega (arith, n))))
+
+-- the base is written
+abbrev based : tie.After-slice-known2 → tie.After-put-word
+based c = c .before .before
+
+abbrev one : tie.After-slice-known2 → tie.After-enum-told
+one c = based c .before .before
+
+short-size : (c : tie.After-slice-known2) → length (based c .put-word .last .0) ≡ ioAdjustLength Short
+short-size c =
+    let a = start (one c) .args in
+    ap length (based c .put-word .ensures) ∙ word-length (now (a .p)) 2 (a .base) ∙ short (one c)
+
+-- the packet is wide
+abbrev start2 : tie.After-enum-told2 → tie.Start
+start2 c = c .before .before .before
+
+wide : (c : tie.After-enum-told2) → length (now (start2 c .args .p)) ≡ ioAdjustLength Wide
+wide c = start2 c .pre .0 ∙ ap ioAdjustLength (c .enum-told2 .given .1)
+
+-- base and count are written
+abbrev lent : tie.After-put-long-arg2 → tie.After-put-long
+lent c = c .before .before .before
+
+abbrev two : tie.After-put-long-arg2 → tie.After-enum-told2
+two c = lent c .before .before
+
+wide-based : (c : tie.After-put-long-arg2) → length (lent c .put-long .last .0) ≡ ioAdjustLength Wide
+wide-based c =
+    let a = start2 (two c) .args in
+    ap length (lent c .put-long .ensures) ∙ long-length (now (a .p)) 2 (a .base) ∙ wide (two c)
+
+abbrev counted : tie.After-slice-known4 → tie.After-put-long2
+counted c = c .before .before
+
+abbrev sent : tie.After-slice-known4 → tie.After-put-long-arg2
+sent c = counted c .before
+
+wide-size : (c : tie.After-slice-known4) → length (counted c .put-long2 .last .0) ≡ ioAdjustLength Wide
+wide-size c =
+    let b = lent (sent c) .put-long .last .0 in
+    ap length (counted c .put-long2 .ensures) ∙ long-length b 6 (start2 (two (sent c)) .args .count) ∙ wide-based (sent c)
+
+enum-told : tie.Need-enum-told
+enum-told c = search needs
+
+put-word-requires : tie.Need-put-word-requires
+put-word-requires c κs = omega (arith, short (c .before))
+
+cast-p : tie.Need-cast-p
+cast-p c = omega (arith, few (one c))
+
+slice-write-p : tie.Need-slice-write-p
+slice-write-p c = omega (arith, short-size c)
+
+slice-write-p-2 : tie.Need-slice-write-p-2
+slice-write-p-2 c = omega (arith, short-size c, length-set (based c .put-word .last .0) 4 (start (one c) .args .count))
+
+cast-p-2 : tie.Need-cast-p-2
+cast-p-2 c = search needs
+
+slice-write-p-3 : tie.Need-slice-write-p-3
+slice-write-p-3 c =
+    let b = based c .put-word .last .0 in
+    let a = start (one c) .args in
+    omega (arith, short-size c, length-set b 4 (a .count), length-set (set b 4 (a .count)) 5 (a .attributes))
+
+enum-told-2 : tie.Need-enum-told-2
+enum-told-2 c = search needs
+
+put-long-requires : tie.Need-put-long-requires
+put-long-requires c κs = omega (arith, wide (c .before))
+
+put-long-requires-2 : tie.Need-put-long-requires-2
+put-long-requires-2 c κs = omega (arith, wide-based c)
+
+slice-write-p-4 : tie.Need-slice-write-p-4
+slice-write-p-4 c = omega (arith, wide-size c)
+
+cast-p-3 : tie.Need-cast-p-3
+cast-p-3 c = search needs
+
+slice-write-p-5 : tie.Need-slice-write-p-5
+slice-write-p-5 c = omega (arith, wide-size c, length-set (counted c .put-long2 .last .0) 10 (start2 (two (sent c)) .args .attributes))
+
+same-length : tie.Need-same-length
+same-length c = search needs
+
+returns : tie.Need-returns
+returns c =
+    let k = one c in
+    let a = start k .args in
+    written-at (a .w) Short (k .enum-told .given .1) (now (a .p)) (a .base) (a .count) (a .attributes)
+    (ap (λ (b : List ℕ). set (set (set b 4 (a .count)) 5 (a .attributes)) 6 Table.mostLines) (based c .put-word .ensures))
+
+same-length-2 : tie.Need-same-length-2
+same-length-2 c =
+    let b = counted c .put-long2 .last .0 in
+    let a = start2 (two (sent c)) .args in
+    length-set (set b 10 (a .attributes)) 11 Table.mostLines ∙ length-set b 10 (a .attributes) ∙ wide-size c ∙ sym (wide (two (sent c)))
+
+returns-2 : tie.Need-returns-2
+returns-2 c =
+    let k = two (sent c) in
+    let a = start2 k .args in
+    written-at (a .w) Wide (k .enum-told2 .given .1) (now (a .p)) (a .base) (a .count) (a .attributes)
+    (ap (λ (b : List ℕ). set (set b 10 (a .attributes)) 11 Table.mostLines)
+    (counted c .put-long2 .ensures ∙ ap (λ (b : List ℕ). withLong b 6 (a .count)) (lent (sent c) .put-long .ensures)))
+
+pub write-spec : {M : Type 1} → statement M
+write-spec =
+    tie.close
+    (tie.spec
+    enum-told
+    put-word-requires
+    cast-p
+    slice-write-p
+    slice-write-p-2
+    cast-p-2
+    slice-write-p-3
+    enum-told-2
+    put-long-requires
+    put-long-requires-2
+    slice-write-p-4
+    cast-p-3
+    slice-write-p-5
+    same-length
+    returns
+    same-length-2
+    returns-2)

@@ -1,0 +1,2 @@
+-- What the packets' fields say. Assumes nothing.
+pub mod Fields

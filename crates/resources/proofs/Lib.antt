@@ -1,0 +1,2 @@
+-- The ways in which AdjustResourceInfo ends. Assumes nothing.
+pub mod Ends

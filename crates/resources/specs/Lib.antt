@@ -1,0 +1,2 @@
+-- What the actions are given and answer. Assumes nothing.
+pub mod Adjusting
