@@ -14,7 +14,11 @@ kit() { dirname "$(dirname "$(rt doc)")"; }
 RT_JOBS=${RT_JOBS:-$(($(nproc) + 1))}
 export RT_JOBS
 
-build_archive() { rt staticlib keeper; }
+# rt staticlib proves one crate after the other; rt check, before it, several at a time.
+build_archive() {
+    rt check
+    rt staticlib keeper
+}
 
 # need COMMAND PACKAGE...: Debian's packages, where the command is missing
 need() {

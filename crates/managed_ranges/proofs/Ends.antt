@@ -2,20 +2,20 @@
 use mathlib.Core.Path.{_≡_, refl, ap, sym, _∙_, subst}
 use mathlib.Core.Logic.{_⊎_, inl, inr, _≢_}
 use mathlib.Core.List.{List, [], _∷_, _++_}
+use mathlib.Core.Bool.{Bool}
 use Prim.Native.Nat.{ℕ, _+_, _≤_, _<_}
 use native.Mathlib.Nat.{add-zero}
 use native.Mathlib.Decide.{ℕ-discrete}
 use native.Mathlib.Omega.{arith}
-use lib.Dec.{eqb}
 use lib.ListN.{length, getD, set, length-set}
 use Rattle.facts.specs.declared.Code.{Code}
-use Rattle.facts.specs.declared.Code.the-variants.{BadAttribute, BadBase, BadSize, InUse, OutOfResource}
+use Rattle.facts.specs.declared.Code.the-variants.{BadAttribute, BadBase, InUse, OutOfResource}
 use Rattle.facts.specs.Table
 use Rattle.facts.specs.Table.{Facts, Range}
 use Rattle.facts.specs.Packets.{byte, withWord, withLong}
 use Rattle.facts.specs.Ports.{Within, Managed}
-use Rattle.facts.specs.Checks.{Check, _gives_, FirstGiven, Passed}
-use Rattle.facts.specs.Resources.{AddBits, reserveBit, rangeChecks, addRangeChecks, removeRangeChecks, rangeAdded, rangeRemoved, JustThat, RangeHeld}
+use Rattle.facts.specs.Checks.{Check, _gives_, FirstGiven}
+use Rattle.facts.specs.Resources.{rangeChecks, rangeRemoved, withRanges, inserted, JustThat, RangeHeld}
 use Rattle.layout.specs.Layout
 use Rattle.layout.specs.Layout.{image, mark, two, four}
 use Rattle.layout.specs.Reading.{rangesIn, rangePlace, rangeIn}
@@ -30,91 +30,91 @@ use Rattle.holders.specs.declared.Holders.the-variants.{Nobody}
 use Rattle.holders.specs.Holders.{RangeHoldersAre}
 use Rattle.answers.specs.declared.Change.{Change}
 use Rattle.answers.specs.declared.Change.the-variants.{Made, Refused}
-use Rattle.managed_ranges.specs.declared.Count.the-variants as count
-use Rattle.managed_ranges.specs.declared.Found.the-variants.{Nowhere}
-use Rattle.managed_ranges.specs.Asked.{AddsRange, RemovesRange, CountIs, FreeAt, FoundAt, FoundIs, Entered}
+use Rattle.answers.specs.Changing.{Changes}
 use Rattle.answers.proofs.Changing.{refused, made}
+use Rattle.managed_ranges.specs.declared.Named.the-variants as named
+use Rattle.managed_ranges.specs.declared.Found.the-variants.{Nowhere}
+use Rattle.managed_ranges.specs.Asked.{NamesPorts, NamedIs, FreeAt, FoundAt, FoundIs, Entered, putChecks, takeChecks, TakesRange}
 
--- the checks that Add and Remove share, around those of their own: the attributes and lines, the count, how far the ports reach
-module _ (Bad : Type 0) (base n : ℕ) (own : List Check) where
-  abbrev all : List Check
-  all = (Bad gives BadAttribute) ∷ rangeChecks base n own
+-- the checks that Add and Remove share, around those of their own; Bits says that the bits are right
+module _ (Bits : Type 0) (base n lines : ℕ) (own : Facts → List Check) (after : Facts → Facts) (b : List ℕ) where
+  abbrev Bad : Type 0
+  Bad = (Bits → ⊥) ⊎ (lines ≢ Table.mostLines)
 
-  pub bad-attribute : Bad → FirstGiven all BadAttribute
-  bad-attribute x = inl (x, refl)
+  abbrev checks : Facts → List Check
+  checks F = (Bad gives BadAttribute) ∷ rangeChecks base n (own F)
 
-  pub bad-size : (Bad → ⊥) → CountIs n count.Wrong → FirstGiven all BadSize
-  bad-size good w = inr (good, inl (w, refl))
+  module _ (a : Accepted b) where
+    pub bits-wrong : (Bits → ⊥) → Changes checks after b b (Refused BadAttribute)
+    bits-wrong x = refused checks after b a BadAttribute (inl (inl x, refl))
 
-  right : CountIs n count.Right → CountIs n count.Wrong → ⊥
-  right r (inl e) = omega (arith, e, r .0)
-  right r (inr h) = omega (arith, h, r .1)
+    pub ports-wrong : Bits → (k : Code) → NamedIs base n lines (named.Wrong k) → Changes checks after b b (Refused k)
+    ports-wrong bits k w = refused checks after b a k (go w)
+      where
+        good : (lines ≢ Table.mostLines → ⊥) → Bad → ⊥
+        good l (inl x) = x bits
+        good l (inr x) = l x
 
-  pub past-end : (Bad → ⊥) → CountIs n count.Right → Table.allPorts < base + n → FirstGiven all BadBase
-  past-end good r h = inr (good, inr (right r, inl (h, refl)))
+        go : NamedIs base n lines (named.Wrong k) → FirstGiven (checks (a .facts)) k
+        go (inl x) = inl (inr (x .0), x .1)
+        go (inr (l, inl x)) = inr (good l, inl x)
+        go (inr (l, inr (m, inl x))) = inr (good l, inr (m, inl x))
+        go (inr (l, inr (m, inr (o, x)))) = absurd x
 
-  module _ (good : Bad → ⊥) (r : CountIs n count.Right) (within : base + n ≤ Table.allPorts) where
-    pub own-given : (k : Code) → FirstGiven own k → FirstGiven all k
-    own-given k g = inr (good, inr (right r, inr ((λ h. omega arith), g)))
+  module _ (bits : Bits) (x y : ℕ) (ports : NamesPorts base n lines x y) where
+    good : Bad → ⊥
+    good (inl x) = x bits
+    good (inr x) = x (ports .lines-are)
 
-    pub own-passed : Passed own → Passed all
-    own-passed p = (good, (right r, ((λ h. omega arith), p)))
+    counted : (n ≡ 0) ⊎ (Table.allPorts < n) → ⊥
+    counted (inl e) = omega (arith, e, ports .least)
+    counted (inr l) = omega (arith, ports .most)
 
-module _ (b : List ℕ) (a : Accepted b) (base n attributes lines : ℕ) where
-  -- Add
-  abbrev pub AddBad : Type 0
-  AddBad = (AddBits attributes → ⊥) ⊎ (lines ≢ Table.mostLines)
+    reaches : Table.allPorts < base + n → ⊥
+    reaches l = omega (arith, ports .within)
 
-  pub add-good : AddBits attributes → lines ≡ Table.mostLines → AddBad → ⊥
-  add-good bits l (inl x) = x bits
-  add-good bits l (inr x) = x l
+    pub own-change : (b′ : List ℕ) (c : Change) → Changes own after b b′ c → Changes checks after b b′ c
+    own-change b′ Made s =
+        record {
+          accepted = s .accepted;
+          after = s .after;
+          rule = ((good, (counted, (reaches, s .rule .0))), s .rule .1);
+          table = s .table;
+        }
+    own-change b′ (Refused k) s =
+        record {
+          accepted = s .accepted;
+          after = s .after;
+          rule = (inr (good, inr (counted, inr (reaches, s .rule .0))), s .rule .1);
+          table = s .table;
+        }
 
-  abbrev addOwn : Facts → List Check
-  addOwn F =
-      (((p : ℕ) × Within p base n × Managed F p) gives InUse) ∷ ((Table.mostRanges ≤ length (F .ranges)) gives OutOfResource) ∷ []
+module _ (b : List ℕ) (a : Accepted b) (base n : ℕ) where
+  -- ports put in
+  module _ (t : Bool) where
+    abbrev new : Range
+    new = record { base = base; count = n; reserved = t }
 
-  abbrev addChecks : Facts → List Check
-  addChecks F = addRangeChecks F base n attributes lines
+    abbrev put : Facts → Facts
+    put F = withRanges F (inserted new (F .ranges))
 
-  abbrev added : Facts → Facts
-  added F = rangeAdded F base n attributes
-
-  abbrev Adds : List ℕ → Change → Type 0
-  Adds = AddsRange base n attributes lines b
-
-  pub add-attribute : AddBad → Adds b (Refused BadAttribute)
-  add-attribute x = refused addChecks added b a BadAttribute (bad-attribute AddBad base n (addOwn (a .facts)) x)
-
-  pub add-size : (AddBad → ⊥) → CountIs n count.Wrong → Adds b (Refused BadSize)
-  add-size good w = refused addChecks added b a BadSize (bad-size AddBad base n (addOwn (a .facts)) good w)
-
-  pub add-past : (AddBad → ⊥) → CountIs n count.Right → Table.allPorts < base + n → Adds b (Refused BadBase)
-  add-past good r h = refused addChecks added b a BadBase (past-end AddBad base n (addOwn (a .facts)) good r h)
-
-  module _ (good : AddBad → ⊥) (r : CountIs n count.Right) (within : base + n ≤ Table.allPorts) where
-    pub add-taken : (p : ℕ) × Within p base n × ManagedIn b p → Adds b (Refused InUse)
-    add-taken x =
-        refused addChecks added b a InUse
-        (own-given AddBad base n (addOwn (a .facts)) good r within InUse (inl ((x .0, x .1, Of.managed-said b a (x .0) (x .2)), refl)))
+    pub put-taken : (p : ℕ) × Within p base n × ManagedIn b p → Changes (putChecks base n) put b b (Refused InUse)
+    put-taken x = refused (putChecks base n) put b a InUse (inl ((x .0, x .1, Of.managed-said b a (x .0) (x .2)), refl))
 
     -- none of the ports is managed
     unmanaged : (i : ℕ) → FreeAt b base n i → (p : ℕ) × Within p base n × Managed (a .facts) p → ⊥
     unmanaged i f x = f .free (x .0) (x .1) (Of.said-managed b a (x .0) (x .2))
 
-    pub add-full : (i : ℕ) → FreeAt b base n i → Table.mostRanges ≤ rangesIn b → Adds b (Refused OutOfResource)
-    add-full i f h =
-        refused addChecks added b a OutOfResource
-        (own-given AddBad base n (addOwn (a .facts)) good r within OutOfResource (inr (unmanaged i f, inl (omega (arith, Of.ranges-in b a), refl))))
+    pub put-full : (i : ℕ) → FreeAt b base n i → Table.mostRanges ≤ rangesIn b → Changes (putChecks base n) put b b (Refused OutOfResource)
+    put-full i f h =
+        refused (putChecks base n) put b a OutOfResource (inr (unmanaged i f, inl (omega (arith, Of.ranges-in b a), refl)))
 
-    pub add-made : (b′ : List ℕ) (i m : ℕ) → FreeAt b base n i → rangesIn b < Table.mostRanges → m ≡ mark (eqb attributes reserveBit)
-        → Entered b b′ i base n m
-        → Adds b′ Made
-    add-made b′ i m f room e put =
-        made addChecks added b a b′
-        (own-passed AddBad base n (addOwn (a .facts)) good r within (unmanaged i f, ((λ h. omega (arith, Of.ranges-in b a)), tt)))
-        (range-put-in b b′ a (record { base = base; count = n; reserved = eqb attributes reserveBit }) i (f .place .within)
-        (λ j l. omega (arith, f .place .ahead j l)) over
-        (subst (λ (x : ℕ). PutIn b b′ 2 (rangePlace i) Layout.restAt (two base ++ four n ++ x ∷ [])) e put))
+    pub put-made : (b′ : List ℕ) (i m : ℕ) → FreeAt b base n i → 1 ≤ n → rangesIn b < Table.mostRanges → m ≡ mark t → Entered b b′ i base n m
+        → Changes (putChecks base n) put b b′ Made
+    put-made b′ i m f port room e entered =
+        made (putChecks base n) put b a b′ (unmanaged i f, ((λ h. omega (arith, Of.ranges-in b a)), tt))
+        (range-put-in b b′ a new i (f .place .within) (λ j l. omega (arith, f .place .ahead j l)) over
+        (subst (λ (x : ℕ). PutIn b b′ 2 (rangePlace i) Layout.restAt (two base ++ four n ++ x ∷ [])) e entered))
       where
         -- a range that starts at the base would have one of the ports
         over : (j : ℕ) → i ≤ j → j < rangesIn b → base < rangeBase b j
@@ -123,75 +123,43 @@ module _ (b : List ℕ) (a : Accepted b) (base n attributes lines : ℕ) where
             go : Dec (base ≡ rangeBase b j) → base < rangeBase b j
             go (yes q) =
                 absurd
-                (f .free base (record { from = omega arith; below = omega (arith, r .0) })
+                (f .free base (record { from = omega arith; below = omega arith })
                 (j, h, record { from = omega (arith, q); below = omega (arith, q, Of.sound-in b a .ranges j h .port) }))
             go (no d) = omega (arith, d, f .place .behind j l h)
 
-  -- Remove
-  abbrev pub RemoveBad : Type 0
-  RemoveBad = (attributes ≢ 0) ⊎ (lines ≢ Table.mostLines)
-
-  pub remove-good : attributes ≡ 0 → lines ≡ Table.mostLines → RemoveBad → ⊥
-  remove-good none l (inl x) = x none
-  remove-good none l (inr x) = x l
-
-  abbrev removeOwn : Facts → List Check
-  removeOwn F =
-      (((r : Range) → JustThat F base n r → ⊥) gives BadBase) ∷ (((r : Range) × JustThat F base n r × RangeHeld F r) gives InUse) ∷ []
-
-  abbrev removeChecks : Facts → List Check
-  removeChecks F = removeRangeChecks F base n attributes lines
-
-  abbrev removed : Facts → Facts
-  removed F = rangeRemoved F base
-
-  abbrev Removes : List ℕ → Change → Type 0
-  Removes = RemovesRange base n attributes lines b
-
-  pub remove-attribute : RemoveBad → Removes b (Refused BadAttribute)
-  remove-attribute x = refused removeChecks removed b a BadAttribute (bad-attribute RemoveBad base n (removeOwn (a .facts)) x)
-
-  pub remove-size : (RemoveBad → ⊥) → CountIs n count.Wrong → Removes b (Refused BadSize)
-  remove-size good w = refused removeChecks removed b a BadSize (bad-size RemoveBad base n (removeOwn (a .facts)) good w)
-
-  pub remove-past : (RemoveBad → ⊥) → CountIs n count.Right → Table.allPorts < base + n → Removes b (Refused BadBase)
-  remove-past good r h = refused removeChecks removed b a BadBase (past-end RemoveBad base n (removeOwn (a .facts)) good r h)
+  -- ports taken out
+  abbrev taken : Facts → Facts
+  taken F = rangeRemoved F base
 
   -- the range in the place i is the one
   just : (i : ℕ) → FoundAt b base n i → JustThat (a .facts) base n (rangeIn b i)
   just i f = (Of.range-listed b a i (f .listed), Of.range-base b a i ∙ f .base-is, Of.range-count b a i ∙ f .count-is)
 
-  module _ (good : RemoveBad → ⊥) (r : CountIs n count.Right) (within : base + n ≤ Table.allPorts) where
-    pub remove-nowhere : FoundIs b base n Nowhere → Removes b (Refused BadBase)
-    remove-nowhere none =
-        refused removeChecks removed b a BadBase (own-given RemoveBad base n (removeOwn (a .facts)) good r within BadBase (inl (nobody, refl)))
-      where
-        nobody : (r : Range) → JustThat (a .facts) base n r → ⊥
-        nobody r j =
-            let x = Of.listed-range b a r (j .0) in
-            none (x .0)
-            (record {
-              listed = x .1;
-              base-is = sym (ap (λ (y : Range). y .base) (x .2) ∙ Of.range-base b a (x .0)) ∙ j .1;
-              count-is = sym (ap (λ (y : Range). y .count) (x .2) ∙ Of.range-count b a (x .0)) ∙ j .2;
-            })
+  pub take-nowhere : FoundIs b base n Nowhere → TakesRange base n b b (Refused BadBase)
+  take-nowhere none = refused (takeChecks base n) taken b a BadBase (inl (nobody, refl))
+    where
+      nobody : (r : Range) → JustThat (a .facts) base n r → ⊥
+      nobody r j =
+          let x = Of.listed-range b a r (j .0) in
+          none (x .0)
+          (record {
+            listed = x .1;
+            base-is = sym (ap (λ (y : Range). y .base) (x .2) ∙ Of.range-base b a (x .0)) ∙ j .1;
+            count-is = sym (ap (λ (y : Range). y .count) (x .2) ∙ Of.range-count b a (x .0)) ∙ j .2;
+          })
 
-    pub remove-held : (i : ℕ) → FoundAt b base n i → RangeHeld (a .facts) (rangeIn b i) → Removes b (Refused InUse)
-    remove-held i f held =
-        refused removeChecks removed b a InUse
-        (own-given RemoveBad base n (removeOwn (a .facts)) good r within InUse
-        (inr ((λ none. none (rangeIn b i) (just i f)), inl ((rangeIn b i, just i f, held), refl))))
+  pub take-held : (i : ℕ) → FoundAt b base n i → RangeHeld (a .facts) (rangeIn b i) → TakesRange base n b b (Refused InUse)
+  take-held i f held =
+      refused (takeChecks base n) taken b a InUse
+      (inr ((λ none. none (rangeIn b i) (just i f)), inl ((rangeIn b i, just i f, held), refl)))
 
-    pub remove-made : (b′ : List ℕ) (i : ℕ) → FoundAt b base n i → RangeHoldersAre b base n Nobody
-        → TakenOut b b′ 2 (rangePlace i) Layout.rangeSize Layout.restAt
-        → Removes b′ Made
-    remove-made b′ i f nobody out =
-        made removeChecks removed b a b′
-        (own-passed RemoveBad base n (removeOwn (a .facts)) good r within (
-          (λ none. none (rangeIn b i) (just i f)),
-          ((λ x. nobody a (x .0) (x .1 .1) (x .1 .2) (x .2)), tt),
-        ))
-        (subst (λ (x : ℕ). image (rangeRemoved (a .facts) x) ≡ b′) (f .base-is) (range-taken-out b b′ a i (f .listed) out))
+  pub take-made : (b′ : List ℕ) (i : ℕ) → FoundAt b base n i → RangeHoldersAre b base n Nobody
+      → TakenOut b b′ 2 (rangePlace i) Layout.rangeSize Layout.restAt
+      → TakesRange base n b b′ Made
+  take-made b′ i f nobody out =
+      made (takeChecks base n) taken b a b′
+      ((λ none. none (rangeIn b i) (just i f)), ((λ x. nobody a (x .0) (x .1 .1) (x .1 .2) (x .2)), tt))
+      (subst (λ (x : ℕ). image (rangeRemoved (a .facts) x) ≡ b′) (f .base-is) (range-taken-out b b′ a i (f .listed) out))
 
 -- the record of a range, written where there is room for it
 module _ (b b₁ b₂ b₃ : List ℕ) (at base n reserved : ℕ) (size : length b ≡ Layout.tableSize) (high : 2 < at)

@@ -2,16 +2,19 @@
 use mathlib.Core.Path.{_≡_}
 use mathlib.Core.Logic.{_⊎_, _≢_}
 use mathlib.Core.List.{List, [], _∷_, _++_}
+use mathlib.Core.Bool.{Bool}
 use Prim.Native.Nat.{ℕ, _+_, _≤_, _<_}
+use lib.ListN.{length}
+use Rattle.facts.specs.declared.Code.the-variants.{BadAttribute, BadBase, InUse, OutOfResource}
 use Rattle.facts.specs.Table
 use Rattle.facts.specs.Table.{Facts, Range}
 use Rattle.facts.specs.Sets.{_∈_}
 use Rattle.facts.specs.Choice.{Lowest}
-use Rattle.facts.specs.Ports.{Within}
-use Rattle.facts.specs.Resources.{addRangeChecks, removeRangeChecks}
-use Rattle.facts.specs.Resources.{rangeAdded, rangeRemoved}
+use Rattle.facts.specs.Ports.{Within, Managed}
+use Rattle.facts.specs.Checks.{Check, _gives_, FirstGiven}
+use Rattle.facts.specs.Resources.{addRangeChecks, removeRangeChecks, rangeChecks, rangeAdded, rangeRemoved, withRanges, inserted, JustThat, RangeHeld}
 use Rattle.layout.specs.Layout
-use Rattle.layout.specs.Layout.{two, four}
+use Rattle.layout.specs.Layout.{mark, two, four}
 use Rattle.layout.specs.Reading.{rangesIn, rangePlace}
 use Rattle.layout.specs.Sound.{Accepted, ManagedIn, rangeBase, rangeCount}
 use Rattle.layout.specs.Changed.{PutIn}
@@ -23,6 +26,8 @@ use Rattle.managed_ranges.specs.declared.Count.{Count}
 use Rattle.managed_ranges.specs.declared.Count.the-variants as count
 use Rattle.managed_ranges.specs.declared.Reach.{Reach}
 use Rattle.managed_ranges.specs.declared.Reach.the-variants as reach
+use Rattle.managed_ranges.specs.declared.Named.{Named}
+use Rattle.managed_ranges.specs.declared.Named.the-variants as named
 use Rattle.managed_ranges.specs.declared.Ports.{Ports}
 use Rattle.managed_ranges.specs.declared.Ports.the-variants as ports
 use Rattle.managed_ranges.specs.declared.Room.{Room}
@@ -52,6 +57,36 @@ CountIs n count.Wrong = (n ≡ 0) ⊎ (Table.allPorts < n)
 abbrev pub ReachIs : ℕ → ℕ → Reach → Type 0
 ReachIs base n reach.Within = base + n ≤ Table.allPorts
 ReachIs base n reach.Past = Table.allPorts < base + n
+
+-- the ports that are named, with lines, a count and a reach that are right; or the first of these that is wrong
+pub record NamesPorts (base count lines x y : ℕ) : Type 0 where
+  pub base-is : x ≡ base
+  pub count-is : y ≡ count
+  pub lines-are : lines ≡ Table.mostLines
+  pub least : 1 ≤ count
+  pub most : count ≤ Table.allPorts
+  pub within : base + count ≤ Table.allPorts
+
+abbrev pub NamedIs : ℕ → ℕ → ℕ → Named → Type 0
+NamedIs base n lines (named.Ports x y) = NamesPorts base n lines x y
+NamedIs base n lines (named.Wrong k) = FirstGiven (((lines ≢ Table.mostLines) gives BadAttribute) ∷ rangeChecks base n []) k
+
+-- the checks of its own that Add makes of ports, and Remove; and what they leave
+abbrev pub putChecks : ℕ → ℕ → Facts → List Check
+putChecks base n F =
+    (((p : ℕ) × Within p base n × Managed F p) gives InUse) ∷ ((Table.mostRanges ≤ length (F .ranges)) gives OutOfResource) ∷ []
+
+abbrev pub PutsRange : ℕ → ℕ → ℕ → List ℕ → List ℕ → Change → Type 0
+PutsRange base n m b b′ c =
+    (t : Bool) → m ≡ mark t
+    → Changes (putChecks base n) (λ (F : Facts). withRanges F (inserted (record { base = base; count = n; reserved = t }) (F .ranges))) b b′ c
+
+abbrev pub takeChecks : ℕ → ℕ → Facts → List Check
+takeChecks base n F =
+    (((r : Range) → JustThat F base n r → ⊥) gives BadBase) ∷ (((r : Range) × JustThat F base n r × RangeHeld F r) gives InUse) ∷ []
+
+abbrev pub TakesRange : ℕ → ℕ → List ℕ → List ℕ → Change → Type 0
+TakesRange base n = Changes (takeChecks base n) (λ (F : Facts). rangeRemoved F base)
 
 -- i ranges have a base below the number
 pub record PlaceOf (b : List ℕ) (from i : ℕ) : Type 0 where

@@ -21,9 +21,8 @@ ghost use Rattle.facts.specs.Table;
 ghost use Rattle.layout.specs.Layout.{tableSize};
 ghost use Rattle.layout.specs.Reading.{rangesIn};
 ghost use Rattle.layout.specs.Sound.{Accepted, RangesSound};
-ghost use Rattle.managed_ranges.specs.Asked.{LinesAre, CountIs, ReachIs, PlaceOf, StartIs, FreeIs, FoundIs, RoomIs, Entered, NextRangeIs};
-ghost use Rattle.managed_ranges.specs.Asked.{AddsRange};
-ghost use Rattle.managed_ranges.specs.Asked.{RemovesRange};
+ghost use Rattle.managed_ranges.specs.Asked.{LinesAre, CountIs, ReachIs, NamedIs, PlaceOf, StartIs, FreeIs, FoundIs, RoomIs, Entered};
+ghost use Rattle.managed_ranges.specs.Asked.{NextRangeIs, PutsRange, TakesRange, AddsRange, RemovesRange};
 
 // "both need lines of 16 for I/O".
 pub enum Lines {
@@ -73,6 +72,27 @@ fn reaches(base: u32, count: u32) -> Reach
     } else {
         Reach::Within
     }
+}
+
+// The ports that an Add or a Remove names, or the code of what is wrong with them.
+pub enum Named {
+    Ports(usize, usize),
+    Wrong(Code),
+}
+
+fn ports_named(r: Asked) -> Named
+    ensures { λ x. ⌜ NamedIs (r .base) (r .count) (r .lines) x ⌝ }
+{
+    let Lines::All = lined(r.lines) else {
+        return Named::Wrong(Code::BadAttribute);
+    };
+    let Count::Right = counted(r.count) else {
+        return Named::Wrong(Code::BadSize);
+    };
+    let Reach::Within = reaches(r.base, r.count) else {
+        return Named::Wrong(Code::BadBase);
+    };
+    Named::Ports(r.base as usize, r.count as usize)
 }
 
 // How many ranges have a base below a number: where such a base belongs. The last ones are looked at first.
@@ -152,24 +172,11 @@ fn enter(t: &mut [u8], i: usize, base: usize, count: usize, reserved: u8)
     t[at + RANGE_RESERVED] = reserved;
 }
 
-pub fn add(t: &mut [u8], r: Asked) -> Change
-    requires { ⌜ Accepted (now t) ⌝ }
-    ensures { λ x. ⌜ AddsRange (r .base) (r .count) (r .attributes) (r .lines) (now (t .entry)) (now (t .exit)) x ⌝ }
+// The ports are put in, with their reserve mark: "a port already managed IN_USE; 32 ranges present OUT_OF_RESOURCE".
+fn put(t: &mut [u8], base: usize, count: usize, reserved: u8) -> Change
+    requires { ⌜ Accepted (now t) × (1 ≤ count) × (base + count ≤ Table.allPorts) ⌝ }
+    ensures { λ x. ⌜ PutsRange base count reserved (now (t .entry)) (now (t .exit)) x ⌝ }
 {
-    let Reserve::Mark(reserved) = answers::reserve_asked(r.attributes) else {
-        return Change::Refused(Code::BadAttribute);
-    };
-    let Lines::All = lined(r.lines) else {
-        return Change::Refused(Code::BadAttribute);
-    };
-    let Count::Right = counted(r.count) else {
-        return Change::Refused(Code::BadSize);
-    };
-    let Reach::Within = reaches(r.base, r.count) else {
-        return Change::Refused(Code::BadBase);
-    };
-    let base = r.base as usize;
-    let count = r.count as usize;
     let Ports::Free(i) = free(t, base, count) else {
         return Change::Refused(Code::InUse);
     };
@@ -178,6 +185,20 @@ pub fn add(t: &mut [u8], r: Asked) -> Change
     };
     enter(t, i, base, count, reserved);
     Change::Made
+}
+
+pub fn add(t: &mut [u8], r: Asked) -> Change
+    requires { ⌜ Accepted (now t) ⌝ }
+    ensures { λ x. ⌜ AddsRange (r .base) (r .count) (r .attributes) (r .lines) (now (t .entry)) (now (t .exit)) x ⌝ }
+{
+    let Reserve::Mark(reserved) = answers::reserve_asked(r.attributes) else {
+        return Change::Refused(Code::BadAttribute);
+    };
+    let ports = ports_named(r);
+    match ports {
+        Named::Ports(base, count) => put(t, base, count, reserved),
+        Named::Wrong(code) => Change::Refused(code),
+    }
 }
 
 // The place of the range with just that base and count.
@@ -204,24 +225,11 @@ fn find(t: &[u8], base: usize, count: usize) -> Found
     Found::At(i)
 }
 
-pub fn remove(t: &mut [u8], r: Asked) -> Change
+// The ports are taken out: "no range with just that base and count BAD_BASE; a live grant holding a port of it IN_USE".
+fn take(t: &mut [u8], base: usize, count: usize) -> Change
     requires { ⌜ Accepted (now t) ⌝ }
-    ensures { λ x. ⌜ RemovesRange (r .base) (r .count) (r .attributes) (r .lines) (now (t .entry)) (now (t .exit)) x ⌝ }
+    ensures { λ x. ⌜ TakesRange base count (now (t .entry)) (now (t .exit)) x ⌝ }
 {
-    let Bits::Clear = answers::no_bit(r.attributes) else {
-        return Change::Refused(Code::BadAttribute);
-    };
-    let Lines::All = lined(r.lines) else {
-        return Change::Refused(Code::BadAttribute);
-    };
-    let Count::Right = counted(r.count) else {
-        return Change::Refused(Code::BadSize);
-    };
-    let Reach::Within = reaches(r.base, r.count) else {
-        return Change::Refused(Code::BadBase);
-    };
-    let base = r.base as usize;
-    let count = r.count as usize;
     let Found::At(i) = find(t, base, count) else {
         return Change::Refused(Code::BadBase);
     };
@@ -236,6 +244,20 @@ pub fn remove(t: &mut [u8], r: Asked) -> Change
         REST_AT,
     );
     Change::Made
+}
+
+pub fn remove(t: &mut [u8], r: Asked) -> Change
+    requires { ⌜ Accepted (now t) ⌝ }
+    ensures { λ x. ⌜ RemovesRange (r .base) (r .count) (r .attributes) (r .lines) (now (t .entry)) (now (t .exit)) x ⌝ }
+{
+    let Bits::Clear = answers::no_bit(r.attributes) else {
+        return Change::Refused(Code::BadAttribute);
+    };
+    let ports = ports_named(r);
+    match ports {
+        Named::Ports(base, count) => take(t, base, count),
+        Named::Wrong(code) => Change::Refused(code),
+    }
 }
 
 // The range with the lowest base that isn't below a number: its base and its count.

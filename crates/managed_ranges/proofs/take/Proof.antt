@@ -1,0 +1,153 @@
+-- `managed_ranges::take` meets its contract: no range is just that, somebody holds a port of it, or it is taken out.
+-- Assumes nothing.
+use mathlib.Core.Path.{_∙_, subst}
+use mathlib.Core.List.{List}
+use Prim.Native.Nat.{ℕ, _<_}
+use native.Mathlib.Omega.{arith}
+use borrow.Author.Needs.{needs}
+use denote.Ref.{now}
+use Rattle.facts.specs.Table
+use Rattle.facts.specs.Resources.{RangeHeld}
+use Rattle.layout.specs.Reading.{rangeIn}
+use Rattle.layout.proofs.Of.{size-in, sound-in, range-base, range-count}
+use Rattle.holders.specs.declared.Holders.the-variants.{Nobody}
+use Rattle.holders.specs.Holders.{RangeHoldersAre}
+use Rattle.managed_ranges.specs.Asked.{FoundAt, FoundIs}
+use Rattle.managed_ranges.proofs.Ends.{take-nowhere, take-held, take-made}
+use Rattle.managed_ranges.proofs.take.Statement.{statement}
+use Rattle.managed_ranges.proofs.take.Tie as tie
+
+-- where the call began, and its table
+abbrev began : tie.After-find-arg → tie.Start
+began c = c .before .before
+
+abbrev table : tie.After-find-arg → List ℕ
+table c = now (began c .args .t)
+
+-- the place of the range
+abbrev sought : tie.After-known-told → tie.After-find
+sought c = c .before .before .before
+
+abbrev sent : tie.After-known-told → tie.After-find-arg
+sent c = sought c .before
+
+abbrev place : tie.After-known-told → ℕ
+place c = c .before .i .given .0 .0
+
+found : (c : tie.After-known-told) → let k = sent c in FoundAt (table k) (began k .args .base) (began k .args .count) (place c)
+found c =
+    let k = sent c in
+    subst (FoundIs (table k) (began k .args .base) (began k .args .count)) (c .before .i .given .1) (sought c .find .ensures)
+
+in-table : (c : tie.After-known-told) → place c < Table.mostRanges
+in-table c = let k = sent c in omega (arith, found c .listed, sound-in (table k) (began k .pre) .ranges-most)
+
+-- nobody holds a port of it, or somebody does
+abbrev placed : tie.After-of-range → tie.After-known-told
+placed c = c .before .before
+
+nobody : (c : tie.After-enum-told2) → let k = sent (placed (c .before .before)) in
+    RangeHoldersAre (table k) (began k .args .base) (began k .args .count) Nobody
+nobody c =
+    let k = sent (placed (c .before .before)) in
+    subst (RangeHoldersAre (table k) (began k .args .base) (began k .args .count)) (c .enum-told2 .given .1) (c .before .before .of-range .ensures)
+
+held : (c : tie.After-enum-told3) → let at = placed (c .before .before) in let k = sent at in RangeHeld (began k .pre .facts)
+    (rangeIn (table k) (place at))
+held c =
+    let at = placed (c .before .before) in
+    let k = sent at in
+    let b = table k in
+    let a = began k .pre in
+    subst (RangeHoldersAre b (began k .args .base) (began k .args .count)) (c .enum-told3 .given .1) (c .before .before .of-range .ensures) a
+    (rangeIn b (place at)) (range-base b a (place at) ∙ found at .base-is) (range-count b a (place at) ∙ found at .count-is) .0
+
+-- where it is taken out
+abbrev free : tie.After-take-out-arg → tie.After-known-told
+free c = placed (c .before .before .before)
+
+find-requires : tie.Need-find-requires
+find-requires c κs =
+    let sound = sound-in (table c) (began c .pre) in
+    (sound .size, sound .ranges-most, sound .ranges)
+
+enum-known-i : tie.Need-enum-known-i
+enum-known-i c = search needs
+
+enum-told : tie.Need-enum-told
+enum-told c = search needs
+
+same-length : tie.Need-same-length
+same-length c = search needs
+
+returns : tie.Need-returns
+returns c =
+    let find = c .before .before in
+    let k = find .before in
+    let s = began k in
+    take-nowhere (table k) (s .pre) (s .args .base) (s .args .count)
+    (subst (FoundIs (table k) (s .args .base) (s .args .count)) (c .enum-told .given .1) (find .find .ensures))
+
+of-range-requires : tie.Need-of-range-requires
+of-range-requires c κs = search needs
+
+enum-told-2 : tie.Need-enum-told-2
+enum-told-2 c = search needs
+
+enum-told-3 : tie.Need-enum-told-3
+enum-told-3 c = search needs
+
+same-length-2 : tie.Need-same-length-2
+same-length-2 c = search needs
+
+returns-2 : tie.Need-returns-2
+returns-2 c =
+    let at = placed (c .before .before) in
+    let k = sent at in
+    let s = began k in
+    take-held (table k) (s .pre) (s .args .base) (s .args .count) (place at) (found at) (held c)
+
+mul-take-out : tie.Need-mul-take-out
+mul-take-out c = omega (arith, in-table (free c))
+
+add-take-out : tie.Need-add-take-out
+add-take-out c = omega (arith, in-table (free c))
+
+take-out-requires : tie.Need-take-out-requires
+take-out-requires c κs =
+    let at = free c in
+    let k = sent at in
+    (omega arith, omega (arith, in-table at), omega (arith, size-in (table k) (began k .pre)), omega arith, omega (arith, found at .listed))
+
+same-length-3 : tie.Need-same-length-3
+same-length-3 c = search needs
+
+returns-3 : tie.Need-returns-3
+returns-3 c =
+    let out = c .before .before in
+    let told = out .before .before in
+    let at = placed (told .before .before) in
+    let k = sent at in
+    let s = began k in
+    take-made (table k) (s .pre) (s .args .base) (s .args .count) (out .take-out .last .0) (place at) (found at) (nobody told)
+    (out .take-out .ensures)
+
+pub take-spec : {M : Type 1} → statement M
+take-spec =
+    tie.close
+    (tie.spec
+    find-requires
+    enum-known-i
+    enum-told
+    same-length
+    returns
+    of-range-requires
+    enum-told-2
+    enum-told-3
+    same-length-2
+    returns-2
+    mul-take-out
+    add-take-out
+    take-out-requires
+    same-length-3
+    returns-3)
