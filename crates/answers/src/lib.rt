@@ -86,6 +86,8 @@ pub enum Change {
 }
 
 // "Add (1) allows only bit 6, reserve": the reserve mark that is asked for, or other bits.
+const RESERVE: u8 = 0x40;
+
 pub enum Reserve {
     Mark(u8),
     Other,
@@ -96,7 +98,7 @@ pub fn reserve_asked(attributes: u8) -> Reserve
 {
     match attributes {
         0x00 => Reserve::Mark(0),
-        0x40 => Reserve::Mark(1),
+        RESERVE => Reserve::Mark(1),
         0x01..=0x3F | 0x41..=0xFF => Reserve::Other,
     }
 }

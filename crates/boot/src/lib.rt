@@ -96,12 +96,14 @@ pub fn boot(t: &mut [u8], records: &[u8]) -> Booted
 }
 
 // code + 2^32 * place.
+const ABOVE_CODE: u64 = 4294967296;
+
 pub fn pack(b: Booted) -> u64
     requires { ⌜ placeOf b ≤ Table.allLevels + Table.mostRanges ⌝ }
     ensures { λ r. ⌜ r ≡ placed (codeOf b) (placeOf b) ⌝ }
 {
     match b {
-        Booted::All(place) => 4294967296 * (place as u64),
-        Booted::Stopped(place, code) => facts::number(code) as u64 + 4294967296 * (place as u64),
+        Booted::All(place) => ABOVE_CODE * (place as u64),
+        Booted::Stopped(place, code) => facts::number(code) as u64 + ABOVE_CODE * (place as u64),
     }
 }

@@ -193,11 +193,13 @@ rangeChecks base count own =
     (((count ≡ 0) ⊎ (Table.allPorts < count)) gives BadSize) ∷ ((Table.allPorts < base + count) gives BadBase) ∷ own
 
 -- "Add: a port already managed IN_USE; 32 ranges present OUT_OF_RESOURCE."
+abbrev pub putChecks : ℕ → ℕ → Facts → List Check
+putChecks base count F =
+    (((p : ℕ) × Within p base count × Managed F p) gives InUse) ∷ ((Table.mostRanges ≤ length (F .ranges)) gives OutOfResource) ∷ []
+
 abbrev pub addRangeChecks : Facts → ℕ → ℕ → ℕ → ℕ → List Check
 addRangeChecks F base count attributes lines =
-    (((AddBits attributes → ⊥) ⊎ (lines ≢ Table.mostLines)) gives BadAttribute)
-    ∷ rangeChecks base count
-    ((((p : ℕ) × Within p base count × Managed F p) gives InUse) ∷ ((Table.mostRanges ≤ length (F .ranges)) gives OutOfResource) ∷ [])
+    (((AddBits attributes → ⊥) ⊎ (lines ≢ Table.mostLines)) gives BadAttribute) ∷ rangeChecks base count (putChecks base count F)
 
 abbrev pub withRanges : Facts → List Range → Facts
 withRanges F rs =
@@ -216,13 +218,13 @@ rangeAdded F base count attributes =
 abbrev pub JustThat : Facts → ℕ → ℕ → Range → Type 0
 JustThat F base count r = (r ∈ F .ranges) × (r .base ≡ base) × (r .count ≡ count)
 
+abbrev pub takeChecks : ℕ → ℕ → Facts → List Check
+takeChecks base count F =
+    (((r : Range) → JustThat F base count r → ⊥) gives BadBase) ∷ (((r : Range) × JustThat F base count r × RangeHeld F r) gives InUse) ∷ []
+
 abbrev pub removeRangeChecks : Facts → ℕ → ℕ → ℕ → ℕ → List Check
 removeRangeChecks F base count attributes lines =
-    (((attributes ≢ 0) ⊎ (lines ≢ Table.mostLines)) gives BadAttribute)
-    ∷ rangeChecks base count
-    ((((r : Range) → JustThat F base count r → ⊥) gives BadBase)
-    ∷ (((r : Range) × JustThat F base count r × RangeHeld F r) gives InUse)
-    ∷ [])
+    (((attributes ≢ 0) ⊎ (lines ≢ Table.mostLines)) gives BadAttribute) ∷ rangeChecks base count (takeChecks base count F)
 
 -- the ranges but the one at the base
 abbrev pub withoutRange : ℕ → List Range → List Range

@@ -15,7 +15,7 @@ use Rattle.facts.specs.Table.{Facts, Range}
 use Rattle.facts.specs.Packets.{byte, withWord, withLong}
 use Rattle.facts.specs.Ports.{Within, Managed}
 use Rattle.facts.specs.Checks.{Check, _gives_, FirstGiven}
-use Rattle.facts.specs.Resources.{rangeChecks, rangeRemoved, withRanges, inserted, JustThat, RangeHeld}
+use Rattle.facts.specs.Resources.{rangeChecks, rangeRemoved, withRanges, inserted, JustThat, RangeHeld, putChecks, takeChecks}
 use Rattle.layout.specs.Layout
 use Rattle.layout.specs.Layout.{image, mark, two, four}
 use Rattle.layout.specs.Reading.{rangesIn, rangePlace, rangeIn}
@@ -34,7 +34,7 @@ use Rattle.answers.specs.Changing.{Changes}
 use Rattle.answers.proofs.Changing.{refused, made}
 use Rattle.managed_ranges.specs.declared.Named.the-variants as named
 use Rattle.managed_ranges.specs.declared.Found.the-variants.{Nowhere}
-use Rattle.managed_ranges.specs.Asked.{NamesPorts, NamedIs, FreeAt, FoundAt, FoundIs, Entered, putChecks, takeChecks, TakesRange}
+use Rattle.managed_ranges.specs.Asked.{NamesPorts, NamedIs, FreeAt, FoundAt, FoundIs, Entered, TakesRange}
 
 -- the checks that Add and Remove share, around those of their own; Bits says that the bits are right
 module _ (Bits : Type 0) (base n lines : ℕ) (own : Facts → List Check) (after : Facts → Facts) (b : List ℕ) where

@@ -4,15 +4,15 @@ use mathlib.Core.Logic.{_⊎_, _≢_}
 use mathlib.Core.List.{List, [], _∷_, _++_}
 use mathlib.Core.Bool.{Bool}
 use Prim.Native.Nat.{ℕ, _+_, _≤_, _<_}
-use lib.ListN.{length}
-use Rattle.facts.specs.declared.Code.the-variants.{BadAttribute, BadBase, InUse, OutOfResource}
+use Rattle.facts.specs.declared.Code.the-variants.{BadAttribute}
 use Rattle.facts.specs.Table
 use Rattle.facts.specs.Table.{Facts, Range}
 use Rattle.facts.specs.Sets.{_∈_}
 use Rattle.facts.specs.Choice.{Lowest}
-use Rattle.facts.specs.Ports.{Within, Managed}
-use Rattle.facts.specs.Checks.{Check, _gives_, FirstGiven}
-use Rattle.facts.specs.Resources.{addRangeChecks, removeRangeChecks, rangeChecks, rangeAdded, rangeRemoved, withRanges, inserted, JustThat, RangeHeld}
+use Rattle.facts.specs.Ports.{Within}
+use Rattle.facts.specs.Checks.{_gives_, FirstGiven}
+use Rattle.facts.specs.Resources.{addRangeChecks, removeRangeChecks, rangeChecks, rangeAdded, rangeRemoved, withRanges, inserted}
+use Rattle.facts.specs.Resources.{putChecks, takeChecks}
 use Rattle.layout.specs.Layout
 use Rattle.layout.specs.Layout.{mark, two, four}
 use Rattle.layout.specs.Reading.{rangesIn, rangePlace}
@@ -71,19 +71,11 @@ abbrev pub NamedIs : ℕ → ℕ → ℕ → Named → Type 0
 NamedIs base n lines (named.Ports x y) = NamesPorts base n lines x y
 NamedIs base n lines (named.Wrong k) = FirstGiven (((lines ≢ Table.mostLines) gives BadAttribute) ∷ rangeChecks base n []) k
 
--- the checks of its own that Add makes of ports, and Remove; and what they leave
-abbrev pub putChecks : ℕ → ℕ → Facts → List Check
-putChecks base n F =
-    (((p : ℕ) × Within p base n × Managed F p) gives InUse) ∷ ((Table.mostRanges ≤ length (F .ranges)) gives OutOfResource) ∷ []
-
+-- Add's and Remove's own checks of the ports, and what they leave
 abbrev pub PutsRange : ℕ → ℕ → ℕ → List ℕ → List ℕ → Change → Type 0
 PutsRange base n m b b′ c =
     (t : Bool) → m ≡ mark t
     → Changes (putChecks base n) (λ (F : Facts). withRanges F (inserted (record { base = base; count = n; reserved = t }) (F .ranges))) b b′ c
-
-abbrev pub takeChecks : ℕ → ℕ → Facts → List Check
-takeChecks base n F =
-    (((r : Range) → JustThat F base n r → ⊥) gives BadBase) ∷ (((r : Range) × JustThat F base n r × RangeHeld F r) gives InUse) ∷ []
 
 abbrev pub TakesRange : ℕ → ℕ → List ℕ → List ℕ → Change → Type 0
 TakesRange base n = Changes (takeChecks base n) (λ (F : Facts). rangeRemoved F base)

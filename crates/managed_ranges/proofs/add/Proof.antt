@@ -9,10 +9,10 @@ use lib.Dec.{eqb}
 use denote.Ref.{now}
 use Rattle.facts.specs.declared.Asked.{Asked}
 use Rattle.facts.specs.Table.{Facts}
-use Rattle.facts.specs.Resources.{AddBits, reserveBit, rangeAdded}
+use Rattle.facts.specs.Resources.{AddBits, reserveBit, rangeAdded, putChecks}
 use Rattle.answers.specs.declared.Reserve.the-variants.{Mark}
 use Rattle.answers.specs.Answers.{ReserveIs}
-use Rattle.managed_ranges.specs.Asked.{NamesPorts, NamedIs, PutsRange, putChecks}
+use Rattle.managed_ranges.specs.Asked.{NamesPorts, NamedIs, PutsRange}
 use Rattle.managed_ranges.proofs.Ends.{bits-wrong, ports-wrong, own-change}
 use Rattle.managed_ranges.proofs.add.Statement.{statement}
 use Rattle.managed_ranges.proofs.add.Tie as tie

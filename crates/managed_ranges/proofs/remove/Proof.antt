@@ -7,9 +7,9 @@ use borrow.Author.Needs.{needs}
 use denote.Ref.{now}
 use Rattle.facts.specs.declared.Asked.{Asked}
 use Rattle.facts.specs.Table.{Facts}
-use Rattle.facts.specs.Resources.{rangeRemoved}
+use Rattle.facts.specs.Resources.{rangeRemoved, takeChecks}
 use Rattle.answers.specs.Answers.{BitsAre}
-use Rattle.managed_ranges.specs.Asked.{NamesPorts, NamedIs, TakesRange, takeChecks}
+use Rattle.managed_ranges.specs.Asked.{NamesPorts, NamedIs, TakesRange}
 use Rattle.managed_ranges.proofs.Ends.{bits-wrong, ports-wrong, own-change}
 use Rattle.managed_ranges.proofs.remove.Statement.{statement}
 use Rattle.managed_ranges.proofs.remove.Tie as tie
