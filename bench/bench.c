@@ -2,10 +2,12 @@
  * bench.c: what a call costs
  *
  * Times, in one run and interleaved, the median of many repetitions of each
- * call on four tables, beside memcmp of as many bytes, beside a call that is
+ * call on six tables, beside memcmp of as many bytes, beside a call that is
  * refused on the same table and beside model_read, the same check of the table
  * in plain C. A boot list needs a fresh table each time: what is timed is
- * cs_fresh and cs_boot, and cs_fresh's own time is taken off.
+ * cs_fresh and cs_boot, and cs_fresh's own time is taken off. A granted IRQ or
+ * mask call changes some bytes, which are put back before the next: what is
+ * timed is the call and the copy of those bytes.
  */
 #define _XOPEN_SOURCE 700
 
@@ -100,6 +102,99 @@ static void level_pair(void)
                CS_CODE(adjust_irq(CS_ACTION_ADD, levels - 1));
 }
 
+/* ---- IRQ grants and masks: the last client asks, at the last socket ---- */
+
+enum { LAST_SOCKET = CS_SOCKETS - 1, LAST_LEVEL = CS_LEVELS - 1 };
+
+/* A request that fits, and one that doesn't. */
+struct wish {
+    uint16_t attributes, named;
+};
+static uint16_t last_client;    /* of the table laid out */
+static struct wish fits, never; /* these too */
+
+static uint32_t request_irq(uint16_t client, struct wish wish)
+{
+    uint8_t packet[CS_REQUEST_IRQ_LENGTH] = {LAST_SOCKET, 0, (uint8_t)wish.attributes};
+    packet[5] = CS_IRQ_INFO_SHARE | CS_IRQ_INFO_LEVEL | CS_IRQ_INFO_MASK;
+    packet[6] = (uint8_t)wish.named;
+    packet[7] = (uint8_t)(wish.named >> 8);
+    return CS_CODE(cs_call(table, sizeof table, CS_REQUEST_IRQ, client, packet, sizeof packet));
+}
+
+static uint32_t release_irq(uint16_t attributes)
+{
+    uint8_t packet[CS_RELEASE_IRQ_LENGTH] = {LAST_SOCKET, 0, (uint8_t)attributes, 0, LAST_LEVEL};
+    return CS_CODE(
+        cs_call(table, sizeof table, CS_RELEASE_IRQ, last_client, packet, sizeof packet));
+}
+
+static uint32_t request_mask(void)
+{
+    uint8_t packet[CS_REQUEST_SOCKET_MASK_LENGTH] = {LAST_SOCKET, 0, 0xFF, 0x0F};
+    return CS_CODE(
+        cs_call(table, sizeof table, CS_REQUEST_SOCKET_MASK, last_client, packet, sizeof packet));
+}
+
+static uint32_t release_mask(void)
+{
+    uint8_t packet[CS_RELEASE_SOCKET_MASK_LENGTH] = {LAST_SOCKET, 0};
+    return CS_CODE(
+        cs_call(table, sizeof table, CS_RELEASE_SOCKET_MASK, last_client, packet, sizeof packet));
+}
+
+/* What a granted call changed, as it was; a refused one changed nothing. */
+static void put_irq_back(void)
+{
+    size_t at = AT_IRQ + IRQ_SIZE * LAST_SOCKET;
+    memcpy(table + at, other + at, IRQ_SIZE);
+}
+
+static void put_mask_back(void)
+{
+    size_t at = AT_CLIENTS + CLIENT_SIZE * (last_client - 1u) + CLIENT_MASKS + 2 * LAST_SOCKET;
+    memcpy(table + at, other + at, 2);
+}
+
+static void bad_handle(void)
+{
+    answered = request_irq((uint16_t)(last_client + 1), fits);
+}
+
+static void ask_irq(void)
+{
+    answered = request_irq(last_client, fits);
+    put_irq_back();
+}
+
+static void ask_irq_that_never_fits(void)
+{
+    answered = request_irq(last_client, never);
+}
+
+static void give_irq_back(void)
+{
+    answered = release_irq(fits.attributes);
+    put_irq_back();
+}
+
+static void give_another_type_back(void)
+{
+    answered = release_irq(CS_IRQ_TIME_MULTIPLEXED);
+}
+
+static void ask_mask(void)
+{
+    answered = request_mask();
+    put_mask_back();
+}
+
+static void give_mask_back(void)
+{
+    answered = release_mask();
+    put_mask_back();
+}
+
 /* ---- Boot lists of all levels and as many ranges as can be ---- */
 
 enum { IN_ORDER, MIXED, DESCENDING, LISTS };
@@ -180,37 +275,64 @@ static void memcmp_8192(void)
 
 /* ---- What is timed on which tables ---- */
 
-enum { FRESH, SIXTEEN_CLIENTS, ONE_RANGE, FULL, TABLES };
-enum { EVERYWHERE = (1 << TABLES) - 1, MANAGED = 1 << ONE_RANGE | 1 << FULL, BOOTED = 1 << FRESH };
+enum { FRESH, SIXTEEN_CLIENTS, ONE_RANGE, FULL, ONE_HOLDER, ALL_HELD, TABLES };
+enum {
+    EVERYWHERE = (1 << TABLES) - 1,
+    MANAGED = 1 << ONE_RANGE | 1 << FULL,
+    BOOTED = 1 << FRESH,
+    HELD = 1 << ONE_HOLDER | 1 << ALL_HELD,
+    NOT_HELD = EVERYWHERE & ~HELD
+};
+
+/* The first rows, which others are held against. */
+enum { MEMCMP, REFUSED, FRESH_CALL, BAD_HANDLE, BAD_HANDLE_A_PLACE_FREE };
 
 static const struct call {
     const char *name;
     void (*once)(void);
     unsigned calls;
-    bool full;       /* on the table without a place for a client */
-    unsigned on;     /* which tables */
-    uint32_t answer; /* what it has to answer, or another thing was timed */
-    double bar;      /* at most so many times REFUSED; 0 for none */
+    bool full;        /* on the table without a place for what may be asked */
+    unsigned on;      /* which tables */
+    uint32_t answer;  /* what it has to answer, or another thing was timed */
+    double bar;       /* at most so many times another row; 0 for none */
+    unsigned against; /* that row */
 } calls[] = {
-    {"memcmp of 8,192 equal bytes", memcmp_8192, 1, true, EVERYWHERE, 0, 0},
+    {"memcmp of 8,192 equal bytes", memcmp_8192, 1, true, EVERYWHERE, 0, 0, 0},
     {"RegisterClient refused with OUT_OF_RESOURCE", refused, 1, true, EVERYWHERE,
-     CS_OUT_OF_RESOURCE, 0},
-    {"cs_fresh", fresh, 1, true, BOOTED, CS_SUCCESS, 0},
-    {"RegisterClient, DeregisterClient, a place free", pair, 2, false, EVERYWHERE, CS_SUCCESS, 0},
-    {"cs_card_in", card_in, 1, true, EVERYWHERE, CS_SUCCESS, 0},
-    {"cs_sharers", sharers, 1, true, EVERYWHERE, CS_SUCCESS, 0},
-    {"First range", first_range, 1, true, MANAGED, CS_SUCCESS, 1.2},
-    {"Next range, the last", next_range, 1, true, MANAGED, CS_SUCCESS, 1.2},
-    {"First level", first_level, 1, true, MANAGED, CS_SUCCESS, 1.2},
-    {"Next level, the last", next_level, 1, true, MANAGED, CS_SUCCESS, 1.2},
-    {"Remove, Add of a range", range_pair, 2, true, MANAGED, CS_SUCCESS, 0},
-    {"Remove, Add of a level", level_pair, 2, true, MANAGED, CS_SUCCESS, 0},
-    {"boot list of 48 in order", boot_in_order, 1, true, BOOTED, CS_SUCCESS, 12},
-    {"boot list of 48, mixed", boot_mixed, 1, true, BOOTED, CS_SUCCESS, 12},
-    {"boot list of 48, descending", boot_descending, 1, true, BOOTED, CS_SUCCESS, 12},
-    {"plain C: the table read and checked", plain_c, 1, true, EVERYWHERE, CS_SUCCESS, 0},
+     CS_OUT_OF_RESOURCE, 0, 0},
+    {"cs_fresh", fresh, 1, true, BOOTED, CS_SUCCESS, 0, 0},
+    {"RequestIRQ refused with BAD_HANDLE", bad_handle, 1, true, HELD, CS_BAD_HANDLE, 0, 0},
+    {"RequestIRQ refused with BAD_HANDLE, a place free", bad_handle, 1, false, HELD, CS_BAD_HANDLE,
+     0, 0},
+    {"RegisterClient, DeregisterClient, a place free", pair, 2, false, NOT_HELD, CS_SUCCESS, 0, 0},
+    {"cs_card_in", card_in, 1, true, EVERYWHERE, CS_SUCCESS, 0, 0},
+    {"cs_sharers", sharers, 1, true, EVERYWHERE, CS_SUCCESS, 0, 0},
+    {"First range", first_range, 1, true, MANAGED, CS_SUCCESS, 1.2, REFUSED},
+    {"Next range, the last", next_range, 1, true, MANAGED, CS_SUCCESS, 1.2, REFUSED},
+    {"First level", first_level, 1, true, MANAGED, CS_SUCCESS, 1.2, REFUSED},
+    {"Next level, the last", next_level, 1, true, MANAGED, CS_SUCCESS, 1.2, REFUSED},
+    {"Remove, Add of a range", range_pair, 2, true, MANAGED, CS_SUCCESS, 0, 0},
+    {"Remove, Add of a level", level_pair, 2, true, MANAGED, CS_SUCCESS, 0, 0},
+    {"RequestIRQ", ask_irq, 1, false, HELD, CS_SUCCESS, 1.2, BAD_HANDLE_A_PLACE_FREE},
+    {"RequestIRQ refused with BAD_IRQ", ask_irq_that_never_fits, 1, false, HELD, CS_BAD_IRQ, 1.2,
+     BAD_HANDLE_A_PLACE_FREE},
+    {"RequestIRQ refused with IN_USE", ask_irq, 1, true, HELD, CS_IN_USE, 1.2, BAD_HANDLE},
+    {"ReleaseIRQ", give_irq_back, 1, true, HELD, CS_SUCCESS, 1.2, BAD_HANDLE},
+    {"ReleaseIRQ refused with BAD_IRQ", give_irq_back, 1, false, HELD, CS_BAD_IRQ, 1.2,
+     BAD_HANDLE_A_PLACE_FREE},
+    {"ReleaseIRQ refused with BAD_ATTRIBUTE", give_another_type_back, 1, true, HELD,
+     CS_BAD_ATTRIBUTE, 1.2, BAD_HANDLE},
+    {"RequestSocketMask", ask_mask, 1, false, HELD, CS_SUCCESS, 1.2, BAD_HANDLE_A_PLACE_FREE},
+    {"RequestSocketMask refused with IN_USE", ask_mask, 1, true, HELD, CS_IN_USE, 1.2, BAD_HANDLE},
+    {"ReleaseSocketMask", give_mask_back, 1, true, HELD, CS_SUCCESS, 1.2, BAD_HANDLE},
+    {"ReleaseSocketMask refused with BAD_SOCKET", give_mask_back, 1, false, HELD, CS_BAD_SOCKET,
+     1.2, BAD_HANDLE_A_PLACE_FREE},
+    {"boot list of 48 in order", boot_in_order, 1, true, BOOTED, CS_SUCCESS, 12, REFUSED},
+    {"boot list of 48, mixed", boot_mixed, 1, true, BOOTED, CS_SUCCESS, 12, REFUSED},
+    {"boot list of 48, descending", boot_descending, 1, true, BOOTED, CS_SUCCESS, 12, REFUSED},
+    {"plain C: the table read and checked", plain_c, 1, true, EVERYWHERE, CS_SUCCESS, 0, 0},
 };
-enum { MEMCMP, REFUSED, FRESH_CALL, CALLS = sizeof calls / sizeof *calls };
+enum { CALLS = sizeof calls / sizeof *calls };
 
 static bool timed_on(unsigned which, unsigned call)
 {
@@ -222,9 +344,11 @@ static bool after_fresh(unsigned call)
     return calls[call].on == BOOTED && call != FRESH_CALL;
 }
 
-/* ---- The tables, without a place for a client and with one ---- */
+/* ---- The tables, without a place for a client, and on the last two for a grant
+   and a mask of the last socket; and with one ---- */
 
-static const char *const table_names[TABLES] = {"fresh", "16 clients", "one range", "full"};
+static const char *const table_names[TABLES] = {"fresh", "16 clients", "one range",
+                                                "full",  "one holder", "all held"};
 static uint8_t images[TABLES][2][CS_TABLE_SIZE];
 
 static void only_clients(struct model *m, unsigned clients)
@@ -233,6 +357,37 @@ static void only_clients(struct model *m, unsigned clients)
     m->clients = m->issued = clients;
     for (unsigned i = 0; i < clients; i++)
         m->client[i] = (struct client){.handle = (uint16_t)(i + 1), .attributes = CS_IO_CLIENT};
+}
+
+/* All sockets have a card, a grant and a mask of the last client; but for the
+   last socket, if there is to be a place. */
+static void give_to_last(struct model *m, bool full, uint8_t manner)
+{
+    struct client *last = &m->client[m->clients - 1];
+    for (unsigned s = 0; s < CS_SOCKETS; s++) {
+        bool hold = full || s < LAST_SOCKET;
+        uint8_t level = (uint8_t)(manner == EXCLUSIVE ? LAST_LEVEL - LAST_SOCKET + s : LAST_LEVEL);
+        m->card[s] = true;
+        m->irq[s] = (struct irq_grant){hold, last->handle, level, manner};
+        last->masks[s] = (struct mask){hold, 0};
+    }
+}
+
+/* One client, which shares the last level with itself; and a full table whose
+   last client has the last eight levels. All levels are managed, the odd ones
+   reserved. */
+static void make_held(bool full)
+{
+    static struct model m;
+    only_clients(&m, 1);
+    m.issued = full ? CS_HANDLES : 1;
+    for (unsigned level = 0; level < CS_LEVELS; level++)
+        m.level[level] = (struct level){true, level % 2 == 1};
+    give_to_last(&m, full, DYNAMIC_LEVEL);
+    model_image(&m, images[ONE_HOLDER][full]);
+    full_set(&m, CS_CLIENTS);
+    give_to_last(&m, full, EXCLUSIVE);
+    model_image(&m, images[ALL_HELD][full]);
 }
 
 static void make_tables(void)
@@ -250,6 +405,7 @@ static void make_tables(void)
         model_image(&m, images[SIXTEEN_CLIENTS][full]);
         full_set(&m, clients);
         model_image(&m, images[FULL][full]);
+        make_held(full);
     }
 }
 
@@ -259,6 +415,11 @@ static void lay_out(unsigned which, const struct call *call)
     memcpy(other, table, sizeof other);
     ranges = which == FULL ? CS_RANGES : 1;
     levels = which == FULL ? CS_LEVELS : 2;
+    last_client = which == ALL_HELD ? CS_CLIENTS : 1;
+    fits = which == ALL_HELD ? (struct wish){CS_IRQ_EXCLUSIVE, 0xFF00}
+                             : (struct wish){CS_IRQ_DYNAMIC, 0x8000};
+    never = which == ALL_HELD ? (struct wish){CS_IRQ_DYNAMIC, 0x7F00}
+                              : (struct wish){CS_IRQ_DYNAMIC | CS_IRQ_FIRST_SHARED, 0x8000};
 }
 
 /* ---- Time ---- */
@@ -310,19 +471,20 @@ static void take_samples(void)
                     samples[which][i][r] = time_batch(which, &calls[i]);
 }
 
-static void print_bar(double ratio, double bar)
+static void print_bar(const struct call *call, double taken, const double *medians)
 {
-    if (bar > 0)
-        printf("  at most %.1f x refused: %s", bar, ratio <= bar ? "met" : "NOT MET");
+    if (call->bar > 0)
+        printf("  at most %.1f x %s: %s", call->bar,
+               call->against == REFUSED ? "refused" : "bad handle",
+               taken / medians[call->against] <= call->bar ? "met" : "NOT MET");
 }
 
 static void print_row(unsigned which, unsigned call, const double *medians)
 {
     double taken = medians[call] - (after_fresh(call) ? medians[FRESH_CALL] : 0);
-    double ratio = taken / medians[REFUSED];
-    printf("%-10s  %-46s %8.2f x memcmp %6.2f x refused %9.0f ns", table_names[which],
-           calls[call].name, taken / medians[MEMCMP], ratio, taken);
-    print_bar(ratio, calls[call].bar);
+    printf("%-10s  %-48s %8.2f x memcmp %6.2f x refused %9.0f ns", table_names[which],
+           calls[call].name, taken / medians[MEMCMP], taken / medians[REFUSED], taken);
+    print_bar(&calls[call], taken, medians);
     printf("\n");
 }
 

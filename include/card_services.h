@@ -92,12 +92,8 @@
  *    checked and kept, and the keeper does nothing else with them.
  *  - Services that cs_call answers with CS_UNSUPPORTED_SERVICE, although the
  *    keeper is to have them:
- *      RequestIRQ         20H
- *      ReleaseIRQ         1CH
- *      RequestIO          1FH
- *      ReleaseIO          1BH
- *      RequestSocketMask  22H
- *      ReleaseSocketMask  2FH
+ *      RequestIO  1FH
+ *      ReleaseIO  1BH
  *
  * Example
  * -------
@@ -113,6 +109,7 @@
  *   int main(void)
  *   {
  *       uint8_t packet[CS_REGISTER_CLIENT_LENGTH] = {0};
+ *       uint8_t irq[CS_REQUEST_IRQ_LENGTH] = {0};
  *       uint16_t events = CS_EVENT_CARD_DETECT_CHANGE | CS_EVENT_RESET;
  *       uint64_t booted;
  *       uint32_t answer;
@@ -134,6 +131,17 @@
  *       if (CS_CODE(answer) != CS_SUCCESS)
  *           return 1;
  *       client = CS_HANDLE(answer);
+ *
+ *       irq[2] = CS_IRQ_DYNAMIC;
+ *       irq[5] = CS_IRQ_INFO_SHARE | CS_IRQ_INFO_LEVEL | 5;
+ *       answer = cs_call(table, sizeof table, CS_REQUEST_IRQ, client,
+ *                        irq, sizeof irq);
+ *       if (CS_CODE(answer) != CS_SUCCESS || irq[4] != 5)
+ *           return 1;
+ *       answer = cs_call(table, sizeof table, CS_RELEASE_IRQ, client,
+ *                        irq, CS_RELEASE_IRQ_LENGTH);
+ *       if (CS_CODE(answer) != CS_SUCCESS)
+ *           return 1;
  *
  *       answer = cs_call(table, sizeof table, CS_DEREGISTER_CLIENT, client,
  *                        NULL, CS_DEREGISTER_CLIENT_LENGTH);
@@ -483,6 +491,138 @@ uint32_t cs_call(uint8_t *table, size_t len, uint16_t service, uint16_t handle,
 #define CS_IRQ_EXCLUSIVE 0
 #define CS_IRQ_TIME_MULTIPLEXED 1
 #define CS_IRQ_DYNAMIC 2
+
+/*
+ * RequestIRQ (5.53): a socket's IRQ grant, one level in one manner
+ *
+ * Packet, 8 bytes:
+ *   0  socket, 1 byte
+ *   1  function, 1 byte: 0
+ *   2  attributes, 2 bytes
+ *        bits 0 and 1, CS_IRQ_TYPE: CS_IRQ_EXCLUSIVE, CS_IRQ_TIME_MULTIPLEXED
+ *               or CS_IRQ_DYNAMIC; 3 is reserved
+ *        bit 2  CS_IRQ_FORCE_PULSE      dynamic sharing by pulse also where
+ *                                       the card has Level
+ *        bit 3  CS_IRQ_FIRST_SHARED     a level that has no grant yet
+ *        bit 8  CS_IRQ_PULSE_ALLOCATED  written; set in a request it is
+ *                                       refused as a reserved bit
+ *        bits 4 to 7 and 9 to 15 reserved, ISRAddressProvided (bit 4) too:
+ *        there is no Pointer argument
+ *   4  AssignedIRQ, 1 byte: written, and not looked at
+ *   5  IRQInfo1, 1 byte: what the card can do, and which levels are named
+ *        bits 0 to 3  CS_IRQ_INFO_LEVEL_NUMBER  the level, if Mask is clear
+ *        bit 4        CS_IRQ_INFO_MASK          Mask: IRQInfo2 names levels
+ *        bit 5        CS_IRQ_INFO_LEVEL         Level
+ *        bit 6        CS_IRQ_INFO_PULSE         Pulse
+ *        bit 7        CS_IRQ_INFO_SHARE         Share
+ *   6  IRQInfo2, 2 bytes: bit n names level n; ignored if Mask is clear
+ *
+ * A grant's manner is exclusive, time-multiplexed, dynamic level or dynamic
+ * pulse. Dynamic sharing is dynamic pulse if CS_IRQ_FORCE_PULSE is set or the
+ * card lacks Level, else dynamic level; CS_IRQ_FORCE_PULSE has no effect on
+ * the two other types.
+ *
+ * A level fits if it is named and managed, and either has no grant or, without
+ * CS_IRQ_FIRST_SHARED, all of its grants have this same manner and that is not
+ * the exclusive one. Checks:
+ *  3. packet_len is not CS_REQUEST_IRQ_LENGTH: CS_BAD_ARG_LENGTH
+ *  4. handle is not a live client's: CS_BAD_HANDLE
+ *  5. socket not below the table's count, or function not 0: CS_BAD_SOCKET
+ *  6. no card in the socket: CS_NO_CARD
+ *  7. type 3, a reserved attribute bit, CS_IRQ_FIRST_SHARED with
+ *     CS_IRQ_EXCLUSIVE, CS_IRQ_FORCE_PULSE without Pulse, or CS_IRQ_DYNAMIC
+ *     without Share: CS_BAD_ATTRIBUTE
+ *  8. neither Level nor Pulse, or Mask with any of IRQInfo1's bits 0 to 3, or
+ *     Mask with an IRQInfo2 of 0: CS_BAD_ARGS
+ *  9. the socket has an IRQ grant, whoever holds it: CS_IN_USE
+ * 10. no level fits: CS_BAD_IRQ
+ *
+ * The level granted is one that fits: an unreserved one before a reserved one,
+ * then the lowest. Writes the grant (client, level, manner); into the packet
+ * AssignedIRQ and, for dynamic pulse alone, CS_IRQ_PULSE_ALLOCATED. Answers
+ * the handle given. cs_card_out takes no grant away.
+ *
+ * The packet's first CS_RELEASE_IRQ_LENGTH bytes, as they are left, are the
+ * packet that releases the grant.
+ */
+#define CS_REQUEST_IRQ 0x20
+#define CS_REQUEST_IRQ_LENGTH 8
+
+#define CS_IRQ_FORCE_PULSE 0x0004
+#define CS_IRQ_FIRST_SHARED 0x0008
+#define CS_IRQ_PULSE_ALLOCATED 0x0100
+
+#define CS_IRQ_INFO_LEVEL_NUMBER 0x0F
+#define CS_IRQ_INFO_MASK 0x10
+#define CS_IRQ_INFO_LEVEL 0x20
+#define CS_IRQ_INFO_PULSE 0x40
+#define CS_IRQ_INFO_SHARE 0x80
+
+/*
+ * ReleaseIRQ (5.45): a socket's IRQ grant is given back
+ *
+ * Packet, 5 bytes:
+ *   0  socket, 1 byte
+ *   1  function, 1 byte: 0
+ *   2  attributes, 2 bytes: CS_IRQ_TYPE as it was requested; the other bits
+ *      are ignored
+ *   4  AssignedIRQ, 1 byte: the level granted
+ *
+ * Needs no card. Checks:
+ *  3. packet_len is not CS_RELEASE_IRQ_LENGTH: CS_BAD_ARG_LENGTH
+ *  4. handle is not a live client's: CS_BAD_HANDLE
+ *  5. socket not below the table's count, or function not 0: CS_BAD_SOCKET
+ *  6. this client does not hold this level on this socket: CS_BAD_IRQ
+ *  7. the type is not the grant's: CS_BAD_ATTRIBUTE. Of dynamic level and
+ *     dynamic pulse it is CS_IRQ_DYNAMIC
+ *
+ * Takes the grant away; the packet stays as it is. Answers the handle given.
+ */
+#define CS_RELEASE_IRQ 0x1C
+#define CS_RELEASE_IRQ_LENGTH 5
+
+/*
+ * RequestSocketMask (5.54): a client's event mask for one socket
+ *
+ * Packet, 4 bytes:
+ *   0  socket, 1 byte
+ *   1  function, 1 byte: 0
+ *   2  event mask, 2 bytes
+ *        bits 0 to 11  any of CS_EVENT_..., or none: a mask of 0 is a mask
+ *        bits 12 to 15 reserved
+ *
+ * Checks:
+ *  3. packet_len is not CS_REQUEST_SOCKET_MASK_LENGTH: CS_BAD_ARG_LENGTH
+ *  4. handle is not a live client's: CS_BAD_HANDLE
+ *  5. socket not below the table's count, or function not 0: CS_BAD_SOCKET
+ *  6. no card in the socket: CS_NO_CARD
+ *  7. a reserved event mask bit: CS_BAD_ATTRIBUTE
+ *  8. the client has a mask for this socket: CS_IN_USE
+ *
+ * Writes the mask; the packet stays as it is. Answers the handle given. Each
+ * client may have one for each socket, beside the mask that it registered
+ * with. cs_card_out takes no mask away.
+ */
+#define CS_REQUEST_SOCKET_MASK 0x22
+#define CS_REQUEST_SOCKET_MASK_LENGTH 4
+
+/*
+ * ReleaseSocketMask (5.46): a client's event mask for one socket is given back
+ *
+ * Packet, 2 bytes:
+ *   0  socket, 1 byte
+ *   1  function, 1 byte: 0
+ *
+ * Needs no card. Checks:
+ *  3. packet_len is not CS_RELEASE_SOCKET_MASK_LENGTH: CS_BAD_ARG_LENGTH
+ *  4. handle is not a live client's: CS_BAD_HANDLE
+ *  5. socket not below the table's count, or function not 0: CS_BAD_SOCKET
+ *  6. the client has no mask for this socket: CS_BAD_SOCKET
+ *
+ * Takes the mask away; the packet stays as it is. Answers the handle given.
+ */
+#define CS_RELEASE_SOCKET_MASK 0x2F
+#define CS_RELEASE_SOCKET_MASK_LENGTH 2
 
 #ifdef __cplusplus
 }

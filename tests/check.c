@@ -9,14 +9,17 @@
 
 /* The services that the archive has so far: a landing adds its own here. All
    others are to be answered with UNSUPPORTED_SERVICE. */
-static const uint16_t built[] = {CS_REGISTER_CLIENT, CS_DEREGISTER_CLIENT, CS_ADJUST_RESOURCE_INFO};
+static const uint16_t built[] = {
+    CS_REGISTER_CLIENT, CS_DEREGISTER_CLIENT,   CS_ADJUST_RESOURCE_INFO, CS_REQUEST_IRQ,
+    CS_RELEASE_IRQ,     CS_REQUEST_SOCKET_MASK, CS_RELEASE_SOCKET_MASK};
 
 /* ---- Counting and reporting ---- */
 
-enum { MOST_REPORTS = 40, MOST_PRINTED = 32, CODES = 256 };
+enum { MOST_REPORTS = 40, MOST_PRINTED = 32, CODES = 256, NUMBERED = 256 };
 
 static const char *running = "";
 static unsigned long checks, differ, seen[CODES];
+static unsigned long seen_of[NUMBERED][CODES]; /* of cs_call, by service */
 static char description[200];
 
 /* Counts a difference; says whether it is still to be printed. */
@@ -94,6 +97,11 @@ unsigned long answered(uint32_t code)
     return seen[code];
 }
 
+unsigned long answered_to(uint16_t service, uint32_t code)
+{
+    return seen_of[service][code];
+}
+
 unsigned services_built(void)
 {
     return sizeof built / sizeof *built;
@@ -113,6 +121,7 @@ void run_group(const char *name, void (*group)(void), unsigned long least)
     running = name;
     description[0] = 0;
     memset(seen, 0, sizeof seen);
+    memset(seen_of, 0, sizeof seen_of);
     group();
     unsigned long made = checks - checks_before;
     printf("compare: %s: %lu checks, %lu differ\n", name, made, differ - differ_before);
@@ -309,12 +318,19 @@ static bool all_as_expected(struct answer expected, struct answer got)
     return same_answer(expected, got) && as_it_should(&table) && as_it_should(&packet);
 }
 
+static void count_answer(const struct question *q, uint32_t code)
+{
+    seen[code]++;
+    if (q->service >= 0 && q->service < NUMBERED)
+        seen_of[q->service][code]++;
+}
+
 /* After a difference table and packet are set right, so that the next question
    starts from what should be. */
 static void compare_all(const struct question *q, struct answer expected, struct answer got)
 {
     checks++;
-    seen[got.code % CODES]++;
+    count_answer(q, got.code % CODES);
     if (all_as_expected(expected, got))
         return;
     if (reports()) {
@@ -398,6 +414,12 @@ uint32_t register_one(void)
     static const uint8_t packet[CS_REGISTER_CLIENT_LENGTH] = {CS_IO_CLIENT, 0,
                                                               CS_EVENT_CARD_DETECT_CHANGE};
     return ask_call(CS_REGISTER_CLIENT, 0, packet, sizeof packet);
+}
+
+uint32_t deregister(uint16_t handle)
+{
+    static const uint8_t empty[1];
+    return ask_call(CS_DEREGISTER_CLIENT, handle, empty, CS_DEREGISTER_CLIENT_LENGTH);
 }
 
 /* A refusal writes the image too: "earlier ones stay". */

@@ -35,8 +35,9 @@ uint32_t ask_sharers(uint32_t level);
 /* A packet of NULL is passed on as NULL. */
 uint32_t ask_call(uint16_t service, uint16_t handle, const uint8_t *packet, size_t len);
 
-/* RegisterClient with a packet that it accepts. */
+/* RegisterClient with a packet that it accepts; DeregisterClient. */
 uint32_t register_one(void);
+uint32_t deregister(uint16_t handle);
 
 /* A boot list of NULL is passed on as NULL. */
 uint64_t ask_boot(const uint8_t *records, size_t len);
@@ -51,6 +52,9 @@ void table_must_have(size_t at, const uint8_t *expected, size_t len);
 
 /* How often the archive answered this code in the running group. */
 unsigned long answered(uint32_t code);
+
+/* The same, to calls of this service, whose number is below 256. */
+unsigned long answered_to(uint16_t service, uint32_t code);
 
 /* Something else that has to hold. */
 void must_hold(const char *what, bool holds);

@@ -61,9 +61,55 @@ void boot_far_too_long(void);
 void boot_beside_grants(void);
 void boot_unformed(void);
 
+/* compare_sockets.c: what the services that name a socket share, and the order
+   of their checks */
+void packet_lengths(void);
+void packet_handles(void);
+void stale_handles(void);
+void others_holdings(void);
+void packet_sockets(void);
+void cards_between(void);
+void empty_sockets(void);
+void request_irq_order(void);
+void release_irq_order(void);
+void request_mask_order(void);
+void release_mask_order(void);
+
+/* compare_irq.c: RequestIRQ and ReleaseIRQ */
+void irq_attributes(void);
+void irq_attributes_reserved(void);
+void irq_fields_ignored(void);
+void irq_levels_named(void);
+void irq_choice_of_two(void);
+void irq_choice_of_many(void);
+void irq_joining(void);
+void irq_each_manner(void);
+void irq_sharers(void);
+void release_attributes(void);
+void release_of_others(void);
+void release_by_low_bytes(void);
+void irq_every_place(void);
+void irq_every_socket(void);
+void irq_keeps_its_client(void);
+void irq_two_of_a_client(void);
+void irq_keeps_its_level(void);
+void irq_cases(void);
+void irq_bytes(void);
+void irq_full_table(void);
+
+/* compare_masks.c: RequestSocketMask and ReleaseSocketMask */
+void mask_events(void);
+void mask_of_no_event(void);
+void masks_of_all(void);
+void masks_of_one(void);
+void masks_move(void);
+void masks_of_a_full_table(void);
+void masks_beside_grants(void);
+
 /* compare_runs.c: many questions by chance, one after the other */
 void runs_from_fresh(void);
 void runs_from_sets(void);
+void runs_of_sockets(void);
 
 /* compare_tables.c: which bytes are a table */
 void written_sets(void);

@@ -5,6 +5,7 @@
 #include "layout.h"
 #include "resources.h"
 #include "sets.h"
+#include "sockets.h"
 
 /* ---- Short ways to ask ---- */
 
@@ -13,12 +14,6 @@ static uint32_t register_with(uint16_t attributes, uint16_t events)
     uint8_t packet[CS_REGISTER_CLIENT_LENGTH] = {(uint8_t)attributes, (uint8_t)(attributes >> 8),
                                                  (uint8_t)events, (uint8_t)(events >> 8)};
     return ask_call(CS_REGISTER_CLIENT, 0, packet, sizeof packet);
-}
-
-static uint32_t deregister(uint16_t handle)
-{
-    static const uint8_t empty[1];
-    return ask_call(CS_DEREGISTER_CLIENT, handle, empty, 0);
 }
 
 /* ---- The table ---- */
@@ -75,6 +70,10 @@ void table_lengths(void)
             must_be(register_one(), code, good ? CS_CLIENTS : 0);
             must_be(remove_level(CS_LEVELS - 1), code, good ? GIVEN : 0);
             must_boot(ask_boot(level_15, sizeof level_15), code, good ? 1 : 0);
+            must_be(release_irq(8, 7, 2, 3), code, good ? 8 : 0);
+            must_be(request_irq(1, 7, 0, 0x2F, 0), code, good ? 1 : 0);
+            must_be(release_mask(1, 7), code, good ? 1 : 0);
+            must_be(request_mask(1, 7, 0), code, good ? 1 : 0);
             must_be(ask_call(0x7777, 0, NULL, 0),
                     good ? CS_UNSUPPORTED_SERVICE : CS_GENERAL_FAILURE, 0);
         }
@@ -362,12 +361,7 @@ static void not_built_yet(void)
     static const struct {
         uint16_t service;
         size_t len;
-    } later[] = {{CS_REQUEST_IRQ, CS_REQUEST_IRQ_LENGTH},
-                 {CS_RELEASE_IRQ, CS_RELEASE_IRQ_LENGTH},
-                 {CS_REQUEST_IO, CS_REQUEST_IO_LENGTH},
-                 {CS_RELEASE_IO, CS_RELEASE_IO_LENGTH},
-                 {CS_REQUEST_SOCKET_MASK, CS_REQUEST_SOCKET_MASK_LENGTH},
-                 {CS_RELEASE_SOCKET_MASK, CS_RELEASE_SOCKET_MASK_LENGTH}};
+    } later[] = {{CS_REQUEST_IO, CS_REQUEST_IO_LENGTH}, {CS_RELEASE_IO, CS_RELEASE_IO_LENGTH}};
     static const uint8_t packet[CS_REQUEST_IO_LENGTH];
     for (size_t i = 0; i < sizeof later / sizeof *later; i++)
         must_be(ask_call(later[i].service, 1, packet, later[i].len), CS_UNSUPPORTED_SERVICE, 0);
@@ -402,6 +396,23 @@ void every_service_broken(void)
     must_hold("all are answered GENERAL_FAILURE", answered(CS_GENERAL_FAILURE) == 65536);
 }
 
+/* Asked for what a full table would do, and for what none would. */
+static void no_socket_service_answers(void)
+{
+    static const uint16_t services[] = {CS_REQUEST_IRQ, CS_RELEASE_IRQ, CS_REQUEST_SOCKET_MASK,
+                                        CS_RELEASE_SOCKET_MASK};
+    irq_refused(1, 0, 2, 0xF0, 0xFFFF, CS_GENERAL_FAILURE);
+    irq_refused(0, 0xFF, 0xFFFF, 0, 0, CS_GENERAL_FAILURE);
+    must_be(release_irq(1, 0, 2, 0), CS_GENERAL_FAILURE, 0);
+    must_be(release_irq(0, 0xFF, 0xFFFF, 0xFF), CS_GENERAL_FAILURE, 0);
+    must_be(request_mask(1, 0, 0), CS_GENERAL_FAILURE, 0);
+    must_be(request_mask(0, 0xFF, 0xFFFF), CS_GENERAL_FAILURE, 0);
+    must_be(release_mask(1, 0), CS_GENERAL_FAILURE, 0);
+    must_be(release_mask(0, 0xFF), CS_GENERAL_FAILURE, 0);
+    for (size_t i = 0; i < sizeof services / sizeof *services; i++)
+        must_be(ask_call(services[i], 1, NULL, 0), CS_GENERAL_FAILURE, 0);
+}
+
 /* "Host calls check the table first too": before a bad service, length, handle,
    socket, level or attribute. Fresh alone looks at no old byte. */
 void broken_before_anything(void)
@@ -422,6 +433,7 @@ void broken_before_anything(void)
         must_be(adjust_irq(4, 0xFF, 0xFF), CS_GENERAL_FAILURE, 0);
         must_be(adjust_io(LONG, CS_ACTION_ADD, 0, 0, 0xFF, 0), CS_GENERAL_FAILURE, 0);
         range_refused(SHORT, CS_ACTION_FIRST, 0, CS_GENERAL_FAILURE);
+        no_socket_service_answers();
         must_boot(ask_boot(NULL, 0), CS_GENERAL_FAILURE, 0);
         must_be(ask_card_in(0), CS_GENERAL_FAILURE, 0);
         must_be(ask_card_in(CS_SOCKETS), CS_GENERAL_FAILURE, 0);

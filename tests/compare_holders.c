@@ -2,17 +2,10 @@
 #include "compare.h"
 #include "resources.h"
 #include "sets.h"
+#include "sockets.h"
 
-/* Tables with live grants, which no service makes yet: they are written from
-   docs/LAYOUT.md. Eight sockets; clients 1 to 16 are live unless a test gives
-   them other handles. */
-static void no_grants(struct model *m)
-{
-    model_fresh(m, CS_SOCKETS);
-    m->clients = m->issued = CS_CLIENTS;
-    for (unsigned i = 0; i < CS_CLIENTS; i++)
-        m->client[i] = (struct client){.handle = (uint16_t)(i + 1), .attributes = CS_IO_CLIENT};
-}
+/* Tables with live grants, written from docs/LAYOUT.md: no service makes those
+   of I/O yet. */
 
 /* ---- Levels ---- */
 
@@ -30,7 +23,7 @@ static const uint8_t type_by_hand[MANNERS] = {0x80, 0x81, 0x82, 0x82};
 static void level_held_by(unsigned many, uint8_t manner)
 {
     struct model m;
-    no_grants(&m);
+    ready_set(&m, 0, 0);
     m.level[8] = m.level[10] = (struct level){true, false};
     m.level[9] = (struct level){true, many % 2 == 1};
     for (unsigned i = 0; i < many; i++)
@@ -53,7 +46,7 @@ static void level_held_by(unsigned many, uint8_t manner)
 static void level_at_both_ends(uint8_t level, unsigned socket)
 {
     struct model m;
-    no_grants(&m);
+    ready_set(&m, 0, 0);
     m.level[level] = (struct level){true, false};
     hold_level(&m, socket, 16, level, EXCLUSIVE);
     lend_set(&m);
@@ -82,7 +75,7 @@ void levels_held(void)
 static void three_holders(const uint16_t handles[3], const unsigned sockets[3])
 {
     struct model m;
-    no_grants(&m);
+    ready_set(&m, 0, 0);
     m.issued = CS_HANDLES;
     m.level[5] = (struct level){true, false};
     m.range[m.ranges++] = (struct range){0x300, 0x20, false};
@@ -117,7 +110,7 @@ void one_client_holds_all(void)
     static const uint16_t given[] = {0, 3, 7, 17, 0xFFFF};
     static const uint8_t first[CS_ADJUST_IRQ_LENGTH] = {CS_ACTION_FIRST, CS_RESOURCE_IRQ};
     struct model m;
-    no_grants(&m);
+    ready_set(&m, 0, 0);
     m.level[0] = (struct level){true, true};
     m.range[m.ranges++] = (struct range){1, 64, true};
     for (unsigned s = 0; s < CS_SOCKETS; s++) {
@@ -143,7 +136,7 @@ static void one_grant(uint16_t base, uint8_t count, bool shared, const char *hel
         {0x2F8, 8, false}, {0x300, 16, true}, {0x310, 8, false}, {0x320, 8, true}};
     struct shown shown[4];
     struct model m;
-    no_grants(&m);
+    ready_set(&m, 0, 0);
     for (unsigned i = 0; i < 4; i++) {
         bool hold = held[i] == 'h';
         m.range[m.ranges++] = ranges[i];
@@ -191,7 +184,7 @@ void ports_that_hold(void)
 void ports_at_both_ends(void)
 {
     struct model m;
-    no_grants(&m);
+    ready_set(&m, 0, 0);
     m.range[m.ranges++] = (struct range){0, 1, false};
     m.range[m.ranges++] = (struct range){1, 1, false};
     m.range[m.ranges++] = (struct range){0xFFFE, 1, false};
@@ -206,7 +199,7 @@ void ports_at_both_ends(void)
     must_be(remove_range(SHORT, 0xFFFF, 1), CS_IN_USE, 0);
     must_be(remove_range(SHORT, 0, 1), CS_SUCCESS, GIVEN);
     must_be(remove_range(SHORT, 0xFFFE, 1), CS_SUCCESS, GIVEN);
-    no_grants(&m);
+    ready_set(&m, 0, 0);
     m.range[m.ranges++] = (struct range){0, 65536, false};
     m.io[5] = (struct io_grant){true, 12, 0xFF01, 255, CS_LINES, false};
     lend_set(&m);
@@ -224,7 +217,7 @@ void sharing_holders(void)
             bool all = sharing % (1u << many) == (1u << many) - 1;
             if (sharing >> many != 0)
                 continue;
-            no_grants(&m);
+            ready_set(&m, 0, 0);
             m.range[m.ranges++] = (struct range){0x300, 0x40, false};
             m.range[m.ranges++] = (struct range){0x340, 8, false};
             for (unsigned s = 0; s < many; s++)
@@ -247,7 +240,7 @@ void images_hold_nothing(void)
 {
     for (uint8_t lines = 4; lines <= 16; lines++) {
         struct model m;
-        no_grants(&m);
+        ready_set(&m, 0, 0);
         m.range[m.ranges++] = (struct range){0x2F8, 8, false};
         m.range[m.ranges++] = (struct range){0x6F8, 8, false};
         m.io[0] = (struct io_grant){true, 3, 0x6F8, 8, lines, true};

@@ -6,6 +6,7 @@
 #include "layout.h"
 #include "resources.h"
 #include "sets.h"
+#include "sockets.h"
 
 /* ---- Every entry that looks at the table, asked for something it would do ---- */
 
@@ -17,7 +18,7 @@ static uint32_t boot_both(void)
     return CS_BOOT_CODE(answer) | CS_BOOT_PLACE(answer) << 16;
 }
 
-enum { ENTRIES = 12 };
+enum { ENTRIES = 16 };
 
 static uint32_t ask_entry(unsigned which)
 {
@@ -31,7 +32,7 @@ static uint32_t ask_entry(unsigned which)
     case 3:
         return register_one();
     case 4:
-        return ask_call(CS_DEREGISTER_CLIENT, 1, NULL, 0);
+        return deregister(1);
     case 5:
         return add_level(9);
     case 6:
@@ -44,6 +45,14 @@ static uint32_t ask_entry(unsigned which)
         return remove_range(LONG, 0x7000, 1);
     case 10:
         return adjust_io(LONG, CS_ACTION_NEXT, 0, 0, 0, 0);
+    case 11:
+        return request_irq(1, 0, 2, 0xB0, 0xFFFF);
+    case 12:
+        return release_irq(1, 0, 2, 0);
+    case 13:
+        return request_mask(1, 0, 0);
+    case 14:
+        return release_mask(1, 0);
     default:
         return boot_both();
     }

@@ -1,10 +1,12 @@
 /*
  * demo.c: the keeper's main job, call by call
  *
- * A table of two sockets, the levels and ports that it manages, a card, a
- * client that comes and goes, and what is refused on the way.
+ * A table of two sockets, the levels and ports that it manages, two cards,
+ * clients that come and go, a level that two of them share, and what is refused
+ * on the way.
  */
 #include <stdio.h>
+#include <string.h>
 
 #include "card_services.h"
 #include "names.h"
@@ -111,14 +113,104 @@ static uint32_t deregister_client(uint16_t handle)
                    CS_DEREGISTER_CLIENT_LENGTH);
 }
 
+/* Handle 1 is given back and stale from then on; 2 and 3 stay. */
 static void come_and_go(void)
 {
     tell("RegisterClient of two types", register_client(CS_IO_CLIENT | CS_MEMORY_CLIENT));
-    uint32_t answer = register_client(CS_IO_CLIENT);
-    tell("RegisterClient", answer);
-    tell("DeregisterClient", deregister_client(CS_HANDLE(answer)));
-    tell("DeregisterClient again", deregister_client(CS_HANDLE(answer)));
+    tell("RegisterClient", register_client(CS_IO_CLIENT));
+    tell("DeregisterClient 1", deregister_client(1));
+    tell("DeregisterClient 1 again", deregister_client(1));
+    tell("RegisterClient", register_client(CS_IO_CLIENT));
     tell("RegisterClient", register_client(CS_MEMORY_CLIENT));
+}
+
+/* ---- What clients hold ---- */
+
+static void tell_bytes(const uint8_t *bytes, size_t len)
+{
+    for (size_t i = 0; i < len; i++)
+        printf(" %02X", bytes[i]);
+}
+
+/* Tells what a call answered and how it left the packet. If it left every byte
+   of table and packet as it was, that is told instead. */
+static void call(const char *name, uint16_t service, uint16_t handle, uint8_t *packet, size_t len)
+{
+    static uint8_t table_before[CS_TABLE_SIZE], packet_before[CS_REQUEST_IRQ_LENGTH];
+    memcpy(table_before, table, sizeof table);
+    memcpy(packet_before, packet, len);
+    tell(name, cs_call(table, sizeof table, service, handle, packet, len));
+    if (memcmp(packet_before, packet, len) != 0) {
+        printf("  packet");
+        tell_bytes(packet_before, len);
+        printf(" became");
+        tell_bytes(packet, len);
+        printf("\n");
+    } else if (memcmp(table_before, table, sizeof table) == 0) {
+        printf("  table and packet keep every byte\n");
+    }
+}
+
+/* For a card that does level interrupts and can share; of levels 0 to 7 those
+   whose bits are set will do. */
+static void request_irq(const char *name, uint16_t client, uint8_t socket, uint8_t type,
+                        uint8_t levels)
+{
+    uint8_t packet[CS_REQUEST_IRQ_LENGTH] = {socket, 0, type};
+    packet[5] = CS_IRQ_INFO_SHARE | CS_IRQ_INFO_LEVEL | CS_IRQ_INFO_MASK;
+    packet[6] = levels;
+    call(name, CS_REQUEST_IRQ, client, packet, sizeof packet);
+}
+
+static void release_irq(const char *name, uint16_t client, uint8_t socket, uint8_t level)
+{
+    uint8_t packet[CS_RELEASE_IRQ_LENGTH] = {socket, 0, CS_IRQ_DYNAMIC, 0, level};
+    call(name, CS_RELEASE_IRQ, client, packet, sizeof packet);
+}
+
+static void request_mask(const char *name, uint16_t client, uint8_t socket)
+{
+    uint8_t packet[CS_REQUEST_SOCKET_MASK_LENGTH] = {socket, 0, CS_EVENT_CARD_DETECT_CHANGE, 0};
+    call(name, CS_REQUEST_SOCKET_MASK, client, packet, sizeof packet);
+}
+
+static void release_mask(const char *name, uint16_t client, uint8_t socket)
+{
+    uint8_t packet[CS_RELEASE_SOCKET_MASK_LENGTH] = {socket, 0};
+    call(name, CS_RELEASE_SOCKET_MASK, client, packet, sizeof packet);
+}
+
+static void sharers(uint32_t level)
+{
+    uint32_t answer = cs_sharers(table, sizeof table, level);
+    printf("Sharers of level %lu: %s, %u\n", (unsigned long)level, code_name(CS_CODE(answer)),
+           (unsigned)CS_COUNT(answer));
+}
+
+/* Level 5 is reserved, so both clients get level 3, and share it. */
+static void hold(void)
+{
+    enum { LEVEL_3 = 1 << 3, LEVEL_5 = 1 << 5 };
+    request_irq("RequestIRQ, client 1, socket 0", 1, 0, CS_IRQ_DYNAMIC, LEVEL_3 | LEVEL_5);
+    request_irq("RequestIRQ, client 2, socket 0", 2, 0, CS_IRQ_DYNAMIC, LEVEL_3 | LEVEL_5);
+    request_irq("RequestIRQ of level 3 alone, exclusive", 3, 1, CS_IRQ_EXCLUSIVE, LEVEL_3);
+    request_irq("RequestIRQ, client 3, socket 1", 3, 1, CS_IRQ_DYNAMIC, LEVEL_3 | LEVEL_5);
+    sharers(3);
+    show_levels();
+    request_mask("RequestSocketMask, client 3, socket 1", 3, 1);
+}
+
+/* A card that goes takes nothing away: the client gives back what it has. */
+static void give_back(void)
+{
+    tell_code("Card out, socket 1", cs_card_out(table, sizeof table, 1));
+    sharers(3);
+    tell("DeregisterClient 3", deregister_client(3));
+    release_irq("ReleaseIRQ, client 2, socket 1", 2, 1, 3);
+    release_irq("ReleaseIRQ, client 3, socket 1", 3, 1, 3);
+    release_mask("ReleaseSocketMask, client 3, socket 1", 3, 1);
+    sharers(3);
+    tell("DeregisterClient 3", deregister_client(3));
 }
 
 int main(void)
@@ -126,7 +218,10 @@ int main(void)
     tell_code("Fresh table of 2 sockets", cs_fresh(table, sizeof table, 2));
     manage();
     tell_code("Card in, socket 0", cs_card_in(table, sizeof table, 0));
+    tell_code("Card in, socket 1", cs_card_in(table, sizeof table, 1));
     tell_code("Card in, socket 2", cs_card_in(table, sizeof table, 2));
     come_and_go();
+    hold();
+    give_back();
     return 0;
 }

@@ -10,6 +10,7 @@ static const uint8_t boot_list[2 * CS_BOOT_RECORD] = {
 int main(void)
 {
     uint8_t packet[CS_REGISTER_CLIENT_LENGTH] = {0};
+    uint8_t irq[CS_REQUEST_IRQ_LENGTH] = {0};
     uint16_t events = CS_EVENT_CARD_DETECT_CHANGE | CS_EVENT_RESET;
     uint64_t booted;
     uint32_t answer;
@@ -31,6 +32,17 @@ int main(void)
     if (CS_CODE(answer) != CS_SUCCESS)
         return 1;
     client = CS_HANDLE(answer);
+
+    irq[2] = CS_IRQ_DYNAMIC;
+    irq[5] = CS_IRQ_INFO_SHARE | CS_IRQ_INFO_LEVEL | 5;
+    answer = cs_call(table, sizeof table, CS_REQUEST_IRQ, client,
+                     irq, sizeof irq);
+    if (CS_CODE(answer) != CS_SUCCESS || irq[4] != 5)
+        return 1;
+    answer = cs_call(table, sizeof table, CS_RELEASE_IRQ, client,
+                     irq, CS_RELEASE_IRQ_LENGTH);
+    if (CS_CODE(answer) != CS_SUCCESS)
+        return 1;
 
     answer = cs_call(table, sizeof table, CS_DEREGISTER_CLIENT, client,
                      NULL, CS_DEREGISTER_CLIENT_LENGTH);

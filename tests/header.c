@@ -28,6 +28,9 @@ uint32_t every_name(uint8_t *table, uint8_t *packet)
                          CS_IO_SHARED + CS_IRQ_TYPE + CS_IRQ_EXCLUSIVE + CS_IRQ_TIME_MULTIPLEXED +
                          CS_IRQ_DYNAMIC + CS_ADJUST_IO_SHORT_LENGTH + CS_ADJUST_IO_LONG_LENGTH +
                          CS_PORTS + CS_LINES + CS_RANGES;
+    uint32_t irq = CS_IRQ_FORCE_PULSE + CS_IRQ_FIRST_SHARED + CS_IRQ_PULSE_ALLOCATED +
+                   CS_IRQ_INFO_LEVEL_NUMBER + CS_IRQ_INFO_MASK + CS_IRQ_INFO_LEVEL +
+                   CS_IRQ_INFO_PULSE + CS_IRQ_INFO_SHARE;
     uint64_t booted = cs_boot(table, CS_TABLE_SIZE, packet, CS_BOOT_MOST * CS_BOOT_RECORD);
     uint32_t answer = cs_fresh(table, CS_TABLE_SIZE, CS_SOCKETS);
     answer += cs_card_in(table, CS_TABLE_SIZE, CS_SOCKETS - 1);
@@ -39,6 +42,12 @@ uint32_t every_name(uint8_t *table, uint8_t *packet)
                                 CS_DEREGISTER_CLIENT_LENGTH));
     answer +=
         cs_call(table, CS_TABLE_SIZE, CS_ADJUST_RESOURCE_INFO, 0, packet, CS_ADJUST_IRQ_LENGTH);
+    answer += cs_call(table, CS_TABLE_SIZE, CS_REQUEST_IRQ, 1, packet, CS_REQUEST_IRQ_LENGTH);
+    answer += cs_call(table, CS_TABLE_SIZE, CS_RELEASE_IRQ, 1, packet, CS_RELEASE_IRQ_LENGTH);
+    answer += cs_call(table, CS_TABLE_SIZE, CS_REQUEST_SOCKET_MASK, 1, packet,
+                      CS_REQUEST_SOCKET_MASK_LENGTH);
+    answer += cs_call(table, CS_TABLE_SIZE, CS_RELEASE_SOCKET_MASK, 1, packet,
+                      CS_RELEASE_SOCKET_MASK_LENGTH);
     answer += CS_BOOT_CODE(booted) + CS_BOOT_PLACE(booted);
-    return codes + attributes + events + resources + answer;
+    return codes + attributes + events + resources + irq + answer;
 }

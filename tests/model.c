@@ -255,16 +255,8 @@ static uint32_t release_io(struct model *m, struct call *call)
 
 /* ---- IRQ ---- */
 
-/* RequestIRQ's packet, and the bits of its fields. */
+/* RequestIRQ's packet, and the type that is none. */
 enum { IRQ_ATTRIBUTES = 2, IRQ_ASSIGNED = 4, IRQ_INFO_1 = 5, IRQ_INFO_2 = 6 };
-enum { IRQ_FORCE_PULSE = 4, IRQ_FIRST_SHARED = 8, IRQ_PULSE_ALLOCATED = 0x100 };
-enum {
-    INFO_LEVEL_NUMBER = 0x0F,
-    INFO_MASK = 0x10,
-    INFO_LEVEL = 0x20,
-    INFO_PULSE = 0x40,
-    INFO_SHARE = 0x80
-};
 enum { TYPE_RESERVED = 3 };
 
 /* "only equal ones, and never exclusive." */
@@ -287,7 +279,7 @@ static uint8_t manner_asked(unsigned attributes, unsigned info_1)
         return EXCLUSIVE;
     if ((attributes & CS_IRQ_TYPE) == CS_IRQ_TIME_MULTIPLEXED)
         return TIME_MULTIPLEXED;
-    if ((attributes & IRQ_FORCE_PULSE) != 0 || (info_1 & INFO_LEVEL) == 0)
+    if ((attributes & CS_IRQ_FORCE_PULSE) != 0 || (info_1 & CS_IRQ_INFO_LEVEL) == 0)
         return DYNAMIC_PULSE;
     return DYNAMIC_LEVEL;
 }
@@ -300,26 +292,27 @@ static bool irq_attributes_allowed(unsigned attributes, unsigned info_1)
     unsigned type = attributes & CS_IRQ_TYPE;
     if (type == TYPE_RESERVED || attributes >> 4 != 0)
         return false;
-    if ((attributes & IRQ_FIRST_SHARED) != 0 && type == CS_IRQ_EXCLUSIVE)
+    if ((attributes & CS_IRQ_FIRST_SHARED) != 0 && type == CS_IRQ_EXCLUSIVE)
         return false;
-    if ((attributes & IRQ_FORCE_PULSE) != 0 && (info_1 & INFO_PULSE) == 0)
+    if ((attributes & CS_IRQ_FORCE_PULSE) != 0 && (info_1 & CS_IRQ_INFO_PULSE) == 0)
         return false;
-    return !(type == CS_IRQ_DYNAMIC && (info_1 & INFO_SHARE) == 0);
+    return !(type == CS_IRQ_DYNAMIC && (info_1 & CS_IRQ_INFO_SHARE) == 0);
 }
 
 /* "BAD_ARGS: neither Level nor Pulse; Mask set with any of IRQInfo1's bits 0
    to 3, or with IRQInfo2 0." */
 static bool irq_info_allowed(unsigned info_1, unsigned info_2)
 {
-    if ((info_1 & (INFO_LEVEL | INFO_PULSE)) == 0)
+    if ((info_1 & (CS_IRQ_INFO_LEVEL | CS_IRQ_INFO_PULSE)) == 0)
         return false;
-    return !((info_1 & INFO_MASK) != 0 && ((info_1 & INFO_LEVEL_NUMBER) != 0 || info_2 == 0));
+    return !((info_1 & CS_IRQ_INFO_MASK) != 0 &&
+             ((info_1 & CS_IRQ_INFO_LEVEL_NUMBER) != 0 || info_2 == 0));
 }
 
 /* "With Mask clear, the low four bits name one level and IRQInfo2 is ignored." */
 static unsigned levels_named(unsigned info_1, unsigned info_2)
 {
-    return (info_1 & INFO_MASK) != 0 ? info_2 : 1u << (info_1 & INFO_LEVEL_NUMBER);
+    return (info_1 & CS_IRQ_INFO_MASK) != 0 ? info_2 : 1u << (info_1 & CS_IRQ_INFO_LEVEL_NUMBER);
 }
 
 static bool holds_level(const struct irq_grant *g, uint32_t level)
@@ -382,14 +375,14 @@ static uint32_t request_irq(struct model *m, struct call *call)
     if (m->irq[packet[0]].live)
         return CS_IN_USE;
     uint8_t manner = manner_asked(attributes, info_1);
-    unsigned level =
-        choose_level(m, levels_named(info_1, info_2), manner, (attributes & IRQ_FIRST_SHARED) != 0);
+    unsigned level = choose_level(m, levels_named(info_1, info_2), manner,
+                                  (attributes & CS_IRQ_FIRST_SHARED) != 0);
     if (level == CS_LEVELS)
         return CS_BAD_IRQ;
     m->irq[packet[0]] = (struct irq_grant){true, call->handle, (uint8_t)level, manner};
     packet[IRQ_ASSIGNED] = (uint8_t)level;
     if (manner == DYNAMIC_PULSE)
-        write_field(packet, IRQ_ATTRIBUTES, 2, attributes | IRQ_PULSE_ALLOCATED);
+        write_field(packet, IRQ_ATTRIBUTES, 2, attributes | CS_IRQ_PULSE_ALLOCATED);
     return CS_SUCCESS;
 }
 

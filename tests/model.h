@@ -15,18 +15,10 @@
 #include "card_services.h"
 
 /* The services of document 01 that card_services.h does not have yet. */
-#define CS_REQUEST_IRQ 0x20
-#define CS_REQUEST_IRQ_LENGTH 8
-#define CS_RELEASE_IRQ 0x1C
-#define CS_RELEASE_IRQ_LENGTH 5
 #define CS_REQUEST_IO 0x1F
 #define CS_REQUEST_IO_LENGTH 11
 #define CS_RELEASE_IO 0x1B
 #define CS_RELEASE_IO_LENGTH 11
-#define CS_REQUEST_SOCKET_MASK 0x22
-#define CS_REQUEST_SOCKET_MASK_LENGTH 4
-#define CS_RELEASE_SOCKET_MASK 0x2F
-#define CS_RELEASE_SOCKET_MASK_LENGTH 2
 
 /* Actions are below this, and resource types; two of those are built. */
 enum { ACTIONS = 4, RESOURCES = 5 };

@@ -119,6 +119,27 @@ static void resource_numbers(void)
         expect("a number of 35H or the boot list", numbers[i][0] == numbers[i][1]);
 }
 
+/* 5.53's bits, and the lengths that 5.53, 5.45, 5.54 and 5.46 ask for. */
+static void irq_and_mask_numbers(void)
+{
+    static const uint32_t numbers[][2] = {
+        {CS_REQUEST_IRQ_LENGTH, 8},
+        {CS_RELEASE_IRQ_LENGTH, 5},
+        {CS_REQUEST_SOCKET_MASK_LENGTH, 4},
+        {CS_RELEASE_SOCKET_MASK_LENGTH, 2},
+        {CS_IRQ_FORCE_PULSE, 1u << 2},
+        {CS_IRQ_FIRST_SHARED, 1u << 3},
+        {CS_IRQ_PULSE_ALLOCATED, 1u << 8},
+        {CS_IRQ_INFO_LEVEL_NUMBER, 1u << 0 | 1u << 1 | 1u << 2 | 1u << 3},
+        {CS_IRQ_INFO_MASK, 1u << 4},
+        {CS_IRQ_INFO_LEVEL, 1u << 5},
+        {CS_IRQ_INFO_PULSE, 1u << 6},
+        {CS_IRQ_INFO_SHARE, 1u << 7},
+    };
+    for (size_t i = 0; i < sizeof numbers / sizeof *numbers; i++)
+        expect("a number of an IRQ or mask service", numbers[i][0] == numbers[i][1]);
+}
+
 /* ---- Short ways to ask ---- */
 
 static uint32_t adjust(struct model *m, const uint8_t *packet, size_t len)
@@ -453,12 +474,28 @@ static void irq_order(void)
     expect_code("a second grant on the socket", request_irq_code(&m, 0, 2, 0xB0, 0x0028),
                 CS_IN_USE);
     expect_code("BAD_ARGS before it", request_irq_code(&m, 0, 2, 0x80, 0), CS_BAD_ARGS);
+    expect_code("BAD_ATTRIBUTE before that", request_irq_code(&m, 0, 3, 0x80, 0), CS_BAD_ATTRIBUTE);
     request_irq(&m, 2, 10, 0xB0, 0x0028, &assigned);
     expect("First Shared takes a level without a grant", assigned == 5);
     request_irq(&m, 3, 6, 0xF0, 0x0028, &assigned);
     expect("dynamic pulse does not join dynamic level", assigned == 0xFF);
     request_irq(&m, 3, 2, 0xF0, 0x0028, &assigned);
     expect("dynamic level joins the unreserved level", assigned == 3);
+}
+
+static void irq_choice(void)
+{
+    struct model m;
+    uint8_t assigned;
+    ready_n6(&m);
+    add_irq(&m, 9, 0);
+    add_irq(&m, 12, CS_RESERVE);
+    request_irq(&m, 0, 0, 0x23, 0x0220, &assigned);
+    expect("IRQInfo2 names nothing with Mask clear", assigned == 3);
+    request_irq(&m, 1, 0, 0x30, 0x1220, &assigned);
+    expect("an unreserved level before a lower reserved one", assigned == 9);
+    request_irq(&m, 2, 0, 0x30, 0x1220, &assigned);
+    expect("then the lowest reserved one", assigned == 5);
 }
 
 static void irq_release(void)
@@ -769,6 +806,18 @@ static void masks(void)
     expect_code("deregister", deregister(&m, 1), CS_SUCCESS);
 }
 
+static void mask_of_no_event(void)
+{
+    struct model m;
+    uint8_t mask[4] = {7, 0, 0, 0};
+    ready(&m);
+    expect_code("a mask of 0", model_call(&m, CS_REQUEST_SOCKET_MASK, 2, mask, 4), CS_SUCCESS);
+    expect_code("is a mask", model_call(&m, CS_REQUEST_SOCKET_MASK, 2, mask, 4), CS_IN_USE);
+    expect_code("that keeps its client", deregister(&m, 2), CS_IN_USE);
+    expect_code("and is released", model_call(&m, CS_RELEASE_SOCKET_MASK, 2, mask, 2), CS_SUCCESS);
+    expect_code("once", model_call(&m, CS_RELEASE_SOCKET_MASK, 2, mask, 2), CS_BAD_SOCKET);
+}
+
 static void boot_list(void)
 {
     struct model m;
@@ -898,6 +947,7 @@ int main(void)
     service_numbers();
     event_bits();
     resource_numbers();
+    irq_and_mask_numbers();
     host_numbers();
     n1_to_n4();
     n5();
@@ -911,6 +961,7 @@ int main(void)
     manners();
     request_irq_codes();
     irq_order();
+    irq_choice();
     irq_release();
     request_io_codes();
     io_sharing();
@@ -923,6 +974,7 @@ int main(void)
     given_handles();
     fields_that_must_be_zero();
     masks();
+    mask_of_no_event();
     boot_list();
     boot_codes();
     boot_places();

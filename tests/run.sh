@@ -41,8 +41,9 @@ run model_cases
 
 # shellcheck disable=SC2086
 build compare tests/compare.c tests/compare_calls.c tests/compare_resources.c \
-    tests/compare_holders.c tests/compare_boot.c tests/compare_runs.c tests/compare_tables.c \
-    tests/resources.c tests/clauses.c tests/check.c $model "$archive"
+    tests/compare_holders.c tests/compare_boot.c tests/compare_sockets.c tests/compare_irq.c \
+    tests/compare_masks.c tests/compare_runs.c tests/compare_tables.c tests/resources.c \
+    tests/sockets.c tests/clauses.c tests/check.c $model "$archive"
 run compare
 
 echo "run: the demo"

@@ -176,9 +176,17 @@ static void put(struct request *r, size_t at, size_t size, uint32_t value)
     put_number(r->packet + at, size, value);
 }
 
-static void put_socket(struct chance *c, const struct model *m, struct request *r)
+/* Whether the socket is one that the request is near to being accepted for. */
+typedef bool likes(const struct model *m, uint16_t client, unsigned socket);
+
+/* Mostly below the count; of those mostly one that is liked, if some tries find
+   one. */
+static void put_socket(struct chance *c, const struct model *m, struct request *r, likes *liked)
 {
-    r->packet[0] = one_in(c, 16) ? byte(c) : (uint8_t)pick(c, m->sockets + 1);
+    unsigned socket = pick(c, m->sockets);
+    for (unsigned tries = pick(c, 6); tries > 0 && !liked(m, r->handle, socket); tries--)
+        socket = pick(c, m->sockets);
+    r->packet[0] = one_in(c, 32) ? byte(c) : (uint8_t)(one_in(c, 16) ? m->sockets : socket);
     r->packet[1] = one_in(c, 32) ? byte(c) : 0;
 }
 
@@ -260,25 +268,73 @@ static void adjust_packet(struct chance *c, const struct model *m, struct reques
     }
 }
 
+static bool irq_free(const struct model *m, uint16_t client, unsigned socket)
+{
+    (void)client;
+    return m->card[socket] && !m->irq[socket].live;
+}
+
+static bool irq_held(const struct model *m, uint16_t client, unsigned socket)
+{
+    (void)client;
+    return m->irq[socket].live;
+}
+
+static bool io_free(const struct model *m, uint16_t client, unsigned socket)
+{
+    (void)client;
+    return m->card[socket] && !m->io[socket].live;
+}
+
+static bool io_held(const struct model *m, uint16_t client, unsigned socket)
+{
+    (void)client;
+    return m->io[socket].live;
+}
+
+static bool mask_held(const struct model *m, uint16_t client, unsigned socket)
+{
+    for (unsigned i = 0; i < m->clients; i++)
+        if (m->client[i].handle == client)
+            return m->client[i].masks[socket].held;
+    return false;
+}
+
+static bool mask_free(const struct model *m, uint16_t client, unsigned socket)
+{
+    return m->card[socket] && !mask_held(m, client, socket);
+}
+
+/* Mostly attributes that a card with Share, Level and Pulse can have, and a level
+   named by its number or several by Mask. */
 static void request_irq_packet(struct chance *c, const struct model *m, struct request *r)
 {
-    put_socket(c, m, r);
-    put(r, 2, 2, one_in(c, 16) ? pick(c, 65536) : pick(c, 16));
-    r->packet[5] = (uint8_t)(one_in(c, 2) ? 0xF0 & ~(1u << (4 + pick(c, 4))) : byte(c));
+    static const uint8_t allowed[] = {0, 1, 2, 4, 5, 6, 9, 10, 13, 14};
+    static const uint8_t cards[] = {0xE0, 0xE0, 0xE0, 0xA0, 0xC0, 0xC0, 0x60};
+    uint8_t card = cards[pick(c, sizeof cards)];
+    put_socket(c, m, r, irq_free);
+    put(r, 2, 2, allowed[pick(c, sizeof allowed)]);
+    if (one_in(c, 8))
+        put(r, 2, 2, pick(c, one_in(c, 2) ? 65536 : 16));
+    r->packet[5] = (uint8_t)(card | (one_in(c, 2) ? CS_IRQ_INFO_MASK : pick(c, CS_LEVELS)));
+    if (one_in(c, 16))
+        r->packet[5] = byte(c);
+    if (one_in(c, 2))
+        put(r, 6, 2, one_in(c, 8) ? 0 : 1u << pick(c, CS_LEVELS) | 1u << pick(c, CS_LEVELS));
 }
 
 static void release_irq_packet(struct chance *c, const struct model *m, struct request *r)
 {
-    put_socket(c, m, r);
+    put_socket(c, m, r, irq_held);
     const struct irq_grant *g = &m->irq[r->packet[0] % CS_SOCKETS];
     put(r, 2, 2, one_in(c, 4) ? pick(c, 65536) : g->manner == DYNAMIC_PULSE ? 2 : g->manner);
-    r->packet[4] = one_in(c, 4) ? byte(c) : g->level;
-    r->handle = one_in(c, 4) ? r->handle : g->client;
+    r->packet[4] = one_in(c, 8) ? byte(c) : g->level;
+    r->handle = one_in(c, 4) || !g->live ? r->handle : g->client;
 }
 
 static void request_io_packet(struct chance *c, const struct model *m, struct request *r)
 {
-    put_socket(c, m, r);
+    put_socket(c, m, r, io_free);
     put(r, 2, 2, one_in(c, 3) ? 0 : some_port(c));
     r->packet[4] = (uint8_t)some_count(c);
     r->packet[5] = one_in(c, 8) ? byte(c) : (uint8_t)pick(c, 16);
@@ -288,18 +344,23 @@ static void request_io_packet(struct chance *c, const struct model *m, struct re
 
 static void release_io_packet(struct chance *c, const struct model *m, struct request *r)
 {
-    put_socket(c, m, r);
+    put_socket(c, m, r, io_held);
     const struct io_grant *g = &m->io[r->packet[0] % CS_SOCKETS];
     put(r, 2, 2, one_in(c, 8) ? some_port(c) : g->base);
     r->packet[4] = one_in(c, 8) ? byte(c) : g->count;
     r->packet[8] = one_in(c, 16) ? byte(c) : 0;
-    r->handle = one_in(c, 4) ? r->handle : g->client;
+    r->handle = one_in(c, 4) || !g->live ? r->handle : g->client;
 }
 
 static void request_mask_packet(struct chance *c, const struct model *m, struct request *r)
 {
-    put_socket(c, m, r);
-    put(r, 2, 2, one_in(c, 8) ? pick(c, 65536) : pick(c, EVENT_MASKS));
+    put_socket(c, m, r, mask_free);
+    put(r, 2, 2, one_in(c, 8) ? pick(c, 65536) : one_in(c, 8) ? 0 : pick(c, EVENT_MASKS));
+}
+
+static void release_mask_packet(struct chance *c, const struct model *m, struct request *r)
+{
+    put_socket(c, m, r, mask_held);
 }
 
 static const struct {
@@ -315,7 +376,7 @@ static const struct {
     {CS_REQUEST_IO, CS_REQUEST_IO_LENGTH, request_io_packet},
     {CS_RELEASE_IO, CS_RELEASE_IO_LENGTH, release_io_packet},
     {CS_REQUEST_SOCKET_MASK, CS_REQUEST_SOCKET_MASK_LENGTH, request_mask_packet},
-    {CS_RELEASE_SOCKET_MASK, CS_RELEASE_SOCKET_MASK_LENGTH, put_socket},
+    {CS_RELEASE_SOCKET_MASK, CS_RELEASE_SOCKET_MASK_LENGTH, release_mask_packet},
 };
 
 static uint16_t some_handle(struct chance *c, const struct model *m)

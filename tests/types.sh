@@ -50,14 +50,22 @@ refused clients lib.rt 'holds(t, i, h)' 'holds(t, i, i)' Handle usize
 refused clients lib.rt 'enter(t, n, handle,' 'enter(t, handle, n,' usize Handle
 refused clients lib.rt 'grant_on(t, Socket(s), h)' 'grant_on(t, h, h)' Socket Handle
 refused lists clients.rt 'mask_sound(t, i, Socket(s))' 'mask_sound(t, Socket(s), i)' usize Socket
-refused irq lib.rt 'sharer(t, level, Socket(s))' 'sharer(t, level, s)' Socket usize
+refused sharers lib.rt 'sharer(t, level, Socket(s))' 'sharer(t, level, s)' Socket usize
 refused keeper lib.rt 'clients::deregister(table, Handle(handle), packet)' \
     'clients::deregister(table, Socket(3), packet)' Handle Socket
-refused keeper lib.rt 'irq::pack(irq::sharers(table, level))' \
-    'answers::pack(irq::sharers(table, level))' Answer SharerCount
+refused keeper lib.rt 'sharers::pack(sharers::of_level(table, level))' \
+    'answers::pack(sharers::of_level(table, level))' Answer SharerCount
 refused keeper lib.rt 'facts::number(sockets::card(table, socket, present))' \
     'answers::pack(sockets::card(table, socket, present))' Answer Code
 refused holders lib.rt 'better(t, what, best, Socket(s))' 'better(t, what, best, s)' Socket usize
 refused boot lib.rt 'return Booted::Stopped(place, code)' 'return Booted::Stopped(code, place)' usize Code
 refused keeper lib.rt 'boot::pack(boot::boot(table, records))' \
     'answers::pack(boot::boot(table, records))' Answer Booted
+refused masks lib.rt 'write(t, i, socket, 0)' 'write(t, socket, i, 0)' usize Socket
+refused irq lib.rt 'grant_of(t, socket, h, reading::byte(p, ASSIGNED_AT))' \
+    'grant_of(t, h, socket, reading::byte(p, ASSIGNED_AT))' Socket Handle
+refused irq lib.rt 'enter(t, socket, client as usize, level, levels::place(manner))' \
+    'enter(t, socket, h, level, levels::place(manner))' usize Handle
+refused fitting lib.rt 'mark(t, p, m, Socket(s), &mut way)' 'mark(t, p, m, s, &mut way)' Socket usize
+refused keeper lib.rt 'irq::request(table, Handle(handle), packet)' \
+    'irq::request(table, handle, packet)' Handle u16

@@ -2,3 +2,4 @@
 pub mod Serve
 pub mod Packing
 pub mod Changing
+pub mod Begin

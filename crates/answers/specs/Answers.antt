@@ -1,6 +1,6 @@
 -- What an answer's cases say. Assumes nothing.
 use mathlib.Core.Path.{_≡_}
-use mathlib.Core.Logic.{_≢_}
+use mathlib.Core.Logic.{_⊎_, _≢_}
 use mathlib.Core.List.{List}
 use Prim.Native.Nat.{ℕ, _+_, _*_, _≤_, _<_}
 use lib.ListN.{length}
@@ -9,15 +9,22 @@ use Rattle.facts.specs.declared.Code.{Code}
 use Rattle.facts.specs.declared.Code.the-variants.{Success}
 use Rattle.facts.specs.Codes.{numberOf}
 use Rattle.facts.specs.Table
+use Rattle.facts.specs.Packets.{byte}
+use Rattle.facts.specs.Sockets.{socketOf}
 use Rattle.layout.specs.Reading.{socketsIn}
 use Rattle.facts.specs.Resources.{AddBits, reserveBit}
 use Rattle.layout.specs.Layout.{mark}
+use Rattle.layout.specs.Layout
 use Rattle.answers.specs.declared.Answer.{Answer}
 use Rattle.answers.specs.declared.Answer.the-variants.{Done, Refused}
 use Rattle.answers.specs.declared.Size.{Size}
 use Rattle.answers.specs.declared.Size.the-variants.{Right, Wrong}
 use Rattle.answers.specs.declared.Counted.{Counted}
 use Rattle.answers.specs.declared.Counted.the-variants.{Below, Past}
+use Rattle.answers.specs.declared.Named.{Named}
+use Rattle.answers.specs.declared.Named.the-variants as named
+use Rattle.answers.specs.declared.Card.{Card}
+use Rattle.answers.specs.declared.Card.the-variants as card
 use Rattle.answers.specs.declared.LevelNumber.{LevelNumber}
 use Rattle.answers.specs.declared.LevelNumber.the-variants as level
 use Rattle.answers.specs.declared.Reserve.{Reserve}
@@ -47,6 +54,21 @@ SizeIs p n Wrong = length p ≢ n
 abbrev pub CountedIs : List ℕ → ℕ → Counted → Type 0
 CountedIs b n (Below s) = (s .0 ≡ n) × (n < socketsIn b)
 CountedIs b n Past = socketsIn b ≤ n
+
+-- the packet names a socket below the count and the function 0, or not
+pub record NamesSocket (b p : List ℕ) (s : ℕ) : Type 0 where
+  pub number : s ≡ socketOf p
+  pub counted : socketOf p < socketsIn b
+  pub function : byte p 1 ≡ 0
+
+abbrev pub NamedIs : List ℕ → List ℕ → Named → Type 0
+NamedIs b p (named.At s) = NamesSocket b p (s .0)
+NamedIs b p named.Bad = (socketsIn b ≤ socketOf p) ⊎ (byte p 1 ≢ 0)
+
+-- the socket's byte says a card, or not
+abbrev pub CardIs : List ℕ → ℕ → Card → Type 0
+CardIs b s card.In = byte b (Layout.cardsAt + s) ≡ 1
+CardIs b s card.Out = byte b (Layout.cardsAt + s) ≢ 1
 
 -- the number is that of one of a table's levels, or it is over them
 abbrev pub LevelIs : ℕ → LevelNumber → Type 0

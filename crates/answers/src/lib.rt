@@ -3,11 +3,15 @@ use facts::Code;
 use facts::Handle;
 use facts::Socket;
 use layout::ALL_LEVELS;
+use layout::CARDS_AT;
+use layout::MARKED;
 use layout::SOCKETS_IN;
 ghost use mathlib.Core.Path.{_≡_};
+ghost use Prim.Native.Nat.{_<_};
 ghost use lib.ListN.{length};
+ghost use Rattle.facts.specs.Table;
 ghost use Rattle.layout.specs.Layout.{tableSize};
-ghost use Rattle.answers.specs.Answers.{packed, codeOf, handleOf, SizeIs, CountedIs, LevelIs, ReserveIs, BitsAre};
+ghost use Rattle.answers.specs.Answers.{packed, codeOf, handleOf, SizeIs, CountedIs, NamedIs, CardIs, LevelIs, ReserveIs, BitsAre};
 
 // What a service answers: a handle, or the code of a refusal.
 pub enum Answer {
@@ -59,6 +63,48 @@ pub fn below_count(t: &[u8], socket: Socket) -> Counted
         Counted::Below(socket)
     } else {
         Counted::Past
+    }
+}
+
+// The socket that a packet names, "socket and function at 0": one below the count, whose function is 0.
+const SOCKET_AT: usize = 0;
+
+const FUNCTION_AT: usize = 1;
+
+pub enum Named {
+    At(Socket),
+    Bad,
+}
+
+pub fn socket_named(t: &[u8], p: &[u8]) -> Named
+    requires { ⌜ (length (now t) ≡ tableSize) × (1 < length (now p)) ⌝ }
+    ensures { λ r. ⌜ NamedIs (now (t .entry)) (now (p .entry)) r ⌝ }
+{
+    let Counted::Below(socket) = below_count(t, Socket(reading::byte(p, SOCKET_AT))) else {
+        return Named::Bad;
+    };
+    if reading::byte(p, FUNCTION_AT) == 0 {
+        Named::At(socket)
+    } else {
+        Named::Bad
+    }
+}
+
+// Whether a card is in the socket.
+pub enum Card {
+    In,
+    Out,
+}
+
+pub fn card_at(t: &[u8], socket: Socket) -> Card
+    requires { ⌜ (length (now t) ≡ tableSize) × (socket .0 < Table.mostSockets) ⌝ }
+    ensures { λ r. ⌜ CardIs (now (t .entry)) (socket .0) r ⌝ }
+{
+    let number = socket.0;
+    if reading::byte(t, CARDS_AT + number) == MARKED {
+        Card::In
+    } else {
+        Card::Out
     }
 }
 

@@ -1,6 +1,6 @@
 -- What the checks of RegisterClient and DeregisterClient answer, said of the bytes. Assumes nothing.
 use mathlib.Core.Path.{_≡_}
-use mathlib.Core.Logic.{_⊎_, _≢_}
+use mathlib.Core.Logic.{_⊎_}
 use mathlib.Core.List.{List}
 use Prim.Native.Nat.{ℕ, _+_, _≤_, _<_}
 use Rattle.facts.specs.Table
@@ -9,7 +9,8 @@ use Rattle.facts.specs.Packets.{word}
 use Rattle.facts.specs.WellFormed.{AttributesAllowed, EventsAllowed}
 use Rattle.facts.specs.Clients.{Register, Deregister}
 use Rattle.layout.specs.Layout
-use Rattle.layout.specs.Reading.{clientsIn, issuedIn, clientPlace, maskPlace, ioPlace, irqPlace}
+use Rattle.layout.specs.Reading.{clientsIn, issuedIn, clientPlace, ioPlace, irqPlace}
+use Rattle.layout.specs.Sound.{MaskUsed}
 use Rattle.layout.specs.Changed.{TakenOut}
 use Rattle.layout.specs.Served.{ServedBy}
 use Rattle.answers.specs.declared.Answer.{Answer}
@@ -50,12 +51,9 @@ GrantIn b h s = (word b (ioPlace s) ≡ h) ⊎ (word b (irqPlace s) ≡ h)
 abbrev pub GrantHeldIn : List ℕ → ℕ → Type 0
 GrantHeldIn b h = (s : ℕ) × (s < Table.mostSockets) × GrantIn b h s
 
--- the client listed in the place i has a mask for the socket s
-abbrev pub MaskIn : List ℕ → ℕ → ℕ → Type 0
-MaskIn b i s = word b (maskPlace i s) ≢ 0
-
+-- the client listed in the place i has a mask
 abbrev pub MaskHeldIn : List ℕ → ℕ → Type 0
-MaskHeldIn b i = (s : ℕ) × (s < Table.mostSockets) × MaskIn b i s
+MaskHeldIn b i = (s : ℕ) × (s < Table.mostSockets) × MaskUsed b i s
 
 -- the client listed in the place i, whose handle is h, holds something
 abbrev pub HoldsSome : List ℕ → ℕ → ℕ → Type 0

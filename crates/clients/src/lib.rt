@@ -7,7 +7,6 @@ use facts::Socket;
 use layout::ALL_EVENTS;
 use layout::CLIENT_ATTRIBUTES;
 use layout::CLIENT_EVENTS;
-use layout::CLIENT_MASKS;
 use layout::CLIENT_SIZE;
 use layout::CLIENTS_AT;
 use layout::CLIENTS_IN;
@@ -16,24 +15,22 @@ use layout::IOS_AT;
 use layout::IRQ_SIZE;
 use layout::IRQS_AT;
 use layout::ISSUED_IN;
-use layout::MASK_SIZE;
 use layout::MOST_CLIENTS;
 use layout::MOST_ISSUED;
 use layout::MOST_SOCKETS;
 use layout::RANGES_AT;
 use reading::Found;
 ghost use mathlib.Core.Path.{_≡_};
-ghost use Prim.Native.Nat.{_+_, _<_, _≤_};
+ghost use Prim.Native.Nat.{_<_, _≤_};
 ghost use lib.ListN.{length};
 ghost use Rattle.facts.specs.Table;
 ghost use Rattle.facts.specs.Says.{Says};
-ghost use Rattle.facts.specs.Packets.{word};
 ghost use Rattle.facts.specs.Clients.{registerLength};
 ghost use Rattle.layout.specs.Layout.{tableSize};
 ghost use Rattle.layout.specs.Reading.{clientsIn};
 ghost use Rattle.layout.specs.Sound.{Accepted};
 ghost use Rattle.layout.specs.Changed.{entered};
-ghost use Rattle.clients.specs.Clients.{AsksFor, RoomIs, GrantIn, GrantHeldIn, MaskIn, MaskHeldIn, HeldIs, Withdrawn, RegisterServed};
+ghost use Rattle.clients.specs.Clients.{AsksFor, RoomIs, GrantIn, GrantHeldIn, MaskHeldIn, HeldIs, Withdrawn, RegisterServed};
 ghost use Rattle.clients.specs.Clients.{DeregisterServed};
 
 // The packet of RegisterClient (5.37) is 14 bytes, that of DeregisterClient (5.8) is empty.
@@ -119,25 +116,16 @@ pub fn register(t: &mut [u8], p: &[u8]) -> Answer
     Answer::Done(handle)
 }
 
-// Whether the grant whose record stands at a place is the client's.
-fn granted(t: &[u8], at: usize, h: Handle) -> bool
-    requires { ⌜ at + 1 < length (now t) ⌝ }
-    ensures { λ r. ⌜ Says r (word (now (t .entry)) at ≡ h .0) ⌝ }
-{
-    let holder = reading::handle(t, at);
-    holder.0 == h.0
-}
-
 // Whether the client holds a grant on the socket.
 fn grant_on(t: &[u8], s: Socket, h: Handle) -> bool
     requires { ⌜ (length (now t) ≡ tableSize) × (s .0 < Table.mostSockets) ⌝ }
     ensures { λ r. ⌜ Says r (GrantIn (now (t .entry)) (h .0) (s .0)) ⌝ }
 {
     let number = s.0;
-    if granted(t, IOS_AT + number * IO_SIZE, h) {
+    if reading::granted(t, IOS_AT + number * IO_SIZE, h) {
         return true;
     }
-    granted(t, IRQS_AT + number * IRQ_SIZE, h)
+    reading::granted(t, IRQS_AT + number * IRQ_SIZE, h)
 }
 
 fn grant_held(t: &[u8], h: Handle) -> bool
@@ -154,23 +142,14 @@ fn grant_held(t: &[u8], h: Handle) -> bool
     false
 }
 
-// Whether the client listed in the place i holds a mask for the socket.
-fn mask_on(t: &[u8], i: usize, s: Socket) -> bool
-    requires { ⌜ (length (now t) ≡ tableSize) × (i < Table.mostClients) × (s .0 < Table.mostSockets) ⌝ }
-    ensures { λ r. ⌜ Says r (MaskIn (now (t .entry)) i (s .0)) ⌝ }
-{
-    let number = s.0;
-    let at = CLIENTS_AT + i * CLIENT_SIZE + CLIENT_MASKS + number * MASK_SIZE;
-    reading::word(t, at) != 0
-}
-
+// Whether the client listed in the place i holds a mask.
 fn mask_held(t: &[u8], i: usize) -> bool
     requires { ⌜ (length (now t) ≡ tableSize) × (i < Table.mostClients) ⌝ }
     ensures { λ r. ⌜ Says r (MaskHeldIn (now (t .entry)) i) ⌝ }
 {
     let mut s = 0;
     while s < MOST_SOCKETS {
-        if mask_on(t, i, Socket(s)) {
+        if reading::mask_on(t, i, Socket(s)) {
             return true;
         }
         s += 1;

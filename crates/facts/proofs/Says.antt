@@ -1,5 +1,5 @@
 -- What an answer decides: one that is written out, a comparison, an answer said of something else, and one that a test turned round. Assumes nothing.
-use mathlib.Core.Path.{_≡_}
+use mathlib.Core.Path.{_≡_, refl}
 use mathlib.Core.Bool.{Bool, true, false, not, true≢false, false≢true}
 use Prim.Native.Nat.{ℕ, _<_}
 use native.Mathlib.Omega.{arith}
@@ -34,3 +34,8 @@ module _ {r : Bool} {P : Type 0} where
 
   pub says-false-by : {Q : Type 0} → Says r P → not r ≡ true → (Q → P) → Says false Q
   says-false-by s e f = says-false (λ q. says-no s e (f q))
+
+-- what an answer decides is so or not
+pub says-dec : (r : Bool) {P : Type 0} → Says r P → Dec P
+says-dec true s = yes (s .holds refl)
+says-dec false s = no (s .fails refl)

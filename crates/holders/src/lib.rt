@@ -1,6 +1,5 @@
 // Who holds a managed level, or a port of a managed range, on a table that is the image of a well-formed set.
 use facts::Handle;
-use facts::Manner;
 use facts::Socket;
 use layout::IO_BASE;
 use layout::IO_COUNT;
@@ -19,7 +18,6 @@ ghost use lib.ListN.{length};
 ghost use Rattle.facts.specs.Table;
 ghost use Rattle.facts.specs.Says.{Says};
 ghost use Rattle.facts.specs.Ports.{Overlap};
-ghost use Rattle.facts.specs.Levels.{typeOf};
 ghost use Rattle.layout.specs.Layout.{tableSize};
 ghost use Rattle.layout.specs.Sound.{Accepted};
 ghost use Rattle.holders.specs.Holders.{HoldsIn, holderIn, typeIn, AloneIn, SomeAloneIn, LowestBelow, LowestIs};
@@ -47,13 +45,6 @@ pub enum Holders {
 const HELD: u8 = 0x80;
 
 const HELD_SHARED: u8 = HELD + 0x01;
-
-// The types of a request's bits 0 to 1 (5.53).
-const EXCLUSIVE_TYPE: u8 = 0;
-
-const TIME_MULTIPLEXED_TYPE: u8 = 1;
-
-const DYNAMIC_TYPE: u8 = 2;
 
 // Whether the `count` ports from `base` on and the `count2` from `base2` on have one in common.
 fn overlaps(base: usize, count: usize, base2: usize, count2: usize) -> bool
@@ -176,18 +167,6 @@ fn unshared(t: &[u8], base: usize, count: usize) -> bool
     false
 }
 
-// A manner's type.
-fn type_of(m: Manner) -> u8
-    ensures { λ r. ⌜ (r ≡ typeOf m) × (r ≤ 2) ⌝ }
-{
-    match m {
-        Manner::Exclusive => EXCLUSIVE_TYPE,
-        Manner::TimeMultiplexed => TIME_MULTIPLEXED_TYPE,
-        Manner::DynamicLevel => DYNAMIC_TYPE,
-        Manner::DynamicPulse => DYNAMIC_TYPE,
-    }
-}
-
 // The type of the socket's grant.
 fn type_on(t: &[u8], s: Socket) -> u8
     requires { ⌜ (length (now t) ≡ tableSize) × (s .0 < Table.mostSockets) ⌝ }
@@ -195,7 +174,7 @@ fn type_on(t: &[u8], s: Socket) -> u8
 {
     let number = s.0;
     let manner = reading::byte(t, IRQS_AT + number * IRQ_SIZE + IRQ_MANNER);
-    type_of(reading::manner_of(manner))
+    levels::type_of(reading::manner_of(manner))
 }
 
 // "the handle answered is then the lowest of the holders' handles"; "For IRQ, bits 0 to 1 are the holders' type"

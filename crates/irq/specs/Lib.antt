@@ -1,2 +1,2 @@
 -- What the contracts of `irq` cite. Assumes nothing.
-pub mod Sharing
+pub mod Granting

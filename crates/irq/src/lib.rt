@@ -1,74 +1,158 @@
-// The number of sharers of an IRQ level, on a table that is the image of a well-formed set.
-use answers::LevelNumber;
+// RequestIRQ and ReleaseIRQ, on a table that is the image of a well-formed set.
+use answers::Answer;
+use answers::Card;
+use answers::Named;
+use answers::Size;
 use facts::Code;
+use facts::Handle;
+use facts::Manner;
 use facts::Socket;
+use fitting::Taken;
+use irq_packets::Attributes;
+use irq_packets::Info;
 use layout::IRQ_LEVEL;
+use layout::IRQ_MANNER;
 use layout::IRQ_SIZE;
 use layout::IRQS_AT;
-use layout::SOCKETS_IN;
+use reading::Found;
 ghost use mathlib.Core.Path.{_≡_};
-ghost use Prim.Native.Nat.{_≤_, _<_};
+ghost use Prim.Native.Nat.{_<_};
 ghost use lib.ListN.{length};
 ghost use Rattle.facts.specs.Table;
 ghost use Rattle.layout.specs.Layout.{tableSize};
-ghost use Rattle.layout.specs.Reading.{socketsIn};
 ghost use Rattle.layout.specs.Sound.{Accepted};
-ghost use Rattle.answers.specs.Answers.{packed};
-ghost use Rattle.irq.specs.Sharing.{CountsSharers, countOf, sharerIn, sharersIn};
+ghost use Rattle.layout.specs.Changed.{irqEntered};
+ghost use Rattle.irq.specs.Granting.{PlaceIs, GrantIs, KindIs, RequestServed, ReleaseServed};
 
-// One for a grant of the socket on the level, else none.
-fn sharer(t: &[u8], level: usize, socket: Socket) -> usize
+// The packet of RequestIRQ (5.53) is 8 bytes, that of ReleaseIRQ (5.45) is 5.
+const REQUEST_LENGTH: usize = 8;
+
+const RELEASE_LENGTH: usize = 5;
+
+const ASSIGNED_AT: usize = 4;
+
+// Whether the socket has an IRQ grant.
+pub enum Place {
+    Free,
+    Held,
+}
+
+fn place_of(t: &[u8], socket: Socket) -> Place
     requires { ⌜ (length (now t) ≡ tableSize) × (socket .0 < Table.mostSockets) ⌝ }
-    ensures { λ r. ⌜ (r ≡ sharerIn (now (t .entry)) level (socket .0)) × (r ≤ 1) ⌝ }
+    ensures { λ r. ⌜ PlaceIs (now (t .entry)) (socket .0) r ⌝ }
+{
+    let number = socket.0;
+    if reading::word(t, IRQS_AT + number * IRQ_SIZE) == 0 {
+        Place::Free
+    } else {
+        Place::Held
+    }
+}
+
+// The record of the socket's IRQ grant: client, level and manner, or zeros for none.
+fn enter(t: &mut [u8], socket: Socket, client: usize, level: usize, manner: usize)
+    requires { ⌜ (length (now t) ≡ tableSize) × (socket .0 < Table.mostSockets) × (level < Table.allLevels) × (manner < 256) ⌝ }
+    ensures { λ _. ⌜ now (t .exit) ≡ irqEntered (now (t .entry)) (socket .0) client level manner ⌝ }
 {
     let number = socket.0;
     let at = IRQS_AT + number * IRQ_SIZE;
-    if reading::word(t, at) == 0 {
-        return 0;
-    }
-    if reading::byte(t, at + IRQ_LEVEL) == level {
-        return 1;
-    }
-    0
+    image::put_word(t, at, client);
+    t[at + IRQ_LEVEL] = level as u8;
+    t[at + IRQ_MANNER] = manner as u8;
 }
 
-// The number of grants of the level on the sockets below the count.
-fn count(t: &[u8], level: usize) -> usize
-    requires { ⌜ (length (now t) ≡ tableSize) × (socketsIn (now t) ≤ Table.mostSockets) ⌝ }
-    ensures { λ r. ⌜ (r ≡ sharersIn (now (t .entry)) level (socketsIn (now (t .entry)))) × (r ≤ Table.mostSockets) ⌝ }
-{
-    let sockets = reading::byte(t, SOCKETS_IN);
-    let mut n = 0;
-    let mut s = 0;
-    while s < sockets {
-        n += sharer(t, level, Socket(s));
-        s += 1;
-    }
-    n
-}
-
-// What the question for sharers answers: their number, or the code of a refusal.
-pub enum SharerCount {
-    Number(u16),
-    Refused(Code),
-}
-
-pub fn sharers(t: &[u8], level: u32) -> SharerCount
+pub fn request(t: &mut [u8], h: Handle, p: &mut [u8]) -> Answer
     requires { ⌜ Accepted (now t) ⌝ }
-    ensures { λ r. ⌜ CountsSharers level (now (t .entry)) r ⌝ }
+    ensures { λ r. ⌜ RequestServed (h .0) (now (p .entry)) (now (p .exit)) (now (t .entry)) (now (t .exit)) r ⌝ }
 {
-    let LevelNumber::Below(l) = answers::below_levels(level) else {
-        return SharerCount::Refused(Code::BadIrq);
+    let Size::Right = answers::sized(p, REQUEST_LENGTH) else {
+        return Answer::Refused(Code::BadArgLength);
     };
-    SharerCount::Number(count(t, l) as u16)
+    let Found::At(_) = reading::client_at(t, h) else {
+        return Answer::Refused(Code::BadHandle);
+    };
+    let Named::At(socket) = answers::socket_named(t, p) else {
+        return Answer::Refused(Code::BadSocket);
+    };
+    let Card::In = answers::card_at(t, socket) else {
+        return Answer::Refused(Code::NoCard);
+    };
+    let Attributes::Good = irq_packets::attributes_asked(p) else {
+        return Answer::Refused(Code::BadAttribute);
+    };
+    let Info::Good = irq_packets::info_asked(p) else {
+        return Answer::Refused(Code::BadArgs);
+    };
+    let Place::Free = place_of(t, socket) else {
+        return Answer::Refused(Code::InUse);
+    };
+    let Taken::Level(level) = fitting::choose(t, p) else {
+        return Answer::Refused(Code::BadIrq);
+    };
+    let manner = irq_packets::manner_asked(p);
+    let client = h.0;
+    enter(t, socket, client as usize, level, levels::place(manner));
+    irq_packets::assign(p, manner, level);
+    Answer::Done(h)
 }
 
-// code + 65536 * count.
-pub fn pack(c: SharerCount) -> u32
-    ensures { λ r. ⌜ r ≡ packed (countOf c .code) (countOf c .count) ⌝ }
+// The manner in which this client holds this level on this socket, or it doesn't.
+pub enum Grant {
+    Held(Manner),
+    Other,
+}
+
+fn grant_of(t: &[u8], socket: Socket, h: Handle, level: usize) -> Grant
+    requires { ⌜ (length (now t) ≡ tableSize) × (socket .0 < Table.mostSockets) ⌝ }
+    ensures { λ r. ⌜ GrantIs (now (t .entry)) (socket .0) (h .0) level r ⌝ }
 {
-    match c {
-        SharerCount::Number(n) => 65536 * (n as u32),
-        SharerCount::Refused(code) => facts::number(code),
+    let number = socket.0;
+    let at = IRQS_AT + number * IRQ_SIZE;
+    if !reading::granted(t, at, h) {
+        return Grant::Other;
     }
+    if reading::byte(t, at + IRQ_LEVEL) != level {
+        return Grant::Other;
+    }
+    Grant::Held(reading::manner_of(reading::byte(t, at + IRQ_MANNER)))
+}
+
+// Whether the type bits are those of a manner.
+pub enum Kind {
+    Same,
+    Other,
+}
+
+fn kind_of(p: &[u8], m: Manner) -> Kind
+    requires { ⌜ 3 < length (now p) ⌝ }
+    ensures { λ r. ⌜ KindIs (now (p .entry)) m r ⌝ }
+{
+    if levels::type_of(m) == irq_packets::type_asked(p) {
+        Kind::Same
+    } else {
+        Kind::Other
+    }
+}
+
+pub fn release(t: &mut [u8], h: Handle, p: &[u8]) -> Answer
+    requires { ⌜ Accepted (now t) ⌝ }
+    ensures { λ r. ⌜ ReleaseServed (h .0) (now (p .entry)) (now (t .entry)) (now (t .exit)) r ⌝ }
+{
+    let Size::Right = answers::sized(p, RELEASE_LENGTH) else {
+        return Answer::Refused(Code::BadArgLength);
+    };
+    let Found::At(_) = reading::client_at(t, h) else {
+        return Answer::Refused(Code::BadHandle);
+    };
+    let Named::At(socket) = answers::socket_named(t, p) else {
+        return Answer::Refused(Code::BadSocket);
+    };
+    let Grant::Held(manner) = grant_of(t, socket, h, reading::byte(p, ASSIGNED_AT)) else {
+        return Answer::Refused(Code::BadIrq);
+    };
+    let Kind::Same = kind_of(p, manner) else {
+        return Answer::Refused(Code::BadAttribute);
+    };
+    enter(t, socket, 0, 0, 0);
+    Answer::Done(h)
 }

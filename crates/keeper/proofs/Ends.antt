@@ -19,7 +19,7 @@ use Rattle.answers.proofs.Serve.{kept, stays}
 use Rattle.boot.specs.declared.Booted.{Booted}
 use Rattle.boot.specs.Booting.{placed, placeOf, Boots}
 use Rattle.boot.specs.Booting as boot
-use Rattle.keeper.specs.Entries.{built, CallAnswers, CardAnswers, SharersAnswers, BootAnswers}
+use Rattle.promises.specs.Entries.{built, CallAnswers, CardAnswers, SharersAnswers, BootAnswers}
 
 -- no well-formed set has these bytes
 module _ (b : List ℕ) (none : Accepted b → ⊥) where
@@ -38,27 +38,32 @@ module _ (b : List ℕ) (none : Accepted b → ⊥) where
   pub sharers-unformed : (l r : ℕ) → r ≡ numberOf GeneralFailure → SharersAnswers l b r
   sharers-unformed l r e = record { code = GeneralFailure; count = 0; packs = e; permitted = inr (stands, refl) }
 
--- the numbers that are no built service's
-not-built : (n : ℕ) → n ≢ serviceNumber deregisterClient → n ≢ serviceNumber registerClient → n ≢ serviceNumber adjustResourceInfo → Serves built n
-    → ⊥
-not-built n x y z s = go (s .service) (s .is-built) (s .number-is)
+-- n is no built service's number
+pub record NoService (n : ℕ) : Type 0 where
+  pub no-deregister : n ≢ serviceNumber deregisterClient
+  pub no-register : n ≢ serviceNumber registerClient
+  pub no-irq-release : n ≢ serviceNumber releaseIrq
+  pub no-irq-request : n ≢ serviceNumber requestIrq
+  pub no-mask-request : n ≢ serviceNumber requestSocketMask
+  pub no-mask-release : n ≢ serviceNumber releaseSocketMask
+  pub no-adjust : n ≢ serviceNumber adjustResourceInfo
+
+not-built : (n : ℕ) → NoService n → Serves built n → ⊥
+not-built n x s = go (s .service) (s .is-built) (s .number-is)
   where
     go : (v : Service) → built v ≡ true → serviceNumber v ≡ n → ⊥
-    go registerClient t e = y (sym e)
-    go deregisterClient t e = x (sym e)
-    go adjustResourceInfo t e = z (sym e)
-    go requestIrq t e = false≢true t
-    go releaseIrq t e = false≢true t
+    go registerClient t e = x .no-register (sym e)
+    go deregisterClient t e = x .no-deregister (sym e)
+    go adjustResourceInfo t e = x .no-adjust (sym e)
+    go requestIrq t e = x .no-irq-request (sym e)
+    go releaseIrq t e = x .no-irq-release (sym e)
     go requestIo t e = false≢true t
     go releaseIo t e = false≢true t
-    go requestSocketMask t e = false≢true t
-    go releaseSocketMask t e = false≢true t
+    go requestSocketMask t e = x .no-mask-request (sym e)
+    go releaseSocketMask t e = x .no-mask-release (sym e)
 
-pub unsupported : (b p : List ℕ) (n h r : ℕ) → Accepted b → n ≢ serviceNumber deregisterClient → n ≢ serviceNumber registerClient
-    → n ≢ serviceNumber adjustResourceInfo
-    → r ≡ packed UnsupportedService 0
-    → CallAnswers n h b b p p r
-unsupported b p n h r a x y z e =
+pub unsupported : (b p : List ℕ) (n h r : ℕ) → Accepted b → NoService n → r ≡ packed UnsupportedService 0 → CallAnswers n h b b p p r
+unsupported b p n h r a x e =
     record {
       code = UnsupportedService;
       answered = 0;
@@ -66,7 +71,7 @@ unsupported b p n h r a x y z e =
       permitted =
           inl
           (stays (λ (F G : Facts). Call built n F h p (record { code = UnsupportedService; handle = 0; packet = p; facts = G })) b a
-          (inr (not-built n x y z, refl, kept (a .facts) p UnsupportedService)));
+          (inr (not-built n x, refl, kept (a .facts) p UnsupportedService)));
     }
 
 -- a built service, by its number

@@ -1,2 +1,2 @@
+-- The ways in which an entry ends. Assumes nothing.
 mod Ends
-pub mod Laws

@@ -11,7 +11,7 @@ use sockets::SocketCount;
 ghost use mathlib.Core.Path.{_≡_};
 ghost use mathlib.Core.Bool.{true, false};
 ghost use Rattle.facts.specs.Codes.{numberOf};
-ghost use Rattle.keeper.specs.Entries.{CallAnswers, CardAnswers, SharersAnswers, FreshAnswers, BootAnswers};
+ghost use Rattle.promises.specs.Entries.{CallAnswers, CardAnswers, SharersAnswers, FreshAnswers, BootAnswers};
 
 // The answer where no well-formed set has the table's bytes.
 fn unformed() -> u32
@@ -41,14 +41,16 @@ pub extern "C" fn cs_call(table: &mut [u8], service: u16, handle: u16, packet: &
     let Loaded::Formed = scan::load(table) else {
         return unformed();
     };
-    // DeregisterClient, RegisterClient, AdjustResourceInfo, and every other number.
+    // DeregisterClient, RegisterClient, ReleaseIRQ, RequestIRQ, RequestSocketMask, ReleaseSocketMask, AdjustResourceInfo, and every other number.
     match service {
         0x02 => answers::pack(clients::deregister(table, Handle(handle), packet)),
         0x10 => answers::pack(clients::register(table, packet)),
+        0x1C => answers::pack(irq::release(table, Handle(handle), packet)),
+        0x20 => answers::pack(irq::request(table, Handle(handle), packet)),
+        0x22 => answers::pack(masks::request(table, Handle(handle), packet)),
+        0x2F => answers::pack(masks::release(table, Handle(handle), packet)),
         0x35 => answers::pack(resources::adjust(table, Handle(handle), packet)),
-        0x00..=0x01 | 0x03..=0x0F | 0x11..=0x34 | 0x36..=0xFFFF => answers::pack(Answer::Refused(
-            Code::UnsupportedService,
-        )),
+        0x0000..=0xFFFF => answers::pack(Answer::Refused(Code::UnsupportedService)),
     }
 }
 
@@ -82,7 +84,7 @@ pub extern "C" fn cs_sharers(table: &[u8], level: u32) -> u32
     let Loaded::Formed = scan::load(table) else {
         return unformed();
     };
-    irq::pack(irq::sharers(table, level))
+    sharers::pack(sharers::of_level(table, level))
 }
 
 #[no_mangle]

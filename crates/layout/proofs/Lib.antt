@@ -14,3 +14,5 @@ pub mod Written
 pub mod Changes
 pub mod Clients
 pub mod Ranges
+pub mod Masks
+pub mod Irqs

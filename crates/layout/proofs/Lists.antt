@@ -1,7 +1,7 @@
 -- Laws of listed facts: members, places, order, and facts that stand below a bound. Assumes nothing.
 use mathlib.Core.Path.{_≡_, refl, ap, ap₂, sym, _∙_, subst, subst₂}
 use mathlib.Core.Logic.{_⊎_, inl, inr, _≢_}
-use mathlib.Core.List.{List, [], _∷_, _++_}
+use mathlib.Core.List.{List, [], _∷_, _++_, map}
 use mathlib.Core.Bool.{Bool, cond}
 use mathlib.Core.Option.{Option, none, some, Option·some-injective, Option·none-ne-some}
 use Prim.Native.Nat.{ℕ, zero, suc, _+_, _≤_, _<_, zero-le}
@@ -254,3 +254,9 @@ rising-before lo (c ∷ cs) i zero x y r l e f = absurd (not-suc-le-zero l)
 rising-before lo (c ∷ cs) zero (suc j) x y r l e f =
     subst (λ (u : Client). u .handle < y .handle) (Option·some-injective c x e) (rising-over (c .handle) cs (r .1) y (at-in cs j f))
 rising-before lo (c ∷ cs) (suc i) (suc j) x y r l e f = rising-before (c .handle) cs i j x y (r .1) (le-of-suc-le-suc l) e f
+
+-- the ith of a list, each of which f changes
+pub at-map : {A : Type 0} (f : A → A) (s : List A) (i : ℕ) (x : A) → getElem? s i ≡ some x → getElem? (map f s) i ≡ some (f x)
+at-map f [] i x e = absurd (Option·none-ne-some x e)
+at-map {A} f (y ∷ s) zero x e = ap {B = Option A} (λ (z : A). some (f z)) (Option·some-injective y x e)
+at-map f (y ∷ s) (suc i) x e = at-map f s i x e

@@ -17,7 +17,7 @@ use Rattle.facts.specs.WellFormed.{Live}
 use Rattle.layout.specs.Layout
 use Rattle.layout.specs.Reading.{socketsIn, clientsIn, rangesIn, issuedIn, handleIn, maskOf, maskPlace, ioPlace, irqPlace, clientIn, ioIn}
 use Rattle.layout.specs.Reading.{irqIn}
-use Rattle.layout.specs.Reading.{upTo, ioHere, irqHere, levelIn, rangeIn, factsIn}
+use Rattle.layout.specs.Reading.{upTo, marked, ioHere, irqHere, levelIn, rangeIn, factsIn}
 use Rattle.layout.specs.Sound.{Accepted, Sound, LiveIn, ManagedIn, IoUsed, IrqUsed, Zero, rangeBase, rangeCount}
 use Rattle.layout.proofs.Sounds
 use Rattle.layout.proofs.Image.{image-length}
@@ -162,6 +162,12 @@ module _ (b : List ℕ) (a : Accepted b) where
       let l : s < Table.mostSockets = omega (arith, a .formed .irqs s g e .socket, a .formed .sockets-most) in
       let is = subst (λ (x : List ℕ). (0 < word x (irqPlace s)) × (irqIn x s ≡ g)) (a .is) (Sounds.irq-is (a .facts) (a .formed) s g l e) in
       (l, λ z. omega (arith, z, is .0), is .1)
+
+  -- a card is present as its byte says
+  pub card-said : (s : ℕ) → s < Table.mostSockets → a .facts .card s ≡ marked (byte b (Layout.cardsAt + s))
+  unfolding factsIn
+  card-said s l =
+      ap (λ (F : Facts). F .card s) facts-in ∙ below-in Table.mostSockets false (λ s. marked (byte b (Layout.cardsAt + s))) s l
 
   -- a level is managed and reserved as its record says
   pub level-said : (l : ℕ) → l < Table.allLevels → a .facts .level l ≡ levelIn b l

@@ -48,6 +48,10 @@ MaskSound b i s =
     (word b (maskPlace i s) ≡ 0) ⊎ ((Table.allEvents ≤ word b (maskPlace i s)) × (word b (maskPlace i s) < Table.allEvents + Table.allEvents)
     × (s < socketsIn b))
 
+-- the client listed in the place i has a mask for the socket s
+abbrev pub MaskUsed : List ℕ → ℕ → ℕ → Type 0
+MaskUsed b i s = word b (maskPlace i s) ≢ 0
+
 -- the ith client's record, whose handle is over low
 pub record ClientSound (b : List ℕ) (low i : ℕ) : Type 0 where
   pub over : low < handleIn b i

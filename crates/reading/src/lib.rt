@@ -1,9 +1,12 @@
 // Reads a table's bytes where they lie: numbers, a client by its handle, whether ports are managed. What every service needs to read.
 use facts::Handle;
 use facts::Manner;
+use facts::Socket;
+use layout::CLIENT_MASKS;
 use layout::CLIENT_SIZE;
 use layout::CLIENTS_AT;
 use layout::CLIENTS_IN;
+use layout::MASK_SIZE;
 use layout::RANGE_COUNT;
 use layout::RANGE_SIZE;
 use layout::RANGES_AT;
@@ -18,7 +21,7 @@ ghost use Rattle.facts.specs.Ports.{Within};
 ghost use Rattle.facts.specs.WellFormed.{AttributesAllowed};
 ghost use Rattle.layout.specs.Layout.{tableSize};
 ghost use Rattle.layout.specs.Reading.{clientsIn, rangesIn, mannerOf};
-ghost use Rattle.layout.specs.Sound.{Zero, LiveIn, ManagedIn, RangesSound, rangeBase, rangeCount, endBefore};
+ghost use Rattle.layout.specs.Sound.{Zero, LiveIn, MaskUsed, ManagedIn, RangesSound, rangeBase, rangeCount, endBefore};
 ghost use Rattle.reading.specs.Finding.{Finds, Passes};
 
 // How many numbers one byte and two bytes hold.
@@ -138,6 +141,25 @@ pub fn live(t: &[u8], h: Handle) -> bool
         Found::At(_) => true,
         Found::Nobody => false,
     }
+}
+
+// Whether a grant, whose record stands at a place, is the client's.
+pub fn granted(t: &[u8], at: usize, h: Handle) -> bool
+    requires { ⌜ at + 1 < length (now t) ⌝ }
+    ensures { λ r. ⌜ Says r (Packets.word (now (t .entry)) at ≡ h .0) ⌝ }
+{
+    let holder = handle(t, at);
+    holder.0 == h.0
+}
+
+// Whether the client listed in the place `i` holds a mask for the socket.
+pub fn mask_on(t: &[u8], i: usize, s: Socket) -> bool
+    requires { ⌜ (length (now t) ≡ tableSize) × (i < Table.mostClients) × (s .0 < Table.mostSockets) ⌝ }
+    ensures { λ r. ⌜ Says r (MaskUsed (now (t .entry)) i (s .0)) ⌝ }
+{
+    let number = s.0;
+    let at = CLIENTS_AT + i * CLIENT_SIZE + CLIENT_MASKS + number * MASK_SIZE;
+    word(t, at) != 0
 }
 
 // Where the range `i` ends.

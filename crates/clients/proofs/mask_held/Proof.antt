@@ -5,12 +5,12 @@ use native.Mathlib.Omega.{arith}
 use Rattle.facts.specs.Table
 use Rattle.reading.proofs.All.{so-far-none}
 use Rattle.reading.proofs.Some.{NoneYet, none-next, some-found, none-found}
-use Rattle.clients.specs.Clients.{MaskIn}
+use Rattle.layout.specs.Sound.{MaskUsed}
 use Rattle.clients.proofs.mask_held.Statement.{statement}
 use Rattle.clients.proofs.mask_held.Tie as tie
 
 abbrev Inv-loop : tie.InvT-loop
-Inv-loop t i s₀ s = NoneYet Table.mostSockets (MaskIn t i) s
+Inv-loop t i s₀ s = NoneYet Table.mostSockets (MaskUsed t i) s
 
 abbrev μ-loop : tie.MeasureT-loop
 μ-loop t i s₀ s = Table.mostSockets - s

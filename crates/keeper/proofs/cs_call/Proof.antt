@@ -7,8 +7,8 @@ use borrow.Author.Needs.{needs}
 use denote.Ref.{now}
 use Rattle.layout.specs.Sound.{Accepted}
 use Rattle.scan.specs.Loading.{LoadedIs}
-use Rattle.facts.specs.Services.{registerClient, deregisterClient, adjustResourceInfo}
-use Rattle.keeper.proofs.Ends.{call-unformed, unsupported, by-service}
+use Rattle.facts.specs.Services.{registerClient, deregisterClient, adjustResourceInfo, requestIrq, releaseIrq, requestSocketMask, releaseSocketMask}
+use Rattle.keeper.proofs.Ends.{NoService, call-unformed, unsupported, by-service}
 use Rattle.keeper.proofs.cs_call.Statement.{statement}
 use Rattle.keeper.proofs.cs_call.Tie as tie
 
@@ -40,12 +40,43 @@ chosen1 c = c .before .before .before
 abbrev chosen2 : tie.After-register → tie.At-match2-keys2
 chosen2 c = c .before .before .before
 
-abbrev chosen3 : tie.After-adjust → tie.At-match2-keys3
+abbrev chosen3 : tie.After-release → tie.At-match2-keys3
 chosen3 c = c .before .before .before
 
--- both lent slices come back from AdjustResourceInfo
-abbrev returned : tie.After-slice-known6 → tie.After-table3
-returned c = c .before .before .before
+abbrev chosen4 : tie.After-request → tie.At-match2-keys4
+chosen4 c = c .before .before .before
+
+abbrev chosen5 : tie.After-request2 → tie.At-match2-keys5
+chosen5 c = c .before .before .before
+
+abbrev chosen6 : tie.After-release2 → tie.At-match2-keys6
+chosen6 c = c .before .before .before
+
+abbrev chosen7 : tie.After-adjust → tie.At-match2-keys7
+chosen7 c = c .before .before .before
+
+-- both lent slices come back from RequestIRQ and AdjustResourceInfo
+abbrev returned4 : tie.After-slice-known7 → tie.After-table4
+returned4 c = c .before .before .before
+
+abbrev returned7 : tie.After-slice-known11 → tie.After-table7
+returned7 c = c .before .before .before
+
+-- or it is no built service's
+no-service : (c : tie.At-match2-rest) → NoService (start (c .before .before .before) .args .service)
+no-service c =
+    let masks = c .match2 .rest .0 in
+    let irqs = masks .0 .0 in
+    let clients = irqs .0 .0 in
+    record {
+      no-deregister = clients .0 .1;
+      no-register = clients .1;
+      no-irq-release = irqs .0 .1;
+      no-irq-request = irqs .1;
+      no-mask-request = masks .0 .1;
+      no-mask-release = masks .1;
+      no-adjust = c .match2 .rest .1;
+    }
 
 load-requires : tie.Need-load-requires
 load-requires c κs = search needs
@@ -80,14 +111,38 @@ register-requires c κs = formed (c .before .before .before)
 pack-requires-2 : tie.Need-pack-requires-2
 pack-requires-2 c κs = search needs
 
-adjust-requires : tie.Need-adjust-requires
-adjust-requires c κs = formed (c .before .before .before)
+release-requires : tie.Need-release-requires
+release-requires c κs = formed (c .before .before .before)
 
 pack-requires-3 : tie.Need-pack-requires-3
 pack-requires-3 c κs = search needs
 
+request-requires : tie.Need-request-requires
+request-requires c κs = formed (c .before .before .before)
+
 pack-requires-4 : tie.Need-pack-requires-4
 pack-requires-4 c κs = search needs
+
+request-requires-2 : tie.Need-request-requires-2
+request-requires-2 c κs = formed (c .before .before .before)
+
+pack-requires-5 : tie.Need-pack-requires-5
+pack-requires-5 c κs = search needs
+
+release-requires-2 : tie.Need-release-requires-2
+release-requires-2 c κs = formed (c .before .before .before)
+
+pack-requires-6 : tie.Need-pack-requires-6
+pack-requires-6 c κs = search needs
+
+adjust-requires : tie.Need-adjust-requires
+adjust-requires c κs = formed (c .before .before .before)
+
+pack-requires-7 : tie.Need-pack-requires-7
+pack-requires-7 c κs = search needs
+
+pack-requires-8 : tie.Need-pack-requires-8
+pack-requires-8 c κs = search needs
 
 same-length-2 : tie.Need-same-length-2
 same-length-2 c = search needs
@@ -127,25 +182,82 @@ same-length-7 c = search needs
 
 returns-4 : tie.Need-returns-4
 returns-4 c =
-    let called = returned (c .before) .before in
+    let called = c .before .before .before in
     let loaded = chosen3 called .before .before .before in
     let a = start loaded .args in
-    by-service adjustResourceInfo refl (table loaded) (called .adjust .last .0) (packet loaded) (called .adjust .last .1 .1 .0) (a .service)
-    (a .handle)
+    by-service releaseIrq refl (table loaded) (called .release .last .0) (packet loaded) (packet loaded) (a .service) (a .handle)
     (c .pack3 .result)
-    (called .adjust .result) (chosen3 called .match2 .keys3) (called .adjust .ensures) (c .pack3 .ensures)
+    (called .release .result) (chosen3 called .match2 .keys3) (called .release .ensures) (c .pack3 .ensures)
 
 same-length-8 : tie.Need-same-length-8
 same-length-8 c = search needs
 
+same-length-9 : tie.Need-same-length-9
+same-length-9 c = search needs
+
 returns-5 : tie.Need-returns-5
 returns-5 c =
+    let called = returned4 (c .before) .before in
+    let loaded = chosen4 called .before .before .before in
+    let a = start loaded .args in
+    by-service requestIrq refl (table loaded) (called .request .last .0) (packet loaded) (called .request .last .1 .1 .0) (a .service) (a .handle)
+    (c .pack4 .result)
+    (called .request .result) (chosen4 called .match2 .keys4) (called .request .ensures) (c .pack4 .ensures)
+
+same-length-10 : tie.Need-same-length-10
+same-length-10 c = search needs
+
+same-length-11 : tie.Need-same-length-11
+same-length-11 c = search needs
+
+returns-6 : tie.Need-returns-6
+returns-6 c =
+    let called = c .before .before .before in
+    let loaded = chosen5 called .before .before .before in
+    let a = start loaded .args in
+    by-service requestSocketMask refl (table loaded) (called .request2 .last .0) (packet loaded) (packet loaded) (a .service) (a .handle)
+    (c .pack5 .result)
+    (called .request2 .result) (chosen5 called .match2 .keys5) (called .request2 .ensures) (c .pack5 .ensures)
+
+same-length-12 : tie.Need-same-length-12
+same-length-12 c = search needs
+
+same-length-13 : tie.Need-same-length-13
+same-length-13 c = search needs
+
+returns-7 : tie.Need-returns-7
+returns-7 c =
+    let called = c .before .before .before in
+    let loaded = chosen6 called .before .before .before in
+    let a = start loaded .args in
+    by-service releaseSocketMask refl (table loaded) (called .release2 .last .0) (packet loaded) (packet loaded) (a .service) (a .handle)
+    (c .pack6 .result)
+    (called .release2 .result) (chosen6 called .match2 .keys6) (called .release2 .ensures) (c .pack6 .ensures)
+
+same-length-14 : tie.Need-same-length-14
+same-length-14 c = search needs
+
+same-length-15 : tie.Need-same-length-15
+same-length-15 c = search needs
+
+returns-8 : tie.Need-returns-8
+returns-8 c =
+    let called = returned7 (c .before) .before in
+    let loaded = chosen7 called .before .before .before in
+    let a = start loaded .args in
+    by-service adjustResourceInfo refl (table loaded) (called .adjust .last .0) (packet loaded) (called .adjust .last .1 .1 .0) (a .service) (a .handle)
+    (c .pack7 .result)
+    (called .adjust .result) (chosen7 called .match2 .keys7) (called .adjust .ensures) (c .pack7 .ensures)
+
+same-length-16 : tie.Need-same-length-16
+same-length-16 c = search needs
+
+returns-9 : tie.Need-returns-9
+returns-9 c =
     let told = c .before .before in
     let loaded = told .before .before in
     let a = start loaded .args in
-    let other = c .before .match2 .rest in
-    unsupported (table loaded) (packet loaded) (a .service) (a .handle) (c .pack4 .result) (formed told) (other .0 .0 .1) (other .0 .1) (other .1)
-    (c .pack4 .ensures)
+    unsupported (table loaded) (packet loaded) (a .service) (a .handle) (c .pack8 .result) (formed told) (no-service (c .before)) (c .pack8 .ensures)
 
 pub cs-call-spec : {M : Type 1} → statement M
 cs-call-spec =
@@ -161,9 +273,17 @@ cs-call-spec =
     pack-requires
     register-requires
     pack-requires-2
-    adjust-requires
+    release-requires
     pack-requires-3
+    request-requires
     pack-requires-4
+    request-requires-2
+    pack-requires-5
+    release-requires-2
+    pack-requires-6
+    adjust-requires
+    pack-requires-7
+    pack-requires-8
     same-length-2
     same-length-3
     returns-2
@@ -174,4 +294,16 @@ cs-call-spec =
     same-length-7
     returns-4
     same-length-8
-    returns-5)
+    same-length-9
+    returns-5
+    same-length-10
+    same-length-11
+    returns-6
+    same-length-12
+    same-length-13
+    returns-7
+    same-length-14
+    same-length-15
+    returns-8
+    same-length-16
+    returns-9)

@@ -13,7 +13,7 @@ use Rattle.layout.specs.Layout.{image, tableSize}
 use Rattle.answers.specs.Answers.{SizeIs}
 use Rattle.sockets.specs.declared.SocketCount.the-variants.{Allowed}
 use Rattle.sockets.specs.Counts.{SocketsAre}
-use Rattle.keeper.specs.Entries.{FreshAllowed}
+use Rattle.promises.specs.Entries.{FreshAllowed}
 use Rattle.keeper.proofs.cs_fresh.Statement.{statement}
 use Rattle.keeper.proofs.cs_fresh.Tie as tie
 

@@ -8,7 +8,7 @@ use borrow.Author.Needs.{needs}
 use denote.Ref.{now}
 use Rattle.layout.specs.Sound.{Accepted}
 use Rattle.scan.specs.Loading.{LoadedIs}
-use Rattle.irq.specs.Sharing.{countOf}
+use Rattle.sharers.specs.Sharing.{countOf}
 use Rattle.keeper.proofs.Ends.{sharers-unformed}
 use Rattle.keeper.proofs.cs_sharers.Statement.{statement}
 use Rattle.keeper.proofs.cs_sharers.Tie as tie
@@ -45,16 +45,16 @@ returns c =
     let loaded = c .before .before .before in
     sharers-unformed (table loaded) (unformed (c .before)) (start loaded .args .level) (c .unformed .result) (c .unformed .ensures)
 
-sharers-requires : tie.Need-sharers-requires
-sharers-requires c κs = formed c
+of-level-requires : tie.Need-of-level-requires
+of-level-requires c κs = formed c
 
 pack-requires : tie.Need-pack-requires
 pack-requires c κs = search needs
 
 returns-2 : tie.Need-returns-2
 returns-2 c =
-    let n = countOf (c .before .sharers .result) in
-    record { code = n .code; count = n .count; packs = c .pack .ensures; permitted = inl (c .before .sharers .ensures) }
+    let n = countOf (c .before .of-level .result) in
+    record { code = n .code; count = n .count; packs = c .pack .ensures; permitted = inl (c .before .of-level .ensures) }
 
 pub cs-sharers-spec : {M : Type 1} → statement M
 cs-sharers-spec =
@@ -65,6 +65,6 @@ cs-sharers-spec =
     enum-told-2
     unformed-requires
     returns
-    sharers-requires
+    of-level-requires
     pack-requires
     returns-2)

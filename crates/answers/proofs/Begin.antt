@@ -1,0 +1,85 @@
+-- What every service on a socket begins with: length, handle, socket, and of a request the card. Assumes nothing.
+use mathlib.Core.Path.{_≡_, refl, ap, sym, _∙_}
+use mathlib.Core.Logic.{_⊎_, inl, inr, _≢_}
+use mathlib.Core.List.{List, _∷_}
+use mathlib.Core.Bool.{true, false, true≢false}
+use Prim.Native.Nat.{ℕ, _+_, _≤_, _<_}
+use native.Mathlib.Omega.{arith}
+use lib.ListN.{length}
+use borrow.Author.Tests.{eq-eqb, ne-eqb}
+use Rattle.facts.specs.declared.Code.{Code}
+use Rattle.facts.specs.declared.Code.the-variants.{BadArgLength, BadHandle, BadSocket, NoCard}
+use Rattle.facts.specs.Table
+use Rattle.facts.specs.WellFormed.{Live}
+use Rattle.facts.specs.Packets.{byte}
+use Rattle.facts.specs.Checks.{Check, _gives_, FirstGiven, Passed}
+use Rattle.facts.specs.Sockets.{socketOf, BadSocketIn, releaseChecks, requestChecks}
+use Rattle.layout.specs.Layout
+use Rattle.layout.specs.Reading.{socketsIn, marked}
+use Rattle.layout.specs.Sound.{Accepted, LiveIn}
+use Rattle.layout.proofs.Of
+use Rattle.answers.specs.Answers.{NamesSocket}
+
+-- the packet has n bytes, the handle h is live, and the socket s is named
+pub record Begun (b p : List ℕ) (n h s : ℕ) : Type 0 where
+  pub size : length p ≡ n
+  pub live : LiveIn b h
+  pub socket : NamesSocket b p s
+
+module _ (b p : List ℕ) (a : Accepted b) (n h : ℕ) where
+  -- the facts say so too
+  is-live : LiveIn b h → Live (a .facts) h
+  is-live l = Of.live-listed b a (l .0) h (l .1) (l .2)
+
+  bad-socket : (socketsIn b ≤ socketOf p) ⊎ (byte p 1 ≢ 0) → BadSocketIn (a .facts) p
+  bad-socket (inl l) = inl (omega (arith, Of.sockets-in b a))
+  bad-socket (inr d) = inr d
+
+  good-socket : {s : ℕ} → NamesSocket b p s → BadSocketIn (a .facts) p → ⊥
+  good-socket x (inl l) = omega (arith, x .counted, Of.sockets-in b a)
+  good-socket x (inr d) = d (x .function)
+
+  -- the socket that is named is one of a table's, and its byte says whether a card is in it
+  module _ {s : ℕ} (begun : Begun b p n h s) where
+    pub in-sockets : s < Table.mostSockets
+    in-sockets = omega (arith, begun .socket .number, begun .socket .counted, Of.sockets-in b a, a .formed .sockets-most)
+
+    card-byte : a .facts .card (socketOf p) ≡ marked (byte b (Layout.cardsAt + s))
+    card-byte = ap (a .facts .card) (sym (begun .socket .number)) ∙ Of.card-said b a s in-sockets
+
+  module _ (own : List Check) where
+    -- the first that applies is one of the three
+    pub wrong-length : length p ≢ n → FirstGiven (releaseChecks n (a .facts) h p own) BadArgLength
+    wrong-length d = inl (d, refl)
+
+    pub not-live : length p ≡ n → (LiveIn b h → ⊥) → FirstGiven (releaseChecks n (a .facts) h p own) BadHandle
+    not-live e d = inr ((λ x. x e), inl ((λ l. d (Of.listed-live b a h l)), refl))
+
+    pub not-named : length p ≡ n → LiveIn b h → (socketsIn b ≤ socketOf p) ⊎ (byte p 1 ≢ 0)
+        → FirstGiven (releaseChecks n (a .facts) h p own) BadSocket
+    not-named e l d = inr ((λ x. x e), inr ((λ x. x (is-live l)), inl (bad-socket d, refl)))
+
+    -- or none of them applies: then it is the first of the service's own, or none
+    module _ {s : ℕ} (begun : Begun b p n h s) where
+      pub then-first : (k : Code) → FirstGiven own k → FirstGiven (releaseChecks n (a .facts) h p own) k
+      then-first k f = inr ((λ x. x (begun .size)), inr ((λ x. x (is-live (begun .live))), inr (good-socket (begun .socket), f)))
+
+      pub then-passed : Passed own → Passed (releaseChecks n (a .facts) h p own)
+      then-passed f = ((λ x. x (begun .size)), ((λ x. x (is-live (begun .live))), (good-socket (begun .socket), f)))
+
+  -- a request's card: it is missing, or it is there
+  module _ (own : List Check) {s : ℕ} (begun : Begun b p n h s) where
+    abbrev with-card : List Check
+    with-card = ((a .facts .card (socketOf p) ≡ false) gives NoCard) ∷ own
+
+    pub no-card : byte b (Layout.cardsAt + s) ≢ 1 → FirstGiven (requestChecks n (a .facts) h p own) NoCard
+    no-card d = then-first with-card begun NoCard (inl (card-byte begun ∙ ne-eqb _ 1 d, refl))
+
+    card-is : byte b (Layout.cardsAt + s) ≡ 1 → a .facts .card (socketOf p) ≡ false → ⊥
+    card-is e f = true≢false (sym (eq-eqb _ 1 e) ∙ sym (card-byte begun) ∙ f)
+
+    pub request-first : byte b (Layout.cardsAt + s) ≡ 1 → (k : Code) → FirstGiven own k → FirstGiven (requestChecks n (a .facts) h p own) k
+    request-first e k f = then-first with-card begun k (inr (card-is e, f))
+
+    pub request-passed : byte b (Layout.cardsAt + s) ≡ 1 → Passed own → Passed (requestChecks n (a .facts) h p own)
+    request-passed e f = then-passed with-card begun (card-is e, f)

@@ -1,0 +1,2 @@
+-- What the contracts of `fitting` cite. Assumes nothing.
+pub mod Fitting

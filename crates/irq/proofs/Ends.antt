@@ -1,0 +1,238 @@
+-- Each way in which RequestIRQ and ReleaseIRQ end is the rule's. Assumes nothing.
+use mathlib.Core.Path.{_≡_, refl, ap, sym, _∙_, subst}
+use mathlib.Core.Logic.{_⊎_, inl, inr, _≢_}
+use mathlib.Core.List.{List, [], _∷_}
+use mathlib.Core.Bool.{false}
+use mathlib.Core.Option.{none, some, Option·none-ne-some}
+use Prim.Native.Nat.{ℕ, _+_, _≤_, _<_}
+use native.Mathlib.Omega.{arith}
+use lib.ListN.{length, set, length-set}
+use Rattle.facts.specs.declared.Code.{Code}
+use Rattle.facts.specs.declared.Code.the-variants.{Success, BadAttribute, BadIrq, BadArgLength, BadSocket, NoCard, BadArgs, InUse, BadHandle}
+use Rattle.facts.specs.declared.Manner.{Manner}
+use Rattle.facts.specs.declared.Manner.the-variants.{Exclusive, TimeMultiplexed, DynamicLevel, DynamicPulse}
+use Rattle.facts.specs.Table
+use Rattle.facts.specs.Table.{Facts, IrqGrant}
+use Rattle.facts.specs.Packets.{byte, word, withWord}
+use Rattle.facts.specs.Levels.{typeOf}
+use Rattle.facts.specs.Checks.{Check, _gives_, FirstGiven, Outcome, Leaves}
+use Rattle.facts.specs.Sockets.{socketOf}
+use Rattle.facts.specs.Irq.{RequestIrq, ReleaseIrq, requestIrqLength, releaseIrqLength, typeAsked, assignedIrq, mannerAsked, assigning, withIrq}
+use Rattle.facts.specs.Irq.{irqGrant, GrantsIrq, IrqHeld, IrqAttributesBad, IrqInfoBad, LevelTaken, NoLevelFits, ownIrqChecks, levelChecks}
+use Rattle.facts.specs.Irq.{irqRequestChecks, irqReleaseChecks}
+use Rattle.layout.specs.Layout
+use Rattle.layout.specs.Layout.{image, mannerByte}
+use Rattle.layout.specs.Reading.{socketsIn, irqPlace, irqIn, mannerOf}
+use Rattle.layout.specs.Sound.{Accepted, LiveIn, IrqUsed}
+use Rattle.layout.specs.Served.{ServedBy}
+use Rattle.layout.specs.Changed.{irqEntered}
+use Rattle.layout.proofs.Of
+use Rattle.layout.proofs.RoundTrip.{live-positive}
+use Rattle.layout.proofs.Written.{word-length}
+use Rattle.layout.proofs.Irqs.{client-is, level-is, manner-is, granted-image, released-image}
+use Rattle.levels.specs.Places.{placeOf}
+use Rattle.answers.proofs.Serve.{left, refused-by, done-by}
+use Rattle.answers.proofs.Begin
+use Rattle.answers.proofs.Begin.{Begun}
+use Rattle.irq.specs.Granting.{RecordSays}
+
+-- the rules, of a packet
+abbrev pub Requests : ℕ → List ℕ → Facts → Outcome → Type 0
+Requests h p F = RequestIrq F h p
+
+abbrev pub Releases : ℕ → List ℕ → Facts → Outcome → Type 0
+Releases h p F = ReleaseIrq F h p
+
+-- a manner's byte is its place in the table of the sharing rule
+place-byte : (m : Manner) → placeOf m ≡ mannerByte m
+place-byte Exclusive = refl
+place-byte TimeMultiplexed = refl
+place-byte DynamicLevel = refl
+place-byte DynamicPulse = refl
+
+pub place-small : (m : Manner) → placeOf m < 256
+place-small Exclusive = omega arith
+place-small TimeMultiplexed = omega arith
+place-small DynamicLevel = omega arith
+place-small DynamicPulse = omega arith
+
+-- a record's writes, one after the other
+pub enters : (b b₁ : List ℕ) (s client level manner : ℕ) → b₁ ≡ withWord b (irqPlace s) client
+    → set (set b₁ (irqPlace s + 2) level) (irqPlace s + 3) manner ≡ irqEntered b s client level manner
+unfolding irqEntered
+enters b b₁ s client level manner e = ap (λ (x : List ℕ). set (set x (irqPlace s + 2) level) (irqPlace s + 3) manner) e
+
+pub enters-within : (b b₁ : List ℕ) (s client level : ℕ) → length b ≡ Layout.tableSize → s < Table.mostSockets → b₁ ≡ withWord b (irqPlace s) client
+    → irqPlace s + 3 < length (set b₁ (irqPlace s + 2) level)
+enters-within b b₁ s client level size l e =
+    let same : length b₁ ≡ length b = ap length e ∙ word-length b (irqPlace s) client in
+    omega (arith, length-set b₁ (irqPlace s + 2) level, same, size)
+
+-- the client is live and the socket is named: the socket's grant
+module _ (b p : List ℕ) (a : Accepted b) {n h s : ℕ} (begun : Begun b p n h s) where
+  pub in-sockets : s < Table.mostSockets
+  in-sockets = Begin.in-sockets b p a n h begun
+
+  -- what a socket's place asks of the table
+  pub in-table : (length b ≡ Layout.tableSize) × (s < Table.mostSockets)
+  in-table = (Of.size-in b a, in-sockets)
+
+  positive : 0 < h
+  positive = live-positive (a .formed) (Of.live-listed b a (begun .live .0) h (begun .live .1) (begun .live .2))
+
+  free : (IrqUsed b s → ⊥) → a .facts .irq (socketOf p) ≡ none
+  free d = subst (λ (t : ℕ). a .facts .irq t ≡ none) (begun .socket .number) (go (Of.irq-of b a s in-sockets))
+    where
+      go : Of.GrantOf (λ (g : IrqGrant). g .client) (a .facts .irq s) (word b (irqPlace s)) → a .facts .irq s ≡ none
+      go (inl x) = x .0
+      go (inr x) = absurd (d (λ z. omega (arith, z, x .2, x .3)))
+
+  grant-is : IrqUsed b s → a .facts .irq (socketOf p) ≡ some (irqIn b s)
+  grant-is u = subst (λ (t : ℕ). a .facts .irq t ≡ some (irqIn b s)) (begun .socket .number) (Of.irq-said b a s in-sockets u)
+
+  used : a .facts .irq (socketOf p) ≡ none → IrqUsed b s → ⊥
+  used e u = Option·none-ne-some (irqIn b s) (sym e ∙ grant-is u)
+
+  -- this client holds this level on this socket exactly if the record says so
+  held : (l : ℕ) → RecordSays b s h l → IrqHeld (a .facts) h (socketOf p) l (irqIn b s)
+  held l x =
+      record {
+        live = grant-is (λ z. omega (arith, z, x .client, positive));
+        client = client-is b s ∙ x .client;
+        level = level-is b s ∙ x .level;
+      }
+
+  only : (l : ℕ) (g : IrqGrant) → IrqHeld (a .facts) h (socketOf p) l g → irqIn b s ≡ g
+  only l g x = Of.said-irq b a s g (subst (λ (t : ℕ). a .facts .irq t ≡ some g) (sym (begun .socket .number)) (x .live)) .2
+
+  says : (l : ℕ) (g : IrqGrant) → IrqHeld (a .facts) h (socketOf p) l g → RecordSays b s h l
+  says l g x =
+      let e = only l g x in
+      record {
+        client = sym (client-is b s) ∙ ap (λ (y : IrqGrant). y .client) e ∙ x .client;
+        level = sym (level-is b s) ∙ ap (λ (y : IrqGrant). y .level) e ∙ x .level;
+      }
+
+module _ (b p : List ℕ) (a : Accepted b) (h : ℕ) where
+  -- a request's own checks, and those past the socket
+  abbrev own : List Check
+  own = ownIrqChecks (a .facts) p (levelChecks (a .facts) p)
+
+  abbrev past-socket : List Check
+  past-socket = ((a .facts .card (socketOf p) ≡ false) gives NoCard) ∷ own
+
+  request-refused : (k : Code) → FirstGiven (irqRequestChecks (a .facts) h p) k → ServedBy (Requests h p) b b p k 0
+  request-refused = refused-by (λ (F : Facts). irqRequestChecks F h p) (λ (F : Facts). GrantsIrq F h p) b p a
+
+  pub request-length : length p ≢ requestIrqLength → ServedBy (Requests h p) b b p BadArgLength 0
+  request-length d = request-refused BadArgLength (Begin.wrong-length b p a requestIrqLength h past-socket d)
+
+  pub request-nobody : length p ≡ requestIrqLength → (LiveIn b h → ⊥) → ServedBy (Requests h p) b b p BadHandle 0
+  request-nobody e d = request-refused BadHandle (Begin.not-live b p a requestIrqLength h past-socket e d)
+
+  pub request-unnamed : length p ≡ requestIrqLength → LiveIn b h → (socketsIn b ≤ socketOf p) ⊎ (byte p 1 ≢ 0)
+      → ServedBy (Requests h p) b b p BadSocket 0
+  request-unnamed e l d = request-refused BadSocket (Begin.not-named b p a requestIrqLength h past-socket e l d)
+
+  module _ {s : ℕ} (begun : Begun b p requestIrqLength h s) where
+    pub request-no-card : byte b (Layout.cardsAt + s) ≢ 1 → ServedBy (Requests h p) b b p NoCard 0
+    request-no-card d = request-refused NoCard (Begin.no-card b p a requestIrqLength h own begun d)
+
+    module _ (card : byte b (Layout.cardsAt + s) ≡ 1) where
+      first : (k : Code) → FirstGiven own k → ServedBy (Requests h p) b b p k 0
+      first k f = request-refused k (Begin.request-first b p a requestIrqLength h own begun card k f)
+
+      pub request-attributes : IrqAttributesBad p → ServedBy (Requests h p) b b p BadAttribute 0
+      request-attributes x = first BadAttribute (inl (x, refl))
+
+      module _ (attributes : IrqAttributesBad p → ⊥) where
+        pub request-info : IrqInfoBad p → ServedBy (Requests h p) b b p BadArgs 0
+        request-info x = first BadArgs (inr (attributes, inl (x, refl)))
+
+        module _ (info : IrqInfoBad p → ⊥) where
+          pub request-held : IrqUsed b s → ServedBy (Requests h p) b b p InUse 0
+          request-held u = first InUse (inr (attributes, inr (info, inl ((λ e. used b p a begun e u), refl))))
+
+          module _ (unused : IrqUsed b s → ⊥) where
+            pub request-none : NoLevelFits (a .facts) p → ServedBy (Requests h p) b b p BadIrq 0
+            request-none x =
+                first BadIrq (inr (attributes, inr (info, inr ((λ d. d (free b p a begun unused)), inl (x, refl)))))
+
+            -- a level is taken: its grant is entered, and the packet says it
+            pub request-done : (l : ℕ) → LevelTaken (a .facts) p l → h < 65536
+                → ServedBy (Requests h p) b (irqEntered b s h l (placeOf (mannerAsked p))) (assigning p l) Success h
+            request-done l taken low =
+                done-by (λ (F : Facts). irqRequestChecks F h p) (λ (F : Facts). GrantsIrq F h p) b p a
+                (irqEntered b s h l (placeOf (mannerAsked p))) (assigning p l) h after
+                (Begin.request-passed b p a requestIrqLength h own begun card
+                (attributes, (info, ((λ d. d (free b p a begun unused)), ((λ x. x l (taken .fits)), tt)))))
+                (record { level = l; taken = taken; leaves = left h (assigning p l) after }) entered
+              where
+                after : Facts
+                after = withIrq (a .facts) (socketOf p) (some (irqGrant h p l))
+
+                entered : image after ≡ irqEntered b s h l (placeOf (mannerAsked p))
+                entered =
+                    ap (λ (t : ℕ). image (withIrq (a .facts) t (some (irqGrant h p l)))) (sym (begun .socket .number))
+                    ∙ granted-image b a s (in-sockets b p a begun) (irqGrant h p l) low
+                    ∙ ap (irqEntered b s h l) (sym (place-byte (mannerAsked p)))
+
+  -- a release's own checks
+  abbrev unheld : Check
+  unheld = ((g : IrqGrant) → IrqHeld (a .facts) h (socketOf p) (assignedIrq p) g → ⊥) gives BadIrq
+
+  abbrev differs : Check
+  differs = ((g : IrqGrant) × IrqHeld (a .facts) h (socketOf p) (assignedIrq p) g × (typeOf (g .manner) ≢ typeAsked p)) gives BadAttribute
+
+  abbrev owned : List Check
+  owned = unheld ∷ differs ∷ []
+
+  release-refused : (k : Code) → FirstGiven (irqReleaseChecks (a .facts) h p) k → ServedBy (Releases h p) b b p k 0
+  release-refused =
+      refused-by (λ (F : Facts). irqReleaseChecks F h p) (λ (F : Facts). Leaves h p (withIrq F (socketOf p) none)) b p a
+
+  pub release-length : length p ≢ releaseIrqLength → ServedBy (Releases h p) b b p BadArgLength 0
+  release-length d = release-refused BadArgLength (Begin.wrong-length b p a releaseIrqLength h owned d)
+
+  pub release-nobody : length p ≡ releaseIrqLength → (LiveIn b h → ⊥) → ServedBy (Releases h p) b b p BadHandle 0
+  release-nobody e d = release-refused BadHandle (Begin.not-live b p a releaseIrqLength h owned e d)
+
+  pub release-unnamed : length p ≡ releaseIrqLength → LiveIn b h → (socketsIn b ≤ socketOf p) ⊎ (byte p 1 ≢ 0)
+      → ServedBy (Releases h p) b b p BadSocket 0
+  release-unnamed e l d = release-refused BadSocket (Begin.not-named b p a releaseIrqLength h owned e l d)
+
+  module _ {s : ℕ} (begun : Begun b p releaseIrqLength h s) where
+    first-owned : (k : Code) → FirstGiven owned k → ServedBy (Releases h p) b b p k 0
+    first-owned k f = release-refused k (Begin.then-first b p a releaseIrqLength h owned begun k f)
+
+    pub release-unheld : (RecordSays b s h (assignedIrq p) → ⊥) → ServedBy (Releases h p) b b p BadIrq 0
+    release-unheld d = first-owned BadIrq (inl ((λ g x. d (says b p a begun (assignedIrq p) g x)), refl))
+
+    module _ (x : RecordSays b s h (assignedIrq p)) (m : Manner) (e : m ≡ mannerOf (byte b (irqPlace s + 3))) where
+      -- the grant, and its manner
+      holds : IrqHeld (a .facts) h (socketOf p) (assignedIrq p) (irqIn b s)
+      holds = held b p a begun (assignedIrq p) x
+
+      manner : irqIn b s .manner ≡ m
+      manner = manner-is b s ∙ sym e
+
+      pub release-differs : typeOf m ≢ typeAsked p → ServedBy (Releases h p) b b p BadAttribute 0
+      release-differs d =
+          first-owned BadAttribute
+          (inr ((λ n. n (irqIn b s) holds), inl ((irqIn b s, holds, λ q. d (ap typeOf (sym manner) ∙ q)), refl)))
+
+      pub release-done : typeOf m ≡ typeAsked p → ServedBy (Releases h p) b (irqEntered b s 0 0 0) p Success h
+      release-done same =
+          done-by (λ (F : Facts). irqReleaseChecks F h p) (λ (F : Facts). Leaves h p (withIrq F (socketOf p) none)) b p a (irqEntered b s 0 0 0) p
+          h
+          after
+          (Begin.then-passed b p a releaseIrqLength h owned begun ((λ n. n (irqIn b s) holds), (alike, tt))) (left h p after)
+          (ap (λ (t : ℕ). image (withIrq (a .facts) t none)) (sym (begun .socket .number))
+          ∙ released-image b a s (in-sockets b p a begun))
+        where
+          after : Facts
+          after = withIrq (a .facts) (socketOf p) none
+
+          alike : differs .when → ⊥
+          alike y =
+              y .2 (ap (λ (g : IrqGrant). typeOf (g .manner)) (sym (only b p a begun (assignedIrq p) (y .0) (y .1))) ∙ ap typeOf manner ∙ same)

@@ -1,0 +1,3 @@
+-- The laws of RequestIRQ's packet. Assumes nothing.
+pub mod Manners
+pub mod Clauses

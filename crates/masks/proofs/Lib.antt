@@ -1,0 +1,2 @@
+-- Each end of the services on masks. Assumes nothing.
+mod Ends

@@ -1,0 +1,2 @@
+-- What the contracts of `masks` cite. Assumes nothing.
+pub mod Masks

@@ -1,0 +1,2 @@
+-- The laws of the entries' promises. Assumes nothing.
+pub mod Laws

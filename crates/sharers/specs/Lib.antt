@@ -1,0 +1,2 @@
+-- What the contracts of `sharers` cite. Assumes nothing.
+pub mod Sharing

@@ -1,0 +1,112 @@
+#include "sockets.h"
+
+void ready_set(struct model *m, uint16_t managed, uint16_t reserved)
+{
+    model_fresh(m, CS_SOCKETS);
+    m->clients = m->issued = CS_CLIENTS;
+    for (unsigned i = 0; i < CS_CLIENTS; i++)
+        m->client[i] = (struct client){.handle = (uint16_t)(i + 1), .attributes = CS_IO_CLIENT};
+    for (unsigned s = 0; s < CS_SOCKETS; s++)
+        m->card[s] = true;
+    for (unsigned level = 0; level < CS_LEVELS; level++)
+        m->level[level] = (struct level){(managed >> level & 1) != 0, (reserved >> level & 1) != 0};
+}
+
+void lend_ready(uint16_t managed, uint16_t reserved)
+{
+    struct model m;
+    ready_set(&m, managed, reserved);
+    lend_set(&m);
+}
+
+/* ---- IRQ ---- */
+
+static void irq_packet(uint8_t packet[CS_REQUEST_IRQ_LENGTH], uint8_t socket, uint16_t attributes,
+                       uint8_t assigned, uint8_t info_1, uint16_t info_2)
+{
+    packet[0] = socket;
+    packet[1] = 0;
+    packet[2] = (uint8_t)attributes;
+    packet[3] = (uint8_t)(attributes >> 8);
+    packet[4] = assigned;
+    packet[5] = info_1;
+    packet[6] = (uint8_t)info_2;
+    packet[7] = (uint8_t)(info_2 >> 8);
+}
+
+uint32_t request_irq(uint16_t client, uint8_t socket, uint16_t attributes, uint8_t info_1,
+                     uint16_t info_2)
+{
+    uint8_t packet[CS_REQUEST_IRQ_LENGTH];
+    irq_packet(packet, socket, attributes, NOT_ASSIGNED, info_1, info_2);
+    return ask_call(CS_REQUEST_IRQ, client, packet, sizeof packet);
+}
+
+uint32_t release_irq(uint16_t client, uint8_t socket, uint16_t attributes, uint8_t level)
+{
+    uint8_t packet[CS_RELEASE_IRQ_LENGTH] = {socket, 0, (uint8_t)attributes,
+                                             (uint8_t)(attributes >> 8), level};
+    return ask_call(CS_RELEASE_IRQ, client, packet, sizeof packet);
+}
+
+static void packet_left(uint8_t socket, uint16_t attributes, uint8_t assigned, uint8_t info_1,
+                        uint16_t info_2)
+{
+    uint8_t by_hand[CS_REQUEST_IRQ_LENGTH];
+    irq_packet(by_hand, socket, attributes, assigned, info_1, info_2);
+    packet_must_be(by_hand, sizeof by_hand);
+}
+
+void irq_granted(uint16_t client, uint8_t socket, uint16_t attributes, uint8_t info_1,
+                 uint16_t info_2, uint8_t level)
+{
+    must_be(request_irq(client, socket, attributes, info_1, info_2), CS_SUCCESS, client);
+    packet_left(socket, attributes, level, info_1, info_2);
+}
+
+/* "Success writes AssignedIRQ and, for dynamic pulse only, attribute bit 8." */
+void pulse_granted(uint16_t client, uint8_t socket, uint16_t attributes, uint8_t info_1,
+                   uint16_t info_2, uint8_t level)
+{
+    must_be(request_irq(client, socket, attributes, info_1, info_2), CS_SUCCESS, client);
+    packet_left(socket, attributes | 0x0100, level, info_1, info_2);
+}
+
+void irq_refused(uint16_t client, uint8_t socket, uint16_t attributes, uint8_t info_1,
+                 uint16_t info_2, uint32_t code)
+{
+    must_be(request_irq(client, socket, attributes, info_1, info_2), code, 0);
+    packet_left(socket, attributes, NOT_ASSIGNED, info_1, info_2);
+}
+
+void grant_bytes(unsigned socket, uint16_t client, uint8_t level, uint8_t manner)
+{
+    uint8_t by_hand[] = {(uint8_t)client, (uint8_t)(client >> 8), level, manner};
+    table_must_have(133 + 4 * socket, by_hand, sizeof by_hand);
+}
+
+void no_grant_bytes(unsigned socket)
+{
+    grant_bytes(socket, 0, 0, 0);
+}
+
+/* ---- Masks ---- */
+
+uint32_t request_mask(uint16_t client, uint8_t socket, uint16_t events)
+{
+    uint8_t packet[CS_REQUEST_SOCKET_MASK_LENGTH] = {socket, 0, (uint8_t)events,
+                                                     (uint8_t)(events >> 8)};
+    return ask_call(CS_REQUEST_SOCKET_MASK, client, packet, sizeof packet);
+}
+
+uint32_t release_mask(uint16_t client, uint8_t socket)
+{
+    uint8_t packet[CS_RELEASE_SOCKET_MASK_LENGTH] = {socket, 0};
+    return ask_call(CS_RELEASE_SOCKET_MASK, client, packet, sizeof packet);
+}
+
+void mask_bytes(unsigned place, unsigned socket, uint16_t word)
+{
+    uint8_t by_hand[] = {(uint8_t)word, (uint8_t)(word >> 8)};
+    table_must_have(165 + 22 * place + 6 + 2 * socket, by_hand, sizeof by_hand);
+}
