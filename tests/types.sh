@@ -64,8 +64,8 @@ refused keeper lib.rt 'boot::pack(boot::boot(table, records))' \
 refused masks lib.rt 'write(t, i, socket, 0)' 'write(t, socket, i, 0)' usize Socket
 refused irq lib.rt 'grant_of(t, socket, h, reading::byte(p, ASSIGNED_AT))' \
     'grant_of(t, h, socket, reading::byte(p, ASSIGNED_AT))' Socket Handle
-refused irq lib.rt 'enter(t, socket, client as usize, level, levels::place(manner))' \
-    'enter(t, socket, h, level, levels::place(manner))' usize Handle
+refused irq lib.rt 'enter(t, socket, h, level, levels::place(manner))' \
+    'enter(t, socket, level, h, levels::place(manner))' Handle usize
 refused fitting lib.rt 'mark(t, p, m, Socket(s), &mut way)' 'mark(t, p, m, s, &mut way)' Socket usize
 refused keeper lib.rt 'irq::request(table, Handle(handle), packet)' \
     'irq::request(table, handle, packet)' Handle u16

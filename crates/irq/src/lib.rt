@@ -8,6 +8,7 @@ use facts::Handle;
 use facts::Manner;
 use facts::Socket;
 use fitting::Taken;
+use irq_packets::ASSIGNED_AT;
 use irq_packets::Attributes;
 use irq_packets::Info;
 use layout::IRQ_LEVEL;
@@ -29,8 +30,6 @@ const REQUEST_LENGTH: usize = 8;
 
 const RELEASE_LENGTH: usize = 5;
 
-const ASSIGNED_AT: usize = 4;
-
 // Whether the socket has an IRQ grant.
 pub enum Place {
     Free,
@@ -49,14 +48,17 @@ fn place_of(t: &[u8], socket: Socket) -> Place
     }
 }
 
-// The record of the socket's IRQ grant: client, level and manner, or zeros for none.
-fn enter(t: &mut [u8], socket: Socket, client: usize, level: usize, manner: usize)
+// The record of the socket's IRQ grant: client, level and manner; for none the handle that is never live, and zeros.
+const NOBODY: u16 = 0;
+
+fn enter(t: &mut [u8], socket: Socket, h: Handle, level: usize, manner: usize)
     requires { ⌜ (length (now t) ≡ tableSize) × (socket .0 < Table.mostSockets) × (level < Table.allLevels) × (manner < 256) ⌝ }
-    ensures { λ _. ⌜ now (t .exit) ≡ irqEntered (now (t .entry)) (socket .0) client level manner ⌝ }
+    ensures { λ _. ⌜ now (t .exit) ≡ irqEntered (now (t .entry)) (socket .0) (h .0) level manner ⌝ }
 {
     let number = socket.0;
     let at = IRQS_AT + number * IRQ_SIZE;
-    image::put_word(t, at, client);
+    let client = h.0;
+    image::put_word(t, at, client as usize);
     t[at + IRQ_LEVEL] = level as u8;
     t[at + IRQ_MANNER] = manner as u8;
 }
@@ -90,8 +92,7 @@ pub fn request(t: &mut [u8], h: Handle, p: &mut [u8]) -> Answer
         return Answer::Refused(Code::BadIrq);
     };
     let manner = irq_packets::manner_asked(p);
-    let client = h.0;
-    enter(t, socket, client as usize, level, levels::place(manner));
+    enter(t, socket, h, level, levels::place(manner));
     irq_packets::assign(p, manner, level);
     Answer::Done(h)
 }
@@ -153,6 +154,6 @@ pub fn release(t: &mut [u8], h: Handle, p: &[u8]) -> Answer
     let Kind::Same = kind_of(p, manner) else {
         return Answer::Refused(Code::BadAttribute);
     };
-    enter(t, socket, 0, 0, 0);
+    enter(t, socket, Handle(NOBODY), 0, 0);
     Answer::Done(h)
 }

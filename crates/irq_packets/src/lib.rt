@@ -21,7 +21,7 @@ ghost use Rattle.irq_packets.specs.Asking.{AttributesAre, InfoIs};
 // RequestIRQ's packet (5.53), and up to AssignedIRQ ReleaseIRQ's (5.45): where its fields stand.
 const ATTRIBUTES_AT: usize = 2;
 
-const ASSIGNED_AT: usize = 4;
+pub const ASSIGNED_AT: usize = 4;
 
 const INFO_1_AT: usize = 5;
 

@@ -12,6 +12,9 @@ mul-at c = search needs
 add-at : tie.Need-add-at
 add-at c = search needs
 
+cast-put-word : tie.Need-cast-put-word
+cast-put-word c = search needs
+
 put-word-requires : tie.Need-put-word-requires
 put-word-requires c κs = search needs
 
@@ -34,7 +37,7 @@ slice-write-t-2 : tie.Need-slice-write-t-2
 slice-write-t-2 c =
     let put = c .before .before in
     let s = put .before .before .before in
-    enters-within (now (s .args .t)) (put .put-word .last .0) (s .args .socket .0) (s .args .client) (s .args .level) (s .pre .0) (s .pre .1)
+    enters-within (now (s .args .t)) (put .put-word .last .0) (s .args .socket .0) (s .args .h .0) (s .args .level) (s .pre .0) (s .pre .1)
     (put .put-word .ensures)
 
 same-length : tie.Need-same-length
@@ -44,7 +47,7 @@ returns : tie.Need-returns
 returns c =
     let put = c .before .before in
     let s = put .before .before .before in
-    enters (now (s .args .t)) (put .put-word .last .0) (s .args .socket .0) (s .args .client) (s .args .level) (s .args .manner) (put .put-word .ensures)
+    enters (now (s .args .t)) (put .put-word .last .0) (s .args .socket .0) (s .args .h .0) (s .args .level) (s .args .manner) (put .put-word .ensures)
 
 pub enter-spec : {M : Type 1} → statement M
 enter-spec =
@@ -52,6 +55,7 @@ enter-spec =
     (tie.spec
     mul-at
     add-at
+    cast-put-word
     put-word-requires
     cast-t
     add-t

@@ -362,11 +362,6 @@ returns-8 c =
 manner-asked-requires : tie.Need-manner-asked-requires
 manner-asked-requires c κs = sized-right (found (named (ready (placed (chosen (c .before))))))
 
-cast-enter : tie.Need-cast-enter
-cast-enter c =
-    let k = began (ready (placed (chosen (manners (c .before))))) in
-    omega (arith, handle-fits k)
-
 place-requires : tie.Need-place-requires
 place-requires c κs = search needs
 
@@ -460,7 +455,6 @@ request-spec =
     same-length-15
     returns-8
     manner-asked-requires
-    cast-enter
     place-requires
     enter-requires
     assign-requires
