@@ -10,13 +10,15 @@ use borrow.Author.Tests.{eq-eqb, ne-eqb}
 use Rattle.facts.specs.declared.Code.{Code}
 use Rattle.facts.specs.declared.Code.the-variants.{BadArgLength, BadHandle, BadSocket, NoCard}
 use Rattle.facts.specs.Table
+use Rattle.facts.specs.Table.{Facts}
 use Rattle.facts.specs.WellFormed.{Live}
 use Rattle.facts.specs.Packets.{byte}
-use Rattle.facts.specs.Checks.{Check, _gives_, FirstGiven, Passed}
+use Rattle.facts.specs.Checks.{Check, _gives_, FirstGiven, Passed, Outcome}
 use Rattle.facts.specs.Sockets.{socketOf, BadSocketIn, releaseChecks, requestChecks}
 use Rattle.layout.specs.Layout
 use Rattle.layout.specs.Reading.{socketsIn, marked}
 use Rattle.layout.specs.Sound.{Accepted, LiveIn}
+use Rattle.layout.specs.Served.{ServedBy}
 use Rattle.layout.proofs.Of
 use Rattle.answers.specs.Answers.{NamesSocket}
 
@@ -25,6 +27,12 @@ pub record Begun (b p : List ℕ) (n h s : ℕ) : Type 0 where
   pub size : length p ≡ n
   pub live : LiveIn b h
   pub socket : NamesSocket b p s
+
+-- how the first three checks end a service that answers by R
+pub record Begins (R : Facts → Outcome → Type 0) (b p : List ℕ) (n h : ℕ) : Type 0 where
+  pub by-length : length p ≢ n → ServedBy R b b p BadArgLength 0
+  pub by-handle : length p ≡ n → (LiveIn b h → ⊥) → ServedBy R b b p BadHandle 0
+  pub by-socket : length p ≡ n → LiveIn b h → (socketsIn b ≤ socketOf p) ⊎ (byte p 1 ≢ 0) → ServedBy R b b p BadSocket 0
 
 module _ (b p : List ℕ) (a : Accepted b) (n h : ℕ) where
   -- the facts say so too
@@ -49,15 +57,14 @@ module _ (b p : List ℕ) (a : Accepted b) (n h : ℕ) where
 
   module _ (own : List Check) where
     -- the first that applies is one of the three
-    pub wrong-length : length p ≢ n → FirstGiven (releaseChecks n (a .facts) h p own) BadArgLength
-    wrong-length d = inl (d, refl)
-
-    pub not-live : length p ≡ n → (LiveIn b h → ⊥) → FirstGiven (releaseChecks n (a .facts) h p own) BadHandle
-    not-live e d = inr ((λ x. x e), inl ((λ l. d (Of.listed-live b a h l)), refl))
-
-    pub not-named : length p ≡ n → LiveIn b h → (socketsIn b ≤ socketOf p) ⊎ (byte p 1 ≢ 0)
-        → FirstGiven (releaseChecks n (a .facts) h p own) BadSocket
-    not-named e l d = inr ((λ x. x e), inr ((λ x. x (is-live l)), inl (bad-socket d, refl)))
+    pub begins : (R : Facts → Outcome → Type 0) → ((k : Code) → FirstGiven (releaseChecks n (a .facts) h p own) k → ServedBy R b b p k 0)
+        → Begins R b p n h
+    begins R refused =
+        record {
+          by-length = λ d. refused BadArgLength (inl (d, refl));
+          by-handle = λ e d. refused BadHandle (inr ((λ x. x e), inl ((λ l. d (Of.listed-live b a h l)), refl)));
+          by-socket = λ e l d. refused BadSocket (inr ((λ x. x e), inr ((λ x. x (is-live l)), inl (bad-socket d, refl))));
+        }
 
     -- or none of them applies: then it is the first of the service's own, or none
     module _ {s : ℕ} (begun : Begun b p n h s) where

@@ -8,10 +8,10 @@ use native.Mathlib.Decide.{decLt}
 use native.Mathlib.Omega.{arith}
 use lib.Count.{trailingZeros, under}
 use lib.Pow.{pow-mono}
-use mir.Val.{boolByte}
 use Rattle.facts.specs.Says.{Says}
 use Rattle.facts.specs.Table
 use Rattle.facts.specs.Packets.{bit}
+use Rattle.layout.specs.Layout.{mark}
 use Rattle.fitting.specs.Fitting.{BitsAre}
 
 -- the lowest bit, the others by halving, and none past the number
@@ -53,9 +53,9 @@ pub record Bits (Q : ℕ → Type 0) (from n m : ℕ) : Type 0 where
   pub bits : (k : ℕ) → k < n → (bit m k ≡ 1) ↔ Q (from + k)
 
 -- a bit is below 2
-pub byte-small : (t : Bool) → boolByte t < 2
-byte-small true = omega arith
-byte-small false = omega arith
+pub mark-small : (t : Bool) → mark t < 2
+mark-small true = omega arith
+mark-small false = omega arith
 
 -- from the level l up
 pub record BitsTo (Q : ℕ → Type 0) (l m : ℕ) : Type 0 where
@@ -68,26 +68,26 @@ module _ (Q : ℕ → Type 0) where
   no-bits from = record { below = omega arith; bits = λ k l. absurd (omega arith) }
 
   -- a bit more, below the others
-  one-more : (r : Bool) (from n m : ℕ) → Says r (Q from) → Bits Q (suc from) n m → Bits Q from (suc n) (2 * m + boolByte r)
-  one-more r from n m s b = record { below = omega (arith, b .below, two-pow-succ n, byte-small r); bits = go }
+  one-more : (r : Bool) (from n m : ℕ) → Says r (Q from) → Bits Q (suc from) n m → Bits Q from (suc n) (2 * m + mark r)
+  one-more r from n m s b = record { below = omega (arith, b .below, two-pow-succ n, mark-small r); bits = go }
     where
-      half : (2 * m + boolByte r) / 2 ≡ m
-      half = omega (arith, byte-small r)
+      half : (2 * m + mark r) / 2 ≡ m
+      half = omega (arith, mark-small r)
 
-      rest : (2 * m + boolByte r) % 2 ≡ boolByte r
-      rest = omega (arith, byte-small r)
+      rest : (2 * m + mark r) % 2 ≡ mark r
+      rest = omega (arith, mark-small r)
 
-      says : (t : Bool) → Says t (Q from) → (boolByte t ≡ 1) ↔ Q from
+      says : (t : Bool) → Says t (Q from) → (mark t ≡ 1) ↔ Q from
       says true s = ((λ e. s .holds refl), (λ q. refl))
       says false s = ((λ e. absurd (omega (arith, e))), (λ q. absurd (s .fails refl q)))
 
-      go : (k : ℕ) → k < suc n → (bit (2 * m + boolByte r) k ≡ 1) ↔ Q (from + k)
+      go : (k : ℕ) → k < suc n → (bit (2 * m + mark r) k ≡ 1) ↔ Q (from + k)
       go zero l =
-          let e : bit (2 * m + boolByte r) 0 ≡ boolByte r = lowest-bit (2 * m + boolByte r) ∙ rest in
+          let e : bit (2 * m + mark r) 0 ≡ mark r = lowest-bit (2 * m + mark r) ∙ rest in
           let f : from + 0 ≡ from = omega arith in
           ((λ x. subst Q (sym f) (says r s .0 (sym e ∙ x))), (λ q. e ∙ says r s .1 (subst Q f q)))
       go (suc k) l =
-          let e : bit (2 * m + boolByte r) (suc k) ≡ bit m k = higher-bit (2 * m + boolByte r) k ∙ ap (λ (x : ℕ). bit x k) half in
+          let e : bit (2 * m + mark r) (suc k) ≡ bit m k = higher-bit (2 * m + mark r) k ∙ ap (λ (x : ℕ). bit x k) half in
           let f : suc from + k ≡ from + suc k = omega arith in
           ((λ x. subst Q f (b .bits k (omega arith) .0 (sym e ∙ x))), (λ q. e ∙ b .bits k (omega arith) .1 (subst Q (sym f) q)))
 
@@ -95,7 +95,7 @@ module _ (Q : ℕ → Type 0) where
   pub from-highest : BitsTo Q Table.allLevels 0
   from-highest = record { count = 0; levels = omega arith; has = no-bits Table.allLevels }
 
-  pub next-lower : (r : Bool) (l m : ℕ) → 0 < l → Says r (Q (l - 1)) → BitsTo Q l m → BitsTo Q (l - 1) (2 * m + boolByte r)
+  pub next-lower : (r : Bool) (l m : ℕ) → 0 < l → Says r (Q (l - 1)) → BitsTo Q l m → BitsTo Q (l - 1) (2 * m + mark r)
   next-lower r l m h s b =
       let e : suc (l - 1) ≡ l = omega arith in
       record {

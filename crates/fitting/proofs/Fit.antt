@@ -8,7 +8,6 @@ use native.Mathlib.Decide.{ℕ-discrete}
 use native.Mathlib.Omega.{arith}
 use borrow.Author.Tests.{eq-eqb, ne-eqb, eqb-true}
 use lib.Count.{trailingZeros}
-use mir.Val.{boolByte}
 use Rattle.facts.specs.declared.Manner.{Manner}
 use Rattle.facts.specs.Table
 use Rattle.facts.specs.Table.{Level, IrqGrant}
@@ -17,13 +16,14 @@ use Rattle.facts.specs.Choice.{Before}
 use Rattle.facts.specs.Levels.{Holds, Together}
 use Rattle.facts.specs.Irq.{attributesOf, IrqFirstShared, mannerAsked, Fits, LevelTaken, NoLevelFits}
 use Rattle.facts.proofs.Says.{says-true, says-false, says-dec}
+use Rattle.layout.specs.Layout.{mark}
 use Rattle.layout.specs.Reading.{levelPlace, irqPlace, levelIn, irqIn, mannerOf}
 use Rattle.layout.specs.Sound.{Accepted, IrqUsed}
 use Rattle.layout.proofs.Of
 use Rattle.layout.proofs.Irqs.{level-is, manner-is}
 use Rattle.levels.proofs.Rule.{rule-says}
 use Rattle.fitting.specs.Fitting.{InTheWay, FitsAs, Adds, MaskIs}
-use Rattle.fitting.proofs.Bits.{BitsTo, from-highest, next-lower, smaller, byte-small, to-lowest, bits-none, halves-none, LowestOf, in-low, in-high}
+use Rattle.fitting.proofs.Bits.{BitsTo, from-highest, next-lower, smaller, mark-small, to-lowest, bits-none, halves-none, LowestOf, in-low, in-high}
 
 module _ (b p : List ℕ) (a : Accepted b) where
   abbrev managedMark : ℕ → ℕ
@@ -198,8 +198,8 @@ module _ (b p : List ℕ) where
   pub mask-next : (l mask n : ℕ) → 0 < l → Adds b p (l - 1) n → MaskTo b p l mask → MaskTo b p (l - 1) (2 * mask + n)
   mask-next l mask n h x m =
       record {
-        low = 2 * m .low + boolByte (x .low);
-        high = 2 * m .high + boolByte (x .high);
+        low = 2 * m .low + mark (x .low);
+        high = 2 * m .high + mark (x .high);
         sum = omega (arith, m .sum, x .sum);
         unreserved = next-lower (FitsAs b p 0) (x .low) l (m .low) h (x .unreserved) (m .unreserved);
         reserved = next-lower (FitsAs b p 1) (x .high) l (m .high) h (x .reserved) (m .reserved);
@@ -219,8 +219,8 @@ module _ (b p : List ℕ) where
           smaller (FitsAs b p 0) l (m .low) h (m .unreserved),
           smaller (FitsAs b p 1) l (m .high) h (m .reserved),
           x .sum,
-          byte-small (x .low),
-          byte-small (x .high),
+          mark-small (x .low),
+          mark-small (x .high),
         )
 
   pub mask-end : (l mask : ℕ) → (0 < l → ⊥) → MaskTo b p l mask → MaskIs b p mask

@@ -5,12 +5,12 @@ use mathlib.Core.List.{List}
 use mathlib.Core.Bool.{Bool, false}
 use Prim.Native.Nat.{ℕ, _+_, _*_, _^_, _<_}
 use lib.ListN.{length, getD}
-use mir.Val.{boolByte}
 use Rattle.facts.specs.Says.{Says}
 use Rattle.facts.specs.Table
 use Rattle.facts.specs.Packets.{byte, bit}
 use Rattle.facts.specs.Levels.{Together}
 use Rattle.facts.specs.Irq.{Named, IrqFirstShared, mannerAsked, LevelTaken, NoLevelFits}
+use Rattle.layout.specs.Layout.{mark}
 use Rattle.layout.specs.Reading.{levelPlace, irqPlace, mannerOf}
 use Rattle.layout.specs.Sound.{Accepted, IrqUsed}
 use Rattle.fitting.specs.declared.Taken.{Taken}
@@ -41,7 +41,7 @@ pub record FitsAs (b p : List ℕ) (mark l : ℕ) : Type 0 where
 pub record Adds (b p : List ℕ) (l n : ℕ) : Type 0 where
   pub low : Bool
   pub high : Bool
-  pub sum : n ≡ boolByte low + 2 ^ Table.allLevels * boolByte high
+  pub sum : n ≡ mark low + 2 ^ Table.allLevels * mark high
   pub unreserved : Says low (FitsAs b p 0 l)
   pub reserved : Says high (FitsAs b p 1 l)
 

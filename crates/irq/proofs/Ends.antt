@@ -1,14 +1,14 @@
 -- Each way in which RequestIRQ and ReleaseIRQ end is the rule's. Assumes nothing.
 use mathlib.Core.Path.{_≡_, refl, ap, sym, _∙_, subst}
-use mathlib.Core.Logic.{_⊎_, inl, inr, _≢_}
+use mathlib.Core.Logic.{inl, inr, _≢_}
 use mathlib.Core.List.{List, [], _∷_}
 use mathlib.Core.Bool.{false}
 use mathlib.Core.Option.{none, some, Option·none-ne-some}
-use Prim.Native.Nat.{ℕ, _+_, _≤_, _<_}
+use Prim.Native.Nat.{ℕ, _+_, _<_}
 use native.Mathlib.Omega.{arith}
 use lib.ListN.{length, set, length-set}
 use Rattle.facts.specs.declared.Code.{Code}
-use Rattle.facts.specs.declared.Code.the-variants.{Success, BadAttribute, BadIrq, BadArgLength, BadSocket, NoCard, BadArgs, InUse, BadHandle}
+use Rattle.facts.specs.declared.Code.the-variants.{Success, BadAttribute, BadIrq, NoCard, BadArgs, InUse}
 use Rattle.facts.specs.declared.Manner.{Manner}
 use Rattle.facts.specs.declared.Manner.the-variants.{Exclusive, TimeMultiplexed, DynamicLevel, DynamicPulse}
 use Rattle.facts.specs.Table
@@ -22,8 +22,8 @@ use Rattle.facts.specs.Irq.{irqGrant, GrantsIrq, IrqHeld, IrqAttributesBad, Irq
 use Rattle.facts.specs.Irq.{irqRequestChecks, irqReleaseChecks}
 use Rattle.layout.specs.Layout
 use Rattle.layout.specs.Layout.{image, mannerByte}
-use Rattle.layout.specs.Reading.{socketsIn, irqPlace, irqIn, mannerOf}
-use Rattle.layout.specs.Sound.{Accepted, LiveIn, IrqUsed}
+use Rattle.layout.specs.Reading.{irqPlace, irqIn, mannerOf}
+use Rattle.layout.specs.Sound.{Accepted, IrqUsed}
 use Rattle.layout.specs.Served.{ServedBy}
 use Rattle.layout.specs.Changed.{irqEntered}
 use Rattle.layout.proofs.Of
@@ -33,7 +33,7 @@ use Rattle.layout.proofs.Irqs.{client-is, level-is, manner-is, granted-image, r
 use Rattle.levels.specs.Places.{placeOf}
 use Rattle.answers.proofs.Serve.{left, refused-by, done-by}
 use Rattle.answers.proofs.Begin
-use Rattle.answers.proofs.Begin.{Begun}
+use Rattle.answers.proofs.Begin.{Begun, Begins}
 use Rattle.irq.specs.Granting.{RecordSays}
 
 -- the rules, of a packet
@@ -124,15 +124,8 @@ module _ (b p : List ℕ) (a : Accepted b) (h : ℕ) where
   request-refused : (k : Code) → FirstGiven (irqRequestChecks (a .facts) h p) k → ServedBy (Requests h p) b b p k 0
   request-refused = refused-by (λ (F : Facts). irqRequestChecks F h p) (λ (F : Facts). GrantsIrq F h p) b p a
 
-  pub request-length : length p ≢ requestIrqLength → ServedBy (Requests h p) b b p BadArgLength 0
-  request-length d = request-refused BadArgLength (Begin.wrong-length b p a requestIrqLength h past-socket d)
-
-  pub request-nobody : length p ≡ requestIrqLength → (LiveIn b h → ⊥) → ServedBy (Requests h p) b b p BadHandle 0
-  request-nobody e d = request-refused BadHandle (Begin.not-live b p a requestIrqLength h past-socket e d)
-
-  pub request-unnamed : length p ≡ requestIrqLength → LiveIn b h → (socketsIn b ≤ socketOf p) ⊎ (byte p 1 ≢ 0)
-      → ServedBy (Requests h p) b b p BadSocket 0
-  request-unnamed e l d = request-refused BadSocket (Begin.not-named b p a requestIrqLength h past-socket e l d)
+  pub request-begins : Begins (Requests h p) b p requestIrqLength h
+  request-begins = Begin.begins b p a requestIrqLength h past-socket (Requests h p) request-refused
 
   module _ {s : ℕ} (begun : Begun b p requestIrqLength h s) where
     pub request-no-card : byte b (Layout.cardsAt + s) ≢ 1 → ServedBy (Requests h p) b b p NoCard 0
@@ -191,15 +184,8 @@ module _ (b p : List ℕ) (a : Accepted b) (h : ℕ) where
   release-refused =
       refused-by (λ (F : Facts). irqReleaseChecks F h p) (λ (F : Facts). Leaves h p (withIrq F (socketOf p) none)) b p a
 
-  pub release-length : length p ≢ releaseIrqLength → ServedBy (Releases h p) b b p BadArgLength 0
-  release-length d = release-refused BadArgLength (Begin.wrong-length b p a releaseIrqLength h owned d)
-
-  pub release-nobody : length p ≡ releaseIrqLength → (LiveIn b h → ⊥) → ServedBy (Releases h p) b b p BadHandle 0
-  release-nobody e d = release-refused BadHandle (Begin.not-live b p a releaseIrqLength h owned e d)
-
-  pub release-unnamed : length p ≡ releaseIrqLength → LiveIn b h → (socketsIn b ≤ socketOf p) ⊎ (byte p 1 ≢ 0)
-      → ServedBy (Releases h p) b b p BadSocket 0
-  release-unnamed e l d = release-refused BadSocket (Begin.not-named b p a releaseIrqLength h owned e l d)
+  pub release-begins : Begins (Releases h p) b p releaseIrqLength h
+  release-begins = Begin.begins b p a releaseIrqLength h owned (Releases h p) release-refused
 
   module _ {s : ℕ} (begun : Begun b p releaseIrqLength h s) where
     first-owned : (k : Code) → FirstGiven owned k → ServedBy (Releases h p) b b p k 0

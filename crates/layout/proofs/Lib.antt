@@ -13,6 +13,6 @@ pub mod Of
 pub mod Written
 pub mod Changes
 pub mod Clients
-pub mod Ranges
+pub mod Managed
 pub mod Masks
 pub mod Irqs

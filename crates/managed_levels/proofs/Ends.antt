@@ -19,7 +19,7 @@ use Rattle.layout.specs.Layout.{mark}
 use Rattle.layout.specs.Reading.{levelPlace, levelIn}
 use Rattle.layout.specs.Sound.{Accepted}
 use Rattle.layout.proofs.Of
-use Rattle.layout.proofs.Ranges.{level-written}
+use Rattle.layout.proofs.Managed.{level-written}
 use Rattle.answers.specs.declared.Change.the-variants.{Made, Refused}
 use Rattle.managed_levels.specs.declared.NextLevel.the-variants.{At, End}
 use Rattle.managed_levels.specs.Asked.{AddsLevel, RemovesLevel, NextLevelIs}

@@ -24,7 +24,7 @@ use Rattle.layout.specs.Changed.{TakenOut, PutIn}
 use Rattle.layout.proofs.Of
 use Rattle.layout.proofs.Parts.{below-at}
 use Rattle.layout.proofs.Written.{byte-same, byte-other, word-length, word-low, word-high, word-other, long-length, long-bytes, long-other}
-use Rattle.layout.proofs.Ranges.{range-put-in, range-taken-out}
+use Rattle.layout.proofs.Managed.{range-put-in, range-taken-out}
 use Rattle.image.specs.Writing.{RoomMade}
 use Rattle.holders.specs.declared.Holders.the-variants.{Nobody}
 use Rattle.holders.specs.Holders.{RangeHoldersAre}

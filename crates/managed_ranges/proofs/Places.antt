@@ -12,7 +12,7 @@ use Rattle.facts.specs.Ports.{Within}
 use Rattle.layout.specs.Reading.{rangesIn, rangeIn}
 use Rattle.layout.specs.Sound.{Accepted, RangesSound, rangeBase, rangeCount, endBefore}
 use Rattle.layout.proofs.Of
-use Rattle.layout.proofs.Ranges.{rangeEnd, ends-before, bases-rise}
+use Rattle.layout.proofs.Managed.{rangeEnd, ends-before, bases-rise}
 use Rattle.managed_ranges.specs.declared.Ports.the-variants.{Free, Taken}
 use Rattle.managed_ranges.specs.declared.NextRange.the-variants as next
 use Rattle.managed_ranges.specs.Asked.{PlaceOf, StartIs, FreeIs, FoundAt, NextRangeIs}

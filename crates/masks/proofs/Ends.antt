@@ -1,14 +1,14 @@
 -- Each way in which RequestSocketMask and ReleaseSocketMask end is the rule's. Assumes nothing.
 use mathlib.Core.Path.{_≡_, refl, ap, sym, _∙_, subst}
-use mathlib.Core.Logic.{_⊎_, inl, inr, _≢_}
+use mathlib.Core.Logic.{inl, inr, _≢_}
 use mathlib.Core.List.{List, [], _∷_}
 use mathlib.Core.Bool.{false}
 use mathlib.Core.Option.{Option, none, some}
-use Prim.Native.Nat.{ℕ, _+_, _≤_, _<_}
+use Prim.Native.Nat.{ℕ, _+_, _<_}
 use native.Mathlib.Omega.{arith}
 use lib.ListN.{length}
 use Rattle.facts.specs.declared.Code.{Code}
-use Rattle.facts.specs.declared.Code.the-variants.{Success, BadAttribute, BadArgLength, BadSocket, NoCard, InUse, BadHandle}
+use Rattle.facts.specs.declared.Code.the-variants.{Success, BadAttribute, BadSocket, NoCard, InUse}
 use Rattle.facts.specs.Table
 use Rattle.facts.specs.Table.{Facts}
 use Rattle.facts.specs.Packets.{byte, word, withWord}
@@ -19,14 +19,14 @@ use Rattle.facts.specs.Sockets.{RequestSocketMask, ReleaseSocketMask, socketOf,
 use Rattle.facts.specs.Sockets.{requestMaskChecks, releaseMaskChecks}
 use Rattle.layout.specs.Layout
 use Rattle.layout.specs.Layout.{image, two, maskBytes}
-use Rattle.layout.specs.Reading.{socketsIn, maskPlace}
-use Rattle.layout.specs.Sound.{Accepted, LiveIn, MaskUsed}
+use Rattle.layout.specs.Reading.{maskPlace}
+use Rattle.layout.specs.Sound.{Accepted, MaskUsed}
 use Rattle.layout.specs.Served.{ServedBy}
 use Rattle.layout.proofs.Of
 use Rattle.layout.proofs.Masks.{mask-said, said-mask, mask-written}
 use Rattle.answers.proofs.Serve.{left, refused-by, done-by}
 use Rattle.answers.proofs.Begin
-use Rattle.answers.proofs.Begin.{Begun}
+use Rattle.answers.proofs.Begin.{Begun, Begins}
 
 -- the rules, of a packet
 abbrev pub Requests : ℕ → List ℕ → Facts → Outcome → Type 0
@@ -77,15 +77,8 @@ module _ (b p : List ℕ) (a : Accepted b) (h : ℕ) where
   request-refused : (k : Code) → FirstGiven (requestMaskChecks (a .facts) h p) k → ServedBy (Requests h p) b b p k 0
   request-refused = refused-by (λ (F : Facts). requestMaskChecks F h p) (λ (F : Facts). Leaves h p (masked h p (some (word p 2)) F)) b p a
 
-  pub request-length : length p ≢ requestMaskLength → ServedBy (Requests h p) b b p BadArgLength 0
-  request-length d = request-refused BadArgLength (Begin.wrong-length b p a requestMaskLength h past-socket d)
-
-  pub request-nobody : length p ≡ requestMaskLength → (LiveIn b h → ⊥) → ServedBy (Requests h p) b b p BadHandle 0
-  request-nobody e d = request-refused BadHandle (Begin.not-live b p a requestMaskLength h past-socket e d)
-
-  pub request-unnamed : length p ≡ requestMaskLength → LiveIn b h → (socketsIn b ≤ socketOf p) ⊎ (byte p 1 ≢ 0)
-      → ServedBy (Requests h p) b b p BadSocket 0
-  request-unnamed e l d = request-refused BadSocket (Begin.not-named b p a requestMaskLength h past-socket e l d)
+  pub request-begins : Begins (Requests h p) b p requestMaskLength h
+  request-begins = Begin.begins b p a requestMaskLength h past-socket (Requests h p) request-refused
 
   module _ {s : ℕ} (begun : Begun b p requestMaskLength h s) where
     pub request-no-card : byte b (Layout.cardsAt + s) ≢ 1 → ServedBy (Requests h p) b b p NoCard 0
@@ -118,15 +111,8 @@ module _ (b p : List ℕ) (a : Accepted b) (h : ℕ) where
   release-refused : (k : Code) → FirstGiven (releaseMaskChecks (a .facts) h p) k → ServedBy (Releases h p) b b p k 0
   release-refused = refused-by (λ (F : Facts). releaseMaskChecks F h p) (λ (F : Facts). Leaves h p (masked h p none F)) b p a
 
-  pub release-length : length p ≢ releaseMaskLength → ServedBy (Releases h p) b b p BadArgLength 0
-  release-length d = release-refused BadArgLength (Begin.wrong-length b p a releaseMaskLength h owned d)
-
-  pub release-nobody : length p ≡ releaseMaskLength → (LiveIn b h → ⊥) → ServedBy (Releases h p) b b p BadHandle 0
-  release-nobody e d = release-refused BadHandle (Begin.not-live b p a releaseMaskLength h owned e d)
-
-  pub release-unnamed : length p ≡ releaseMaskLength → LiveIn b h → (socketsIn b ≤ socketOf p) ⊎ (byte p 1 ≢ 0)
-      → ServedBy (Releases h p) b b p BadSocket 0
-  release-unnamed e l d = release-refused BadSocket (Begin.not-named b p a releaseMaskLength h owned e l d)
+  pub release-begins : Begins (Releases h p) b p releaseMaskLength h
+  release-begins = Begin.begins b p a releaseMaskLength h owned (Releases h p) release-refused
 
   module _ {s : ℕ} (begun : Begun b p releaseMaskLength h s) where
     pub release-nothing : (MaskUsed b (place b p a begun) s → ⊥) → ServedBy (Releases h p) b b p BadSocket 0

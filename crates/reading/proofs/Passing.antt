@@ -11,7 +11,7 @@ use Rattle.facts.specs.Says.{Says}
 use Rattle.facts.specs.Ports.{Within}
 use Rattle.layout.specs.Reading.{rangesIn}
 use Rattle.layout.specs.Sound.{ManagedIn, RangesSound, rangeBase, rangeCount}
-use Rattle.layout.proofs.Ranges.{rangeEnd, ends-before}
+use Rattle.layout.proofs.Managed.{rangeEnd, ends-before}
 use Rattle.reading.specs.Finding.{Passes}
 use Rattle.reading.proofs.All.{All, all-none, all-more}
 

@@ -19,7 +19,7 @@ use Rattle.reading.specs.Finding.{FirstAt, Finds}
 use Rattle.answers.specs.Answers.{SizeIs, NamesSocket, NamedIs}
 use Rattle.answers.proofs.Begin.{Begun}
 use Rattle.irq.specs.Granting.{RecordSays, GrantIs, KindIs}
-use Rattle.irq.proofs.Ends.{Releases, in-table, release-length, release-nobody, release-unnamed, release-unheld, release-differs, release-done}
+use Rattle.irq.proofs.Ends.{Releases, in-table, release-begins, release-unheld, release-differs, release-done}
 use Rattle.irq.proofs.release.Statement.{statement}
 use Rattle.irq.proofs.release.Tie as tie
 
@@ -119,7 +119,7 @@ enum-told-2 c = search needs
 returns : tie.Need-returns
 returns c =
     let k = c .before .before in
-    release-length (table k) (packet k) (start k .pre) (handle k)
+    release-begins (table k) (packet k) (start k .pre) (handle k) .by-length
     (subst (SizeIs (packet k) releaseIrqLength) (c .enum-told2 .given .1) (k .sized .ensures))
 
 client-at-requires : tie.Need-client-at-requires
@@ -140,7 +140,7 @@ returns-2 : tie.Need-returns-2
 returns-2 c =
     let tried = c .before .before in
     let k = checked (tried .before) in
-    release-nobody (table k) (packet k) (start k .pre) (handle k) (right (tried .before .before))
+    release-begins (table k) (packet k) (start k .pre) (handle k) .by-handle (right (tried .before .before))
     (subst (Finds (table k) (handle k)) (c .enum-told4 .given .1) (tried .client-at .ensures))
 
 socket-named-requires : tie.Need-socket-named-requires
@@ -159,7 +159,7 @@ returns-3 : tie.Need-returns-3
 returns-3 c =
     let tried = c .before .before in
     let k = sized (found tried) in
-    release-unnamed (table k) (packet k) (start k .pre) (handle k) (sized-right (found tried)) (live (found tried))
+    release-begins (table k) (packet k) (start k .pre) (handle k) .by-socket (sized-right (found tried)) (live (found tried))
     (subst (NamedIs (table k) (packet k)) (c .enum-told5 .given .1) (tried .socket-named .ensures))
 
 byte-requires : tie.Need-byte-requires

@@ -23,7 +23,7 @@ use Rattle.levels.specs.Places.{placeOf}
 use Rattle.irq_packets.specs.Asking.{AttributesAre, InfoIs}
 use Rattle.fitting.specs.Fitting.{TakenIs}
 use Rattle.irq.specs.Granting.{PlaceIs}
-use Rattle.irq.proofs.Ends.{Requests, in-table, place-small, request-length, request-nobody, request-unnamed, request-no-card}
+use Rattle.irq.proofs.Ends.{Requests, in-table, place-small, request-begins, request-no-card}
 use Rattle.irq.proofs.Ends.{request-attributes, request-info, request-held, request-none, request-done}
 use Rattle.irq.proofs.request.Statement.{statement}
 use Rattle.irq.proofs.request.Tie as tie
@@ -181,7 +181,7 @@ same-length c = search needs
 returns : tie.Need-returns
 returns c =
     let k = c .before .before in
-    request-length (table k) (packet k) (start k .pre) (handle k)
+    request-begins (table k) (packet k) (start k .pre) (handle k) .by-length
     (subst (SizeIs (packet k) requestIrqLength) (c .enum-told2 .given .1) (k .sized .ensures))
 
 client-at-requires : tie.Need-client-at-requires
@@ -205,7 +205,7 @@ returns-2 : tie.Need-returns-2
 returns-2 c =
     let tried = c .before .before in
     let k = checked (tried .before) in
-    request-nobody (table k) (packet k) (start k .pre) (handle k) (right (tried .before .before))
+    request-begins (table k) (packet k) (start k .pre) (handle k) .by-handle (right (tried .before .before))
     (subst (Finds (table k) (handle k)) (c .enum-told4 .given .1) (tried .client-at .ensures))
 
 socket-named-requires : tie.Need-socket-named-requires
@@ -227,7 +227,7 @@ returns-3 : tie.Need-returns-3
 returns-3 c =
     let tried = c .before .before in
     let k = sized (found tried) in
-    request-unnamed (table k) (packet k) (start k .pre) (handle k) (sized-right (found tried)) (live (found tried))
+    request-begins (table k) (packet k) (start k .pre) (handle k) .by-socket (sized-right (found tried)) (live (found tried))
     (subst (NamedIs (table k) (packet k)) (c .enum-told5 .given .1) (tried .socket-named .ensures))
 
 card-at-requires : tie.Need-card-at-requires

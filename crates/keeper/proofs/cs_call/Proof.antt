@@ -34,33 +34,33 @@ unformed : (c : tie.After-enum-told2) → Accepted (table (c .before .before)) �
 unformed c = subst (LoadedIs (table (c .before .before))) (c .enum-told2 .given .1) (c .before .before .load .ensures)
 
 -- a built service's number leads to it
-abbrev chosen1 : tie.After-deregister → tie.At-match2-keys1
-chosen1 c = c .before .before .before
+abbrev at-deregister : tie.After-deregister → tie.At-match2-keys1
+at-deregister c = c .before .before .before
 
-abbrev chosen2 : tie.After-register → tie.At-match2-keys2
-chosen2 c = c .before .before .before
+abbrev at-register : tie.After-register → tie.At-match2-keys2
+at-register c = c .before .before .before
 
-abbrev chosen3 : tie.After-release → tie.At-match2-keys3
-chosen3 c = c .before .before .before
+abbrev at-irq-release : tie.After-release → tie.At-match2-keys3
+at-irq-release c = c .before .before .before
 
-abbrev chosen4 : tie.After-request → tie.At-match2-keys4
-chosen4 c = c .before .before .before
+abbrev at-irq-request : tie.After-request → tie.At-match2-keys4
+at-irq-request c = c .before .before .before
 
-abbrev chosen5 : tie.After-request2 → tie.At-match2-keys5
-chosen5 c = c .before .before .before
+abbrev at-mask-request : tie.After-request2 → tie.At-match2-keys5
+at-mask-request c = c .before .before .before
 
-abbrev chosen6 : tie.After-release2 → tie.At-match2-keys6
-chosen6 c = c .before .before .before
+abbrev at-mask-release : tie.After-release2 → tie.At-match2-keys6
+at-mask-release c = c .before .before .before
 
-abbrev chosen7 : tie.After-adjust → tie.At-match2-keys7
-chosen7 c = c .before .before .before
+abbrev at-adjust : tie.After-adjust → tie.At-match2-keys7
+at-adjust c = c .before .before .before
 
 -- both lent slices come back from RequestIRQ and AdjustResourceInfo
-abbrev returned4 : tie.After-slice-known7 → tie.After-table4
-returned4 c = c .before .before .before
+abbrev irq-returned : tie.After-slice-known7 → tie.After-table4
+irq-returned c = c .before .before .before
 
-abbrev returned7 : tie.After-slice-known11 → tie.After-table7
-returned7 c = c .before .before .before
+abbrev adjust-returned : tie.After-slice-known11 → tie.After-table7
+adjust-returned c = c .before .before .before
 
 -- or it is no built service's
 no-service : (c : tie.At-match2-rest) → NoService (start (c .before .before .before) .args .service)
@@ -153,11 +153,11 @@ same-length-3 c = search needs
 returns-2 : tie.Need-returns-2
 returns-2 c =
     let called = c .before .before .before in
-    let loaded = chosen1 called .before .before .before in
+    let loaded = at-deregister called .before .before .before in
     let a = start loaded .args in
     by-service deregisterClient refl (table loaded) (called .deregister .last .0) (packet loaded) (packet loaded) (a .service) (a .handle)
     (c .pack .result)
-    (called .deregister .result) (chosen1 called .match2 .keys1) (called .deregister .ensures) (c .pack .ensures)
+    (called .deregister .result) (at-deregister called .match2 .keys1) (called .deregister .ensures) (c .pack .ensures)
 
 same-length-4 : tie.Need-same-length-4
 same-length-4 c = search needs
@@ -168,11 +168,11 @@ same-length-5 c = search needs
 returns-3 : tie.Need-returns-3
 returns-3 c =
     let called = c .before .before .before in
-    let loaded = chosen2 called .before .before .before in
+    let loaded = at-register called .before .before .before in
     let a = start loaded .args in
     by-service registerClient refl (table loaded) (called .register .last .0) (packet loaded) (packet loaded) (a .service) (a .handle)
     (c .pack2 .result)
-    (called .register .result) (chosen2 called .match2 .keys2) (called .register .ensures) (c .pack2 .ensures)
+    (called .register .result) (at-register called .match2 .keys2) (called .register .ensures) (c .pack2 .ensures)
 
 same-length-6 : tie.Need-same-length-6
 same-length-6 c = search needs
@@ -183,11 +183,11 @@ same-length-7 c = search needs
 returns-4 : tie.Need-returns-4
 returns-4 c =
     let called = c .before .before .before in
-    let loaded = chosen3 called .before .before .before in
+    let loaded = at-irq-release called .before .before .before in
     let a = start loaded .args in
     by-service releaseIrq refl (table loaded) (called .release .last .0) (packet loaded) (packet loaded) (a .service) (a .handle)
     (c .pack3 .result)
-    (called .release .result) (chosen3 called .match2 .keys3) (called .release .ensures) (c .pack3 .ensures)
+    (called .release .result) (at-irq-release called .match2 .keys3) (called .release .ensures) (c .pack3 .ensures)
 
 same-length-8 : tie.Need-same-length-8
 same-length-8 c = search needs
@@ -197,12 +197,12 @@ same-length-9 c = search needs
 
 returns-5 : tie.Need-returns-5
 returns-5 c =
-    let called = returned4 (c .before) .before in
-    let loaded = chosen4 called .before .before .before in
+    let called = irq-returned (c .before) .before in
+    let loaded = at-irq-request called .before .before .before in
     let a = start loaded .args in
     by-service requestIrq refl (table loaded) (called .request .last .0) (packet loaded) (called .request .last .1 .1 .0) (a .service) (a .handle)
     (c .pack4 .result)
-    (called .request .result) (chosen4 called .match2 .keys4) (called .request .ensures) (c .pack4 .ensures)
+    (called .request .result) (at-irq-request called .match2 .keys4) (called .request .ensures) (c .pack4 .ensures)
 
 same-length-10 : tie.Need-same-length-10
 same-length-10 c = search needs
@@ -213,11 +213,11 @@ same-length-11 c = search needs
 returns-6 : tie.Need-returns-6
 returns-6 c =
     let called = c .before .before .before in
-    let loaded = chosen5 called .before .before .before in
+    let loaded = at-mask-request called .before .before .before in
     let a = start loaded .args in
     by-service requestSocketMask refl (table loaded) (called .request2 .last .0) (packet loaded) (packet loaded) (a .service) (a .handle)
     (c .pack5 .result)
-    (called .request2 .result) (chosen5 called .match2 .keys5) (called .request2 .ensures) (c .pack5 .ensures)
+    (called .request2 .result) (at-mask-request called .match2 .keys5) (called .request2 .ensures) (c .pack5 .ensures)
 
 same-length-12 : tie.Need-same-length-12
 same-length-12 c = search needs
@@ -228,11 +228,11 @@ same-length-13 c = search needs
 returns-7 : tie.Need-returns-7
 returns-7 c =
     let called = c .before .before .before in
-    let loaded = chosen6 called .before .before .before in
+    let loaded = at-mask-release called .before .before .before in
     let a = start loaded .args in
     by-service releaseSocketMask refl (table loaded) (called .release2 .last .0) (packet loaded) (packet loaded) (a .service) (a .handle)
     (c .pack6 .result)
-    (called .release2 .result) (chosen6 called .match2 .keys6) (called .release2 .ensures) (c .pack6 .ensures)
+    (called .release2 .result) (at-mask-release called .match2 .keys6) (called .release2 .ensures) (c .pack6 .ensures)
 
 same-length-14 : tie.Need-same-length-14
 same-length-14 c = search needs
@@ -242,12 +242,12 @@ same-length-15 c = search needs
 
 returns-8 : tie.Need-returns-8
 returns-8 c =
-    let called = returned7 (c .before) .before in
-    let loaded = chosen7 called .before .before .before in
+    let called = adjust-returned (c .before) .before in
+    let loaded = at-adjust called .before .before .before in
     let a = start loaded .args in
     by-service adjustResourceInfo refl (table loaded) (called .adjust .last .0) (packet loaded) (called .adjust .last .1 .1 .0) (a .service) (a .handle)
     (c .pack7 .result)
-    (called .adjust .result) (chosen7 called .match2 .keys7) (called .adjust .ensures) (c .pack7 .ensures)
+    (called .adjust .result) (at-adjust called .match2 .keys7) (called .adjust .ensures) (c .pack7 .ensures)
 
 same-length-16 : tie.Need-same-length-16
 same-length-16 c = search needs

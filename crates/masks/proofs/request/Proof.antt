@@ -20,7 +20,7 @@ use Rattle.reading.specs.Finding.{FirstAt, Finds}
 use Rattle.answers.specs.Answers.{SizeIs, NamesSocket, NamedIs, CardIs}
 use Rattle.answers.proofs.Begin.{Begun}
 use Rattle.masks.specs.Masks.{EventsAre, MaskIs}
-use Rattle.masks.proofs.Ends.{Requests, in-table, in-sockets, request-length, request-nobody, request-unnamed, request-no-card, request-bad}
+use Rattle.masks.proofs.Ends.{Requests, in-table, in-sockets, request-begins, request-no-card, request-bad}
 use Rattle.masks.proofs.Ends.{request-held, request-done}
 use Rattle.masks.proofs.request.Statement.{statement}
 use Rattle.masks.proofs.request.Tie as tie
@@ -122,7 +122,7 @@ enum-told-2 c = search needs
 returns : tie.Need-returns
 returns c =
     let k = c .before .before in
-    request-length (table k) (packet k) (start k .pre) (handle k)
+    request-begins (table k) (packet k) (start k .pre) (handle k) .by-length
     (subst (SizeIs (packet k) requestMaskLength) (c .enum-told2 .given .1) (k .sized .ensures))
 
 client-at-requires : tie.Need-client-at-requires
@@ -143,7 +143,7 @@ returns-2 : tie.Need-returns-2
 returns-2 c =
     let tried = c .before .before in
     let k = checked (tried .before) in
-    request-nobody (table k) (packet k) (start k .pre) (handle k) (right (tried .before .before))
+    request-begins (table k) (packet k) (start k .pre) (handle k) .by-handle (right (tried .before .before))
     (subst (Finds (table k) (handle k)) (c .enum-told3 .given .1) (tried .client-at .ensures))
 
 socket-named-requires : tie.Need-socket-named-requires
@@ -162,7 +162,7 @@ returns-3 : tie.Need-returns-3
 returns-3 c =
     let tried = c .before .before in
     let k = sized (found tried) in
-    request-unnamed (table k) (packet k) (start k .pre) (handle k) (sized-right (found tried)) (live (found tried))
+    request-begins (table k) (packet k) (start k .pre) (handle k) .by-socket (sized-right (found tried)) (live (found tried))
     (subst (NamedIs (table k) (packet k)) (c .enum-told4 .given .1) (tried .socket-named .ensures))
 
 card-at-requires : tie.Need-card-at-requires

@@ -3,7 +3,7 @@
 use mathlib.Core.Path.{_∙_}
 use borrow.Author.Needs.{needs}
 use denote.Ref.{now}
-use Rattle.layout.proofs.Ranges.{end-before}
+use Rattle.layout.proofs.Managed.{end-before}
 use Rattle.reading.proofs.end_before.Statement.{statement}
 use Rattle.reading.proofs.end_before.Tie as tie
 
