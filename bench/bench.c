@@ -2,11 +2,11 @@
  * bench.c: what a call costs
  *
  * Times, in one run and interleaved, the median of many repetitions of each
- * call on six tables, beside memcmp of as many bytes, beside a call that is
+ * call on seven tables, beside memcmp of as many bytes, beside a call that is
  * refused on the same table and beside model_read, the same check of the table
  * in plain C. A boot list needs a fresh table each time: what is timed is
- * cs_fresh and cs_boot, and cs_fresh's own time is taken off. A granted IRQ or
- * mask call changes some bytes, which are put back before the next: what is
+ * cs_fresh and cs_boot, and cs_fresh's own time is taken off. A granted IRQ, I/O
+ * or mask call changes some bytes, which are put back before the next: what is
  * timed is the call and the copy of those bytes.
  */
 #define _XOPEN_SOURCE 700
@@ -19,7 +19,16 @@
 #include "layout.h"
 #include "sets.h"
 
-enum { REPETITIONS = 301, BATCH = 100 };
+/* How often a call is timed, and how often it is made each time; the same of one
+   that looks at every port. */
+enum { REPETITIONS = 301, BATCH = 100, LONG_REPETITIONS = 21, LONG_BATCH = 1 };
+
+/* An I/O call on a named base costs at most so many times a bad handle. */
+#define NAMED_BAR 1.2
+
+/* A search for a base costs at most so many times memcmp, some milliseconds,
+   whatever the table. */
+#define SEARCH_BAR 12000
 
 static uint8_t table[CS_TABLE_SIZE], other[CS_TABLE_SIZE];
 static volatile uint32_t answered;
@@ -195,6 +204,71 @@ static void give_mask_back(void)
     put_mask_back();
 }
 
+/* ---- I/O grants: the last client asks, at the last socket ---- */
+
+enum { GRANT_PORTS = 8 };
+
+/* Ports that are free, held from another socket, not managed. */
+struct ports_of {
+    uint16_t free, held, unmanaged;
+};
+static struct ports_of ports; /* of the table laid out */
+
+static uint32_t request_io(uint16_t base, uint8_t count)
+{
+    uint8_t packet[CS_REQUEST_IO_LENGTH] = {LAST_SOCKET, 0, (uint8_t)base, (uint8_t)(base >> 8),
+                                            count};
+    packet[10] = CS_LINES;
+    return CS_CODE(cs_call(table, sizeof table, CS_REQUEST_IO, last_client, packet, sizeof packet));
+}
+
+static void put_io_back(void)
+{
+    size_t at = AT_IO + IO_SIZE * LAST_SOCKET;
+    memcpy(table + at, other + at, IO_SIZE);
+}
+
+static void ask_ports(void)
+{
+    answered = request_io(ports.free, GRANT_PORTS);
+    put_io_back();
+}
+
+static void ask_held_ports(void)
+{
+    answered = request_io(ports.held, GRANT_PORTS);
+}
+
+static void ask_unmanaged_ports(void)
+{
+    answered = request_io(ports.unmanaged, GRANT_PORTS);
+}
+
+static void ask_any_ports(void)
+{
+    answered = request_io(0, GRANT_PORTS);
+    put_io_back();
+}
+
+static void ask_any_255_ports(void)
+{
+    answered = request_io(0, 255);
+}
+
+static void ask_any_port(void)
+{
+    answered = request_io(0, 1);
+}
+
+static void give_ports_back(void)
+{
+    uint8_t packet[CS_RELEASE_IO_LENGTH] = {LAST_SOCKET, 0, (uint8_t)ports.free,
+                                            (uint8_t)(ports.free >> 8), GRANT_PORTS};
+    answered =
+        CS_CODE(cs_call(table, sizeof table, CS_RELEASE_IO, last_client, packet, sizeof packet));
+    put_io_back();
+}
+
 /* ---- Boot lists of all levels and as many ranges as can be ---- */
 
 enum { IN_ORDER, MIXED, DESCENDING, LISTS };
@@ -275,13 +349,14 @@ static void memcmp_8192(void)
 
 /* ---- What is timed on which tables ---- */
 
-enum { FRESH, SIXTEEN_CLIENTS, ONE_RANGE, FULL, ONE_HOLDER, ALL_HELD, TABLES };
+enum { FRESH, SIXTEEN_CLIENTS, ONE_RANGE, FULL, ONE_HOLDER, ALL_HELD, ALL_BARRED, TABLES };
 enum {
     EVERYWHERE = (1 << TABLES) - 1,
     MANAGED = 1 << ONE_RANGE | 1 << FULL,
     BOOTED = 1 << FRESH,
     HELD = 1 << ONE_HOLDER | 1 << ALL_HELD,
-    NOT_HELD = EVERYWHERE & ~HELD
+    BARRED = 1 << ALL_BARRED,
+    NOT_HELD = EVERYWHERE & ~HELD & ~BARRED
 };
 
 /* The first rows, which others are held against. */
@@ -322,6 +397,20 @@ static const struct call {
      BAD_HANDLE_A_PLACE_FREE},
     {"ReleaseIRQ refused with BAD_ATTRIBUTE", give_another_type_back, 1, true, HELD,
      CS_BAD_ATTRIBUTE, 1.2, BAD_HANDLE},
+    {"RequestIO", ask_ports, 1, false, HELD, CS_SUCCESS, NAMED_BAR, BAD_HANDLE_A_PLACE_FREE},
+    {"RequestIO refused with BAD_BASE", ask_unmanaged_ports, 1, false, HELD, CS_BAD_BASE, NAMED_BAR,
+     BAD_HANDLE_A_PLACE_FREE},
+    {"RequestIO refused with IN_USE, ports held", ask_held_ports, 1, false, HELD, CS_IN_USE,
+     NAMED_BAR, BAD_HANDLE_A_PLACE_FREE},
+    {"RequestIO refused with IN_USE", ask_ports, 1, true, HELD, CS_IN_USE, NAMED_BAR, BAD_HANDLE},
+    {"RequestIO of any 8 ports", ask_any_ports, 1, false, HELD, CS_SUCCESS, SEARCH_BAR, MEMCMP},
+    {"RequestIO of any 255 ports, IN_USE", ask_any_255_ports, 1, false, HELD | BARRED, CS_IN_USE,
+     SEARCH_BAR, MEMCMP},
+    {"RequestIO of any port, IN_USE", ask_any_port, 1, false, BARRED, CS_IN_USE, SEARCH_BAR,
+     MEMCMP},
+    {"ReleaseIO", give_ports_back, 1, true, HELD, CS_SUCCESS, NAMED_BAR, BAD_HANDLE},
+    {"ReleaseIO refused with BAD_BASE", give_ports_back, 1, false, HELD, CS_BAD_BASE, NAMED_BAR,
+     BAD_HANDLE_A_PLACE_FREE},
     {"RequestSocketMask", ask_mask, 1, false, HELD, CS_SUCCESS, 1.2, BAD_HANDLE_A_PLACE_FREE},
     {"RequestSocketMask refused with IN_USE", ask_mask, 1, true, HELD, CS_IN_USE, 1.2, BAD_HANDLE},
     {"ReleaseSocketMask", give_mask_back, 1, true, HELD, CS_SUCCESS, 1.2, BAD_HANDLE},
@@ -344,11 +433,11 @@ static bool after_fresh(unsigned call)
     return calls[call].on == BOOTED && call != FRESH_CALL;
 }
 
-/* ---- The tables, without a place for a client, and on the last two for a grant
+/* ---- The tables, without a place for a client, and on the last three for a grant
    and a mask of the last socket; and with one ---- */
 
-static const char *const table_names[TABLES] = {"fresh", "16 clients", "one range",
-                                                "full",  "one holder", "all held"};
+static const char *const table_names[TABLES] = {"fresh",      "16 clients", "one range", "full",
+                                                "one holder", "all held",   "all barred"};
 static uint8_t images[TABLES][2][CS_TABLE_SIZE];
 
 static void only_clients(struct model *m, unsigned clients)
@@ -359,9 +448,18 @@ static void only_clients(struct model *m, unsigned clients)
         m->client[i] = (struct client){.handle = (uint16_t)(i + 1), .attributes = CS_IO_CLIENT};
 }
 
-/* All sockets have a card, a grant and a mask of the last client; but for the
+/* Where the I/O grants of a held table begin: one after the other in one range, or
+   in the second half of each of the last eight of 32 ranges. */
+static uint32_t grant_base(unsigned which, unsigned socket)
+{
+    if (which == ONE_HOLDER)
+        return FIRST_BASE + GRANT_PORTS * socket;
+    return base_of(CS_RANGES - CS_SOCKETS + socket) + GRANT_PORTS;
+}
+
+/* All sockets have a card, two grants and a mask of the last client; but for the
    last socket, if there is to be a place. */
-static void give_to_last(struct model *m, bool full, uint8_t manner)
+static void give_to_last(struct model *m, bool full, unsigned which, uint8_t manner)
 {
     struct client *last = &m->client[m->clients - 1];
     for (unsigned s = 0; s < CS_SOCKETS; s++) {
@@ -369,13 +467,15 @@ static void give_to_last(struct model *m, bool full, uint8_t manner)
         uint8_t level = (uint8_t)(manner == EXCLUSIVE ? LAST_LEVEL - LAST_SOCKET + s : LAST_LEVEL);
         m->card[s] = true;
         m->irq[s] = (struct irq_grant){hold, last->handle, level, manner};
+        m->io[s] = (struct io_grant){hold,        last->handle, (uint16_t)grant_base(which, s),
+                                     GRANT_PORTS, CS_LINES,     false};
         last->masks[s] = (struct mask){hold, 0};
     }
 }
 
-/* One client, which shares the last level with itself; and a full table whose
-   last client has the last eight levels. All levels are managed, the odd ones
-   reserved. */
+/* One client, which shares the last level with itself and has 64 of 255 ports;
+   and a full table whose last client has the last eight levels, and ports of the
+   last eight ranges. All levels are managed, the odd ones reserved. */
 static void make_held(bool full)
 {
     static struct model m;
@@ -383,11 +483,30 @@ static void make_held(bool full)
     m.issued = full ? CS_HANDLES : 1;
     for (unsigned level = 0; level < CS_LEVELS; level++)
         m.level[level] = (struct level){true, level % 2 == 1};
-    give_to_last(&m, full, DYNAMIC_LEVEL);
+    m.range[m.ranges++] = (struct range){FIRST_BASE, 255, false};
+    give_to_last(&m, full, ONE_HOLDER, DYNAMIC_LEVEL);
     model_image(&m, images[ONE_HOLDER][full]);
     full_set(&m, CS_CLIENTS);
-    give_to_last(&m, full, EXCLUSIVE);
+    give_to_last(&m, full, ALL_HELD, EXCLUSIVE);
     model_image(&m, images[ALL_HELD][full]);
+}
+
+/* All ports are managed. Five sockets hold the last ports, 255 each; two cards of
+   one line an odd and an even port, so that every port meets one of those two. */
+static void make_barred(bool full)
+{
+    static struct model m;
+    only_clients(&m, CS_CLIENTS);
+    m.range[m.ranges++] = (struct range){0, CS_PORTS, false};
+    for (unsigned s = 0; s < (full ? CS_SOCKETS : LAST_SOCKET); s++) {
+        uint16_t base = (uint16_t)(CS_PORTS - 256 * (s + 1));
+        m.card[s] = true;
+        m.io[s] = (struct io_grant){true, 1, base, 255, CS_LINES, true};
+        if (s == 5 || s == 6)
+            m.io[s] = (struct io_grant){true, 1, (uint16_t)s, 1, 1, true};
+    }
+    m.card[LAST_SOCKET] = true;
+    model_image(&m, images[ALL_BARRED][full]);
 }
 
 static void make_tables(void)
@@ -406,6 +525,7 @@ static void make_tables(void)
         full_set(&m, clients);
         model_image(&m, images[FULL][full]);
         make_held(full);
+        make_barred(full);
     }
 }
 
@@ -415,7 +535,9 @@ static void lay_out(unsigned which, const struct call *call)
     memcpy(other, table, sizeof other);
     ranges = which == FULL ? CS_RANGES : 1;
     levels = which == FULL ? CS_LEVELS : 2;
-    last_client = which == ALL_HELD ? CS_CLIENTS : 1;
+    last_client = which == ALL_HELD || which == ALL_BARRED ? CS_CLIENTS : 1;
+    ports = (struct ports_of){(uint16_t)grant_base(which, LAST_SOCKET),
+                              (uint16_t)grant_base(which, LAST_SOCKET - 1), 0xFF00};
     fits = which == ALL_HELD ? (struct wish){CS_IRQ_EXCLUSIVE, 0xFF00}
                              : (struct wish){CS_IRQ_DYNAMIC, 0x8000};
     never = which == ALL_HELD ? (struct wish){CS_IRQ_DYNAMIC, 0x7F00}
@@ -431,13 +553,19 @@ static double now(void)
     return (double)t.tv_sec * 1e9 + (double)t.tv_nsec;
 }
 
+static bool looks_at_every_port(unsigned which, const struct call *call)
+{
+    return which == ALL_BARRED && (call->once == ask_any_port || call->once == ask_any_255_ports);
+}
+
 /* Nanoseconds for one call. */
 static double time_batch(unsigned which, const struct call *call)
 {
+    unsigned batch = looks_at_every_port(which, call) ? LONG_BATCH : BATCH;
     lay_out(which, call);
     call->once();
     double start = now();
-    for (unsigned i = 0; i < BATCH; i++)
+    for (unsigned i = 0; i < batch; i++)
         call->once();
     double taken = now() - start;
     if (answered != call->answer) {
@@ -445,7 +573,7 @@ static double time_batch(unsigned which, const struct call *call)
                 (unsigned long)answered);
         exit(2);
     }
-    return taken / BATCH / call->calls;
+    return taken / batch / call->calls;
 }
 
 static double samples[TABLES][CALLS][REPETITIONS];
@@ -456,10 +584,17 @@ static int by_size(const void *a, const void *b)
     return (x > y) - (x < y);
 }
 
-static double median(double *values)
+static unsigned repetitions(unsigned which, unsigned call)
 {
-    qsort(values, REPETITIONS, sizeof *values, by_size);
-    return values[REPETITIONS / 2];
+    return looks_at_every_port(which, &calls[call]) ? LONG_REPETITIONS : REPETITIONS;
+}
+
+static double median(unsigned which, unsigned call)
+{
+    unsigned many = repetitions(which, call);
+    double *values = samples[which][call];
+    qsort(values, many, sizeof *values, by_size);
+    return values[many / 2];
 }
 
 static void take_samples(void)
@@ -467,7 +602,7 @@ static void take_samples(void)
     for (unsigned r = 0; r < REPETITIONS; r++)
         for (unsigned which = 0; which < TABLES; which++)
             for (unsigned i = 0; i < CALLS; i++)
-                if (timed_on(which, i))
+                if (timed_on(which, i) && r < repetitions(which, i))
                     samples[which][i][r] = time_batch(which, &calls[i]);
 }
 
@@ -475,7 +610,9 @@ static void print_bar(const struct call *call, double taken, const double *media
 {
     if (call->bar > 0)
         printf("  at most %.1f x %s: %s", call->bar,
-               call->against == REFUSED ? "refused" : "bad handle",
+               call->against == MEMCMP    ? "memcmp"
+               : call->against == REFUSED ? "refused"
+                                          : "bad handle",
                taken / medians[call->against] <= call->bar ? "met" : "NOT MET");
 }
 
@@ -493,7 +630,7 @@ static void print_times(void)
     for (unsigned which = 0; which < TABLES; which++) {
         double medians[CALLS] = {0};
         for (unsigned i = 0; i < CALLS; i++)
-            medians[i] = median(samples[which][i]);
+            medians[i] = median(which, i);
         for (unsigned i = 0; i < CALLS; i++)
             if (timed_on(which, i))
                 print_row(which, i, medians);

@@ -2,9 +2,10 @@
  * stack.c: the stack that a call takes
  *
  * Makes each call on a painted stack and looks how far down the paint is gone:
- * on a fresh table, on full ones and on random ones, each also broken. Ends
- * with status 1 if a call takes as much as card_services.h says it doesn't, or
- * as much as the bar for every entry.
+ * on a fresh table, on full ones, on one where a search looks at every port and
+ * on random ones, each also broken. Ends with status 1 if a call takes as much as
+ * card_services.h says it doesn't (CS_STACK), or as much as the bar for every
+ * entry.
  */
 #define _XOPEN_SOURCE 700
 
@@ -16,7 +17,7 @@
 #include "layout.h"
 #include "sets.h"
 
-enum { HEADER_SAYS_LESS_THAN = 700, BAR = 1024, RANDOM_TABLES = 100 };
+enum { BAR = 1024, RANDOM_TABLES = 100 };
 
 static uint8_t table[CS_TABLE_SIZE];
 static volatile uint32_t answered;
@@ -86,8 +87,8 @@ ADJUST(remove_long, CS_ACTION_REMOVE, CS_RESOURCE_IO, 0x00, 0x06, 0, 0, 16, 0, 0
 ADJUST(first_long, CS_ACTION_FIRST, CS_RESOURCE_IO, 0, 0, 0, 0, 0, 0, 0, 0, 0, 0)
 ADJUST(next_long, CS_ACTION_NEXT, CS_RESOURCE_IO, 0x00, 0x01, 0, 0, 0, 0, 0, 0, 0, 0)
 
-/* The last client of a full table asks, at its last socket: for any level, for a
-   held one, and with fields that are refused. */
+/* The last client of a full table asks, at its last socket: for any level or
+   ports, for held ones, and with fields that are refused. */
 CALL(irq, CS_REQUEST_IRQ, 16, 7, 0, CS_IRQ_DYNAMIC, 0, 0, 0xF0, 0xFF, 0xFF)
 CALL(irq_by_pulse, CS_REQUEST_IRQ, 16, 7, 0, CS_IRQ_DYNAMIC | CS_IRQ_FORCE_PULSE, 0, 0, 0xF0, 0xFF,
      0xFF)
@@ -99,6 +100,24 @@ CALL(irq_bad_handle, CS_REQUEST_IRQ, 0xFFFF, 7, 0, CS_IRQ_DYNAMIC, 0, 0, 0xF0, 0
 CALL(release_irq, CS_RELEASE_IRQ, 8, 7, 0, CS_IRQ_DYNAMIC, 0, 3)
 CALL(release_other_type, CS_RELEASE_IRQ, 8, 7, 0, CS_IRQ_EXCLUSIVE, 0, 3)
 CALL(release_other_level, CS_RELEASE_IRQ, 8, 7, 0, CS_IRQ_DYNAMIC, 0, 4)
+CALL(io, CS_REQUEST_IO, 16, 7, 0, 0xC8, 0x01, 8, 0, 0, 0, 0, 0, 16)
+CALL(io_shared, CS_REQUEST_IO, 16, 7, 0, 0xC0, 0x01, 8, CS_IO_SHARED, 0, 0, 0, 0, 10)
+CALL(io_met, CS_REQUEST_IO, 16, 7, 0, 0xC0, 0x01, 8, 0, 0, 0, 0, 0, 10)
+CALL(io_unmanaged, CS_REQUEST_IO, 16, 7, 0, 0xC9, 0x01, 8, 0, 0, 0, 0, 0, 16)
+CALL(io_past_the_last, CS_REQUEST_IO, 16, 7, 0, 0xFF, 0xFF, 2, 0, 0, 0, 0, 0, 16)
+CALL(io_any, CS_REQUEST_IO, 16, 7, 0, 0, 0, 8, 0, 0, 0, 0, 0, 16)
+CALL(io_any_one, CS_REQUEST_IO, 16, 7, 0, 0, 0, 1, CS_IO_SHARED, 0, 0, 0, 0, 1)
+CALL(io_any_255, CS_REQUEST_IO, 16, 7, 0, 0, 0, 255, 0, 0, 0, 0, 0, 8)
+CALL(io_no_port, CS_REQUEST_IO, 16, 7, 0, 0, 0, 0, 0, 0, 0, 0, 0, 16)
+CALL(io_two_ranges, CS_REQUEST_IO, 16, 7, 0, 0, 0, 8, 0, 0, 0, 8, 0, 16)
+CALL(io_bad_attributes, CS_REQUEST_IO, 16, 7, 0, 0, 0, 8, CS_IO_FIRST_SHARED, 0, 0, 0, 0, 16)
+CALL(io_bad_lines, CS_REQUEST_IO, 16, 7, 0, 0, 0, 8, 0, 0, 0, 0, 0, 17)
+CALL(io_bad_function, CS_REQUEST_IO, 16, 7, 1, 0, 0, 8, 0, 0, 0, 0, 0, 16)
+CALL(io_bad_handle, CS_REQUEST_IO, 0xFFFF, 7, 0, 0, 0, 8, 0, 0, 0, 0, 0, 16)
+CALL(io_bad_length, CS_REQUEST_IO, 16, 7, 0, 0, 0, 8, 0, 0, 0, 0, 0)
+CALL(release_io, CS_RELEASE_IO, 8, 7, 0, 0xC0, 0x01, 8, 0, 0, 0, 0, 0, 16)
+CALL(release_other_ports, CS_RELEASE_IO, 8, 7, 0, 0xC0, 0x01, 7, 0, 0, 0, 0, 0, 16)
+CALL(release_two_ranges, CS_RELEASE_IO, 8, 7, 0, 0xC0, 0x01, 8, 0, 0, 0, 8, 0, 16)
 CALL(mask, CS_REQUEST_SOCKET_MASK, 16, 7, 0, 0xFF, 0x0F)
 CALL(mask_bad_events, CS_REQUEST_SOCKET_MASK, 16, 7, 0, 0xFF, 0x1F)
 CALL(release_mask, CS_RELEASE_SOCKET_MASK, 16, 7, 0)
@@ -166,6 +185,28 @@ static const struct {
     {release_irq, CS_SUCCESS},
     {release_other_type, CS_BAD_ATTRIBUTE},
     {release_other_level, CS_BAD_IRQ},
+    {io, CS_SUCCESS},
+    {io, CS_IN_USE},
+    {io, CS_NO_CARD},
+    {io_shared, CS_SUCCESS},
+    {io_met, CS_IN_USE},
+    {io_unmanaged, CS_BAD_BASE},
+    {io_past_the_last, CS_BAD_BASE},
+    {io_any, CS_SUCCESS},
+    {io_any_one, CS_SUCCESS},
+    {io_any_one, CS_IN_USE},
+    {io_any_255, CS_SUCCESS},
+    {io_any_255, CS_IN_USE},
+    {io_no_port, CS_BAD_SIZE},
+    {io_two_ranges, CS_BAD_SIZE},
+    {io_bad_attributes, CS_BAD_ATTRIBUTE},
+    {io_bad_lines, CS_BAD_ATTRIBUTE},
+    {io_bad_function, CS_BAD_SOCKET},
+    {io_bad_handle, CS_BAD_HANDLE},
+    {io_bad_length, CS_BAD_ARG_LENGTH},
+    {release_io, CS_SUCCESS},
+    {release_other_ports, CS_BAD_BASE},
+    {release_two_ranges, CS_BAD_SIZE},
     {mask, CS_SUCCESS},
     {mask, CS_IN_USE},
     {mask_bad_events, CS_BAD_ATTRIBUTE},
@@ -256,15 +297,35 @@ static void measure_set(const struct model *m)
     measure(image, false);
 }
 
-/* The last socket without a grant and the last client's mask, then without a
-   card too. */
+/* The last socket without grants and the last client's mask, then without a card
+   too. */
 static void measure_places(struct model *m)
 {
-    m->irq[CS_SOCKETS - 1].live = false;
+    m->io[CS_SOCKETS - 1].live = m->irq[CS_SOCKETS - 1].live = false;
     m->client[m->clients - 1].masks[CS_SOCKETS - 1].held = false;
     measure_set(m);
     m->card[CS_SOCKETS - 1] = false;
     measure_set(m);
+}
+
+/* All ports are managed, and seven cards of eight lines hold ports: 255 of 256 or,
+   with the last socket's, all that eight lines tell apart. A search for one more
+   looks at many of the ports, or at all. */
+static void measure_searches(void)
+{
+    static struct model m;
+    full_set(&m, CS_CLIENTS);
+    m.range[0] = (struct range){0, CS_PORTS, true};
+    m.ranges = 1;
+    for (unsigned s = 0; s < CS_SOCKETS; s++)
+        m.io[s] = (struct io_grant){s < CS_SOCKETS - 1, 1, (uint16_t)(s + 1), 1, 8, true};
+    measure_set(&m);
+    m.io[5] = (struct io_grant){true, 1, 0x100, 255, 8, true};
+    measure_set(&m);
+    m.io[6] = (struct io_grant){true, 1, 0x1FF, 1, 8, true};
+    measure_set(&m);
+    memset(m.io, 0, sizeof m.io);
+    measure_set(&m);
 }
 
 static void measure_all(void)
@@ -282,6 +343,7 @@ static void measure_all(void)
     full_set(&m, CS_CLIENTS);
     measure_set(&m);
     measure_places(&m);
+    measure_searches();
 }
 
 int main(void)
@@ -296,8 +358,8 @@ int main(void)
     printf("largest stack use of a call: %lu bytes  under %d: %s\n", (unsigned long)largest, BAR,
            largest < BAR ? "met" : "NOT MET");
     printf("stack use of plain C:        %lu bytes\n", (unsigned long)stack_of(plain_c, image));
-    if (largest < HEADER_SAYS_LESS_THAN && largest < BAR)
+    if (largest < CS_STACK && largest < BAR)
         return 0;
-    printf("stack: card_services.h says less than %d bytes\n", HEADER_SAYS_LESS_THAN);
+    printf("stack: card_services.h says less than %d bytes\n", CS_STACK);
     return 1;
 }

@@ -82,18 +82,17 @@
  * red zone): an interrupt during a call has to keep the SSE registers and
  * needs a stack of its own.
  *
- * A call takes less than 700 bytes of stack, its return address and the red
- * zone among them. bench/run.sh measures it, on tables from fresh to full:
+ * A call takes less than CS_STACK bytes of stack, its return address and the
+ * red zone among them. bench/run.sh measures it, on tables from fresh to full:
  * it is a measurement and no proof.
  *
- * Not built
- * ---------
+ * What it leaves out
+ * ------------------
  *  - Callbacks. Nobody is called when an event happens: event masks are
  *    checked and kept, and the keeper does nothing else with them.
- *  - Services that cs_call answers with CS_UNSUPPORTED_SERVICE, although the
- *    keeper is to have them:
- *      RequestIO  1FH
- *      ReleaseIO  1BH
+ *  - Windows, DMA, tuples, memory services, the Pointer argument and CardBus.
+ *    cs_call answers every service of the volume that has no place below with
+ *    CS_UNSUPPORTED_SERVICE.
  *
  * Example
  * -------
@@ -110,6 +109,7 @@
  *   {
  *       uint8_t packet[CS_REGISTER_CLIENT_LENGTH] = {0};
  *       uint8_t irq[CS_REQUEST_IRQ_LENGTH] = {0};
+ *       uint8_t io[CS_REQUEST_IO_LENGTH] = {0};
  *       uint16_t events = CS_EVENT_CARD_DETECT_CHANGE | CS_EVENT_RESET;
  *       uint64_t booted;
  *       uint32_t answer;
@@ -140,6 +140,17 @@
  *           return 1;
  *       answer = cs_call(table, sizeof table, CS_RELEASE_IRQ, client,
  *                        irq, CS_RELEASE_IRQ_LENGTH);
+ *       if (CS_CODE(answer) != CS_SUCCESS)
+ *           return 1;
+ *
+ *       io[4] = 8;
+ *       io[10] = 10;
+ *       answer = cs_call(table, sizeof table, CS_REQUEST_IO, client,
+ *                        io, sizeof io);
+ *       if (CS_CODE(answer) != CS_SUCCESS || io[2] != 0x00 || io[3] != 0x03)
+ *           return 1;
+ *       answer = cs_call(table, sizeof table, CS_RELEASE_IO, client,
+ *                        io, CS_RELEASE_IO_LENGTH);
  *       if (CS_CODE(answer) != CS_SUCCESS)
  *           return 1;
  *
@@ -179,6 +190,9 @@ extern "C" {
 
 /* At most this many I/O ranges are managed at one time. */
 #define CS_RANGES 32
+
+/* A call takes less than this many bytes of stack: see Linking, above. */
+#define CS_STACK 1000
 
 /* ---- Codes: the numbers of the volume's chapter 8 ---- */
 
@@ -427,6 +441,7 @@ uint32_t cs_call(uint8_t *table, size_t len, uint16_t service, uint16_t handle,
  *   bit 7  CS_ALLOCATED, shown: a live grant holds the level, or a port of
  *          the range
  *   bit 0  CS_IO_SHARED, shown, I/O: there are holders and all of them share
+ *          (CS_IO_SHARED of their RequestIO)
  *   bits 0 and 1, CS_IRQ_TYPE, shown, IRQ: CS_IRQ_EXCLUSIVE,
  *          CS_IRQ_TIME_MULTIPLEXED or CS_IRQ_DYNAMIC as the holders are, or 0
  *
@@ -580,6 +595,99 @@ uint32_t cs_call(uint8_t *table, size_t len, uint16_t service, uint16_t handle,
  */
 #define CS_RELEASE_IRQ 0x1C
 #define CS_RELEASE_IRQ_LENGTH 5
+
+/*
+ * RequestIO (5.52): a socket's I/O grant, one range of ports
+ *
+ * Packet, 11 bytes:
+ *   0  socket, 1 byte
+ *   1  function, 1 byte: 0
+ *   2  BasePort1, 2 bytes: the first port; or 0, and the keeper chooses it
+ *      and writes it here
+ *   4  NumPorts1, 1 byte: the number of ports
+ *   5  Attributes1, 1 byte
+ *        bit 0  CS_IO_SHARED        the ports may be shared with grants that
+ *                                   share them too
+ *        bit 1  CS_IO_FIRST_SHARED  needs CS_IO_SHARED: ports that meet no
+ *                                   grant yet, to be shared from now on
+ *        bit 2  CS_IO_FORCE_ALIAS   no effect here
+ *        bit 3  CS_IO_16_BIT        no effect here
+ *        bits 4 to 7 reserved
+ *   6  BasePort2, 2 bytes: ignored
+ *   8  NumPorts2, 1 byte: 0, as there is one range in a grant
+ *   9  Attributes2, 1 byte: ignored
+ *  10  IOAddrLines, 1 byte: how many address lines the card decodes, 1 to
+ *      CS_LINES
+ *
+ * A card that decodes n lines cannot tell ports apart whose numbers are equal
+ * in the low n bits: with 10 lines it answers at 2F8, at 6F8, at AF8 and on.
+ * So two ranges meet if a port of one equals a port of the other modulo two to
+ * the smaller of their line counts: 2F8 at 10 lines meets 6F8 at any number of
+ * lines, and with 16 lines each they do not meet. Only the ports themselves
+ * have to be managed, and not those at which the card answers besides. Checks:
+ *  3. packet_len is not CS_REQUEST_IO_LENGTH: CS_BAD_ARG_LENGTH
+ *  4. handle is not a live client's: CS_BAD_HANDLE
+ *  5. socket not below the table's count, or function not 0: CS_BAD_SOCKET
+ *  6. no card in the socket: CS_NO_CARD
+ *  7. a reserved attribute bit, CS_IO_FIRST_SHARED without CS_IO_SHARED, or
+ *     lines that are 0 or over CS_LINES: CS_BAD_ATTRIBUTE
+ *  8. NumPorts1 is 0 or over two to the lines, or NumPorts2 is not 0:
+ *     CS_BAD_SIZE
+ *  9. the socket has an I/O grant, whoever holds it: CS_IN_USE
+ *
+ * BasePort1 not 0, then:
+ * 10. one of the ports is past FFFF or not managed: CS_BAD_BASE
+ * 11. the ports meet a live grant's, of any client, this one too, and
+ *     CS_IO_FIRST_SHARED is set or the two do not both share: CS_IN_USE
+ *
+ * BasePort1 0, then:
+ * 10. there is no candidate: CS_IN_USE
+ *
+ * A candidate is a positive multiple of the smallest power of two not below
+ * NumPorts1; all NumPorts1 ports from it on are managed, none is past FFFF,
+ * and they meet no live grant, also none that shares: the two sharing bits
+ * make no difference to the choice. Candidates whose ports are all in
+ * unreserved ranges come first, then the lowest.
+ *
+ * Writes the grant (client, base, ports, lines, shared or not); into the
+ * packet BasePort1 and nothing else. Answers the handle given. cs_card_out
+ * takes no grant away.
+ *
+ * The packet as it is left is the packet that releases the grant.
+ */
+#define CS_REQUEST_IO 0x1F
+#define CS_REQUEST_IO_LENGTH 11
+
+#define CS_IO_FIRST_SHARED 0x02
+#define CS_IO_FORCE_ALIAS 0x04
+#define CS_IO_16_BIT 0x08
+
+/*
+ * ReleaseIO (5.44): a socket's I/O grant is given back
+ *
+ * Packet, 11 bytes:
+ *   0  socket, 1 byte
+ *   1  function, 1 byte: 0
+ *   2  BasePort1, 2 bytes: the base granted
+ *   4  NumPorts1, 1 byte: the number of ports granted
+ *   5  Attributes1, 1 byte: ignored
+ *   6  BasePort2, 2 bytes: ignored
+ *   8  NumPorts2, 1 byte: 0
+ *   9  Attributes2, 1 byte: ignored
+ *  10  IOAddrLines, 1 byte: ignored
+ *
+ * Needs no card. Checks:
+ *  3. packet_len is not CS_RELEASE_IO_LENGTH: CS_BAD_ARG_LENGTH
+ *  4. handle is not a live client's: CS_BAD_HANDLE
+ *  5. socket not below the table's count, or function not 0: CS_BAD_SOCKET
+ *  6. NumPorts2 is not 0: CS_BAD_SIZE
+ *  7. this client does not hold this base and number of ports on this socket:
+ *     CS_BAD_BASE
+ *
+ * Takes the grant away; the packet stays as it is. Answers the handle given.
+ */
+#define CS_RELEASE_IO 0x1B
+#define CS_RELEASE_IO_LENGTH 11
 
 /*
  * RequestSocketMask (5.54): a client's event mask for one socket

@@ -7,12 +7,6 @@
 #include "layout.h"
 #include "names.h"
 
-/* The services that the archive has so far: a landing adds its own here. All
-   others are to be answered with UNSUPPORTED_SERVICE. */
-static const uint16_t built[] = {
-    CS_REGISTER_CLIENT, CS_DEREGISTER_CLIENT,   CS_ADJUST_RESOURCE_INFO, CS_REQUEST_IRQ,
-    CS_RELEASE_IRQ,     CS_REQUEST_SOCKET_MASK, CS_RELEASE_SOCKET_MASK};
-
 /* ---- Counting and reporting ---- */
 
 enum { MOST_REPORTS = 40, MOST_PRINTED = 32, CODES = 256, NUMBERED = 256 };
@@ -100,19 +94,6 @@ unsigned long answered(uint32_t code)
 unsigned long answered_to(uint16_t service, uint32_t code)
 {
     return seen_of[service][code];
-}
-
-unsigned services_built(void)
-{
-    return sizeof built / sizeof *built;
-}
-
-bool service_built(uint16_t service)
-{
-    for (unsigned i = 0; i < services_built(); i++)
-        if (built[i] == service)
-            return true;
-    return false;
 }
 
 void run_group(const char *name, void (*group)(void), unsigned long least)
@@ -249,6 +230,11 @@ bool lent_accepted(void)
 const struct model *lent_facts(void)
 {
     return &facts;
+}
+
+const uint8_t *lent_table(void)
+{
+    return table.is + GUARD;
 }
 
 /* ---- Questions ---- */
@@ -393,8 +379,6 @@ static uint32_t expected_of_call(uint16_t service, uint16_t handle, size_t len)
 {
     if (!accepted)
         return CS_GENERAL_FAILURE;
-    if (!service_built(service))
-        return CS_UNSUPPORTED_SERVICE;
     return image_after(model_call(&facts, service, handle, packet.should + GUARD, len));
 }
 

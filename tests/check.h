@@ -23,9 +23,11 @@ void lend_fresh(uint32_t sockets);
 /* What a report is to say of the lent table, after it was lent. */
 void describe(const char *format, ...);
 
-/* The facts that the lent table says, if the model accepts it. */
+/* The facts that the lent table says, if the model accepts it; its bytes, as the
+   archive left them. */
 bool lent_accepted(void);
 const struct model *lent_facts(void);
+const uint8_t *lent_table(void);
 
 uint32_t ask_fresh(uint32_t sockets);
 uint32_t ask_card_in(uint32_t socket);
@@ -58,10 +60,6 @@ unsigned long answered_to(uint16_t service, uint32_t code);
 
 /* Something else that has to hold. */
 void must_hold(const char *what, bool holds);
-
-/* The services that the archive has so far. */
-bool service_built(uint16_t service);
-unsigned services_built(void);
 
 /* Runs a group, which has to make at least so many checks. */
 void run_group(const char *name, void (*group)(void), unsigned long least);

@@ -169,7 +169,8 @@ static bool overlapping_range(struct chance *c, struct model *m)
     const struct range *r = some_range(c, m);
     if (r == NULL || m->ranges == CS_RANGES)
         return false;
-    m->range[m->ranges++] = (struct range){r->base + pick(c, r->count), 1, one_in(c, 2)};
+    uint32_t port = r->base + pick(c, r->count);
+    m->range[m->ranges++] = (struct range){port, 1, one_in(c, 2)};
     return true;
 }
 
@@ -242,8 +243,9 @@ static bool io_grant_base_zero(struct chance *c, struct model *m)
     struct io_grant *g = only_io_grant(c, m);
     if (g == NULL)
         return false;
+    uint32_t count = 1 + pick(c, CS_PORTS);
     m->ranges = 1;
-    m->range[0] = (struct range){0, 1 + pick(c, CS_PORTS), one_in(c, 2)};
+    m->range[0] = (struct range){0, count, one_in(c, 2)};
     g->base = 0;
     return true;
 }
@@ -371,7 +373,8 @@ static uint8_t not_a_mark(struct chance *c)
 /* One of these bytes, which are all 0, becomes another number. */
 static void spoil(struct chance *c, uint8_t *zeros, size_t many)
 {
-    zeros[pick(c, (uint32_t)many)] = (uint8_t)(1 + pick(c, 255));
+    uint32_t at = pick(c, (uint32_t)many);
+    zeros[at] = (uint8_t)(1 + pick(c, 255));
 }
 
 static void miscount(struct chance *c, uint8_t *count)

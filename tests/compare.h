@@ -74,6 +74,8 @@ void request_irq_order(void);
 void release_irq_order(void);
 void request_mask_order(void);
 void release_mask_order(void);
+void request_io_order(void);
+void release_io_order(void);
 
 /* compare_irq.c: RequestIRQ and ReleaseIRQ */
 void irq_attributes(void);
@@ -97,6 +99,46 @@ void irq_cases(void);
 void irq_bytes(void);
 void irq_full_table(void);
 
+/* compare_io.c: RequestIO with a base that is named */
+void io_attributes(void);
+void io_counts(void);
+void io_second_range(void);
+void io_last_ports(void);
+void io_managed_ports(void);
+void io_many_ranges(void);
+void io_sharing(void);
+void io_sharing_with_many(void);
+void io_eight_share(void);
+void io_lines(void);
+void io_2f8_and_6f8(void);
+void io_images(void);
+void io_around_a_multiple(void);
+void io_cases(void);
+
+/* compare_io_choice.c: RequestIO with base 0 */
+void io_multiples(void);
+void io_choice(void);
+void io_all_chosen(void);
+void io_all_barred(void);
+
+/* compare_io_held.c: ReleaseIO, and what an I/O grant holds */
+void io_release_of_others(void);
+void io_release_fields(void);
+void io_release_by_low_bytes(void);
+void io_every_place(void);
+void io_every_socket(void);
+void io_keeps_its_client(void);
+void io_two_of_a_client(void);
+void io_beside_others(void);
+void io_keeps_its_ranges(void);
+void io_holders_shown(void);
+void io_bytes(void);
+void io_full_table(void);
+
+/* compare_io_worlds.c: RequestIO and ReleaseIO by chance */
+void io_small_worlds(void);
+void io_large_worlds(void);
+
 /* compare_masks.c: RequestSocketMask and ReleaseSocketMask */
 void mask_events(void);
 void mask_of_no_event(void);
@@ -118,5 +160,6 @@ void broken_clauses(void);
 void meeting_grants(void);
 void manners_on_a_level(void);
 void damaged_bytes(void);
+void damaged_tables(void);
 
 #endif

@@ -74,6 +74,8 @@ void table_lengths(void)
             must_be(request_irq(1, 7, 0, 0x2F, 0), code, good ? 1 : 0);
             must_be(release_mask(1, 7), code, good ? 1 : 0);
             must_be(request_mask(1, 7, 0), code, good ? 1 : 0);
+            must_be(release_io(8, 7, 0x1C0, 8), code, good ? 8 : 0);
+            must_be(request_io(1, 7, 0x1C8, 8, 0, 16), code, good ? 1 : 0);
             must_be(ask_call(0x7777, 0, NULL, 0),
                     good ? CS_UNSUPPORTED_SERVICE : CS_GENERAL_FAILURE, 0);
         }
@@ -355,28 +357,20 @@ static void ask_every_service(void)
         ask_call((uint16_t)service, 1, packet, sizeof packet);
 }
 
-/* Services of document 01, each with a packet of its length. */
-static void not_built_yet(void)
-{
-    static const struct {
-        uint16_t service;
-        size_t len;
-    } later[] = {{CS_REQUEST_IO, CS_REQUEST_IO_LENGTH}, {CS_RELEASE_IO, CS_RELEASE_IO_LENGTH}};
-    static const uint8_t packet[CS_REQUEST_IO_LENGTH];
-    for (size_t i = 0; i < sizeof later / sizeof *later; i++)
-        must_be(ask_call(later[i].service, 1, packet, later[i].len), CS_UNSUPPORTED_SERVICE, 0);
-}
-
+/* "Built: RegisterClient 10H (5.37), DeregisterClient 02H (5.8), .." and the
+   others' numbers in that order. */
 void every_service(void)
 {
+    static const uint16_t built[] = {0x10, 0x02, 0x35, 0x20, 0x1C, 0x1F, 0x1B, 0x22, 0x2F};
     struct model m;
     full_set(&m, CS_CLIENTS - 1);
     lend_set(&m);
     ask_every_service();
-    must_hold("only the services built are answered otherwise than UNSUPPORTED_SERVICE",
-              answered(CS_UNSUPPORTED_SERVICE) == 65536 - services_built());
-    must_hold("RegisterClient was answered SUCCESS", answered(CS_SUCCESS) >= 1);
-    not_built_yet();
+    for (unsigned i = 0; i < 9; i++)
+        must_hold("each of the nine is a service",
+                  answered_to(built[i], CS_UNSUPPORTED_SERVICE) == 0);
+    must_hold("no other number is one", answered(CS_UNSUPPORTED_SERVICE) == 65536 - 9);
+    must_hold("RegisterClient was answered SUCCESS", answered(CS_SUCCESS) == 1);
 }
 
 static void lend_broken(size_t at)
@@ -399,12 +393,17 @@ void every_service_broken(void)
 /* Asked for what a full table would do, and for what none would. */
 static void no_socket_service_answers(void)
 {
-    static const uint16_t services[] = {CS_REQUEST_IRQ, CS_RELEASE_IRQ, CS_REQUEST_SOCKET_MASK,
-                                        CS_RELEASE_SOCKET_MASK};
+    static const uint16_t services[] = {CS_REQUEST_IRQ,         CS_RELEASE_IRQ,
+                                        CS_REQUEST_IO,          CS_RELEASE_IO,
+                                        CS_REQUEST_SOCKET_MASK, CS_RELEASE_SOCKET_MASK};
     irq_refused(1, 0, 2, 0xF0, 0xFFFF, CS_GENERAL_FAILURE);
     irq_refused(0, 0xFF, 0xFFFF, 0, 0, CS_GENERAL_FAILURE);
     must_be(release_irq(1, 0, 2, 0), CS_GENERAL_FAILURE, 0);
     must_be(release_irq(0, 0xFF, 0xFFFF, 0xFF), CS_GENERAL_FAILURE, 0);
+    io_refused(1, 0, 0, 8, 0, 16, CS_GENERAL_FAILURE);
+    io_refused(0, 0xFF, 0xFFFF, 0, 0xFF, 0, CS_GENERAL_FAILURE);
+    must_be(release_io(1, 0, 0x100, 8), CS_GENERAL_FAILURE, 0);
+    must_be(release_io(0, 0xFF, 0, 0), CS_GENERAL_FAILURE, 0);
     must_be(request_mask(1, 0, 0), CS_GENERAL_FAILURE, 0);
     must_be(request_mask(0, 0xFF, 0xFFFF), CS_GENERAL_FAILURE, 0);
     must_be(release_mask(1, 0), CS_GENERAL_FAILURE, 0);

@@ -4,8 +4,8 @@
 #include "sets.h"
 #include "sockets.h"
 
-/* Tables with live grants, written from docs/LAYOUT.md: no service makes those
-   of I/O yet. */
+/* Tables with live grants, written from docs/LAYOUT.md. compare_irq.c and
+   compare_io_held.c have those that calls make. */
 
 /* ---- Levels ---- */
 
@@ -290,7 +290,7 @@ static void walk_and_remove(struct chance *c)
     for (unsigned from = 0; from <= m->ranges; from++) {
         uint32_t at = from == 0 ? base : m->range[from - 1].base;
         for (unsigned f = 0; f < 2; f++)
-            adjust_io(forms[f], (uint8_t)(CS_ACTION_FIRST + pick(c, 2)), at, pick(c, 9), 0, 0);
+            adjust_io(forms[f], (uint8_t)(CS_ACTION_FIRST + pick(c, 2)), at, 7 * f, 0, 0);
     }
     for (uint8_t level = 0; level < CS_LEVELS; level++) {
         adjust_irq((uint8_t)(CS_ACTION_FIRST + pick(c, 2)), 0, level);

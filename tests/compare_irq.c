@@ -53,7 +53,7 @@ static void granted(uint16_t client, uint8_t socket, uint16_t attributes, uint8_
         pulse_granted(client, socket, attributes, info_1, info_2, level);
     else
         irq_granted(client, socket, attributes, info_1, info_2, level);
-    grant_bytes(socket, client, level, manner_of(letter));
+    irq_grant_bytes(socket, client, level, manner_of(letter));
 }
 
 /* "Mask set with any of IRQInfo1's bits 0 to 3, or with IRQInfo2 0"; "With Mask
@@ -342,7 +342,7 @@ static void eight_leave(unsigned a)
     for (unsigned i = 0; i < CS_SOCKETS; i++) {
         uint8_t s = (uint8_t)(3 * i % CS_SOCKETS), next = (uint8_t)(3 * (i + 1) % CS_SOCKETS);
         must_be(release_irq((uint16_t)(16 - s), s, attributes, 6), CS_SUCCESS, (uint16_t)(16 - s));
-        no_grant_bytes(s);
+        no_irq_grant_bytes(s);
         must_be(ask_sharers(6), CS_SUCCESS, (uint16_t)(7 - i));
         if (i < 7) {
             irq_refused(1, s, 0, 0xE6, 0, CS_BAD_IRQ);
@@ -377,9 +377,9 @@ static void release_with(uint8_t held, uint16_t attributes)
     lend_set(&m);
     must_be(release_irq(8, 3, attributes, 10), good ? CS_SUCCESS : CS_BAD_ATTRIBUTE, good ? 8 : 0);
     if (good)
-        no_grant_bytes(3);
+        no_irq_grant_bytes(3);
     else
-        grant_bytes(3, 8, 10, held);
+        irq_grant_bytes(3, 8, 10, held);
 }
 
 void release_attributes(void)
@@ -446,7 +446,7 @@ void release_by_low_bytes(void)
     must_be(release_irq(2, 1, 0, 1), CS_SUCCESS, 2);
     must_be(release_irq(0x0100, 2, 0, 2), CS_SUCCESS, 0x0100);
     irq_granted(0x0102, 7, 0, 0x2F, 0, 15);
-    grant_bytes(7, 0x0102, 15, EXCLUSIVE);
+    irq_grant_bytes(7, 0x0102, 15, EXCLUSIVE);
 }
 
 /* ---- Every place of a grant ---- */
@@ -464,7 +464,7 @@ void irq_every_place(void)
                 granted(client, socket, asked[a].attributes, asked[a].info_1 | level, 0, level);
                 must_be(ask_sharers(level), CS_SUCCESS, 1);
                 must_be(release_irq(client, socket, left, level), CS_SUCCESS, client);
-                no_grant_bytes(socket);
+                no_irq_grant_bytes(socket);
                 must_be(ask_sharers(level), CS_SUCCESS, 0);
             }
 }
@@ -476,14 +476,14 @@ void irq_every_socket(void)
     for (uint8_t s = 0; s < CS_SOCKETS; s++)
         irq_granted((uint16_t)(16 - s), s, 0, (uint8_t)(0x20 | (15 - s)), 0, (uint8_t)(15 - s));
     for (uint8_t s = 0; s < CS_SOCKETS; s++)
-        grant_bytes(s, (uint16_t)(16 - s), (uint8_t)(15 - s), EXCLUSIVE);
+        irq_grant_bytes(s, (uint16_t)(16 - s), (uint8_t)(15 - s), EXCLUSIVE);
     for (uint8_t i = 0; i < CS_SOCKETS; i++) {
         uint8_t s = (uint8_t)(5 * i % CS_SOCKETS);
         must_be(release_irq((uint16_t)(16 - s), s, 0, (uint8_t)(15 - s)), CS_SUCCESS,
                 (uint16_t)(16 - s));
     }
     for (uint8_t s = 0; s < CS_SOCKETS; s++)
-        no_grant_bytes(s);
+        no_irq_grant_bytes(s);
 }
 
 /* ---- What a grant holds ---- */

@@ -183,7 +183,7 @@ void masks_beside_grants(void)
     must_be(deregister(2), CS_IN_USE, 0);
     irq_granted(2, 3, 0, 0x24, 0, 4);
     must_be(release_mask(2, 3), CS_SUCCESS, 2);
-    grant_bytes(3, 2, 4, EXCLUSIVE);
+    irq_grant_bytes(3, 2, 4, EXCLUSIVE);
     must_be(deregister(2), CS_IN_USE, 0);
     must_be(release_irq(2, 3, 0, 4), CS_SUCCESS, 2);
     must_be(deregister(2), CS_SUCCESS, 2);

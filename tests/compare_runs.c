@@ -3,25 +3,27 @@
 #include "sets.h"
 
 /* What a run is after: that things come, that they come and go, or that sockets'
-   IRQ grants and masks come and go. */
+   grants and masks come and go. */
 enum aim { COMING, GOING, OF_SOCKETS };
 
 static bool of_sockets(uint16_t service)
 {
-    return service == CS_REQUEST_IRQ || service == CS_RELEASE_IRQ ||
-           service == CS_REQUEST_SOCKET_MASK || service == CS_RELEASE_SOCKET_MASK;
+    return service == CS_REQUEST_IRQ || service == CS_RELEASE_IRQ || service == CS_REQUEST_IO ||
+           service == CS_RELEASE_IO || service == CS_REQUEST_SOCKET_MASK ||
+           service == CS_RELEASE_SOCKET_MASK;
 }
 
-/* Mostly of the services built. */
+/* Where things are to come, Add before Remove, First and Next, and few that
+   leave. */
 static bool wanted(struct chance *c, const struct request *r, enum aim aim)
 {
     if (aim == OF_SOCKETS)
         return of_sockets(r->service) || one_in(c, 8);
-    if (r->service == CS_ADJUST_RESOURCE_INFO)
-        return aim == GOING || r->packet[0] != CS_ACTION_REMOVE || one_in(c, 16);
+    if (r->service == CS_ADJUST_RESOURCE_INFO && aim == COMING)
+        return r->packet[0] == CS_ACTION_ADD || one_in(c, 6);
     if (aim == COMING && r->service == CS_DEREGISTER_CLIENT)
         return one_in(c, 4);
-    return one_in(c, service_built(r->service) ? 2 : 32);
+    return one_in(c, 2);
 }
 
 static void ask_request(struct chance *c, enum aim aim)
@@ -80,10 +82,66 @@ static void run_on(struct chance *c, unsigned questions)
         random_question(c, i / 100 % 4 != 3 ? COMING : GOING);
 }
 
-static void saw_enough(uint32_t code, unsigned long least)
+/* ---- The codes that runs have to see ---- */
+
+/* Every code that document 01 has for a service, but for GENERAL_FAILURE, which
+   is the table's. */
+static const struct {
+    uint16_t service;
+    unsigned many;
+    uint8_t codes[11];
+} gives[] = {
+    {CS_REGISTER_CLIENT, 4, {CS_SUCCESS, CS_BAD_ARG_LENGTH, CS_BAD_ATTRIBUTE, CS_OUT_OF_RESOURCE}},
+    {CS_DEREGISTER_CLIENT, 4, {CS_SUCCESS, CS_BAD_ARG_LENGTH, CS_BAD_HANDLE, CS_IN_USE}},
+    {CS_ADJUST_RESOURCE_INFO,
+     11,
+     {CS_SUCCESS, CS_BAD_ARG_LENGTH, CS_BAD_ARGS, CS_UNSUPPORTED_SERVICE, CS_BAD_ATTRIBUTE,
+      CS_BAD_IRQ, CS_IN_USE, CS_BAD_SIZE, CS_BAD_BASE, CS_OUT_OF_RESOURCE, CS_NO_MORE_ITEMS}},
+    {CS_REQUEST_IRQ,
+     9,
+     {CS_SUCCESS, CS_BAD_ARG_LENGTH, CS_BAD_HANDLE, CS_BAD_SOCKET, CS_NO_CARD, CS_BAD_ATTRIBUTE,
+      CS_BAD_ARGS, CS_IN_USE, CS_BAD_IRQ}},
+    {CS_RELEASE_IRQ,
+     6,
+     {CS_SUCCESS, CS_BAD_ARG_LENGTH, CS_BAD_HANDLE, CS_BAD_SOCKET, CS_BAD_IRQ, CS_BAD_ATTRIBUTE}},
+    {CS_REQUEST_IO,
+     9,
+     {CS_SUCCESS, CS_BAD_ARG_LENGTH, CS_BAD_HANDLE, CS_BAD_SOCKET, CS_NO_CARD, CS_BAD_ATTRIBUTE,
+      CS_BAD_SIZE, CS_IN_USE, CS_BAD_BASE}},
+    {CS_RELEASE_IO,
+     6,
+     {CS_SUCCESS, CS_BAD_ARG_LENGTH, CS_BAD_HANDLE, CS_BAD_SOCKET, CS_BAD_SIZE, CS_BAD_BASE}},
+    {CS_REQUEST_SOCKET_MASK,
+     7,
+     {CS_SUCCESS, CS_BAD_ARG_LENGTH, CS_BAD_HANDLE, CS_BAD_SOCKET, CS_NO_CARD, CS_BAD_ATTRIBUTE,
+      CS_IN_USE}},
+    {CS_RELEASE_SOCKET_MASK, 4, {CS_SUCCESS, CS_BAD_ARG_LENGTH, CS_BAD_HANDLE, CS_BAD_SOCKET}},
+};
+enum { SERVICES = sizeof gives / sizeof *gives };
+
+/* Each of the service's codes so often, and no other; the number of calls. */
+static unsigned long saw_all_of(unsigned service, unsigned long least)
 {
-    must_hold("a run gave each code often enough", answered(code) >= least);
+    unsigned long calls = 0, all = 0;
+    for (uint32_t code = 0; code < 256; code++)
+        all += answered_to(gives[service].service, code);
+    for (unsigned i = 0; i < gives[service].many; i++) {
+        unsigned long times = answered_to(gives[service].service, gives[service].codes[i]);
+        must_hold("a run gave each service's codes often enough", times >= least);
+        calls += times;
+    }
+    must_hold("a run gave a service no other code", calls == all);
+    return calls;
 }
+
+static void saw_all(unsigned long least)
+{
+    for (unsigned i = 0; i < SERVICES; i++)
+        saw_all_of(i, least);
+    must_hold("there were other services", answered(CS_UNSUPPORTED_SERVICE) >= least);
+}
+
+/* ---- Runs ---- */
 
 void runs_from_fresh(void)
 {
@@ -93,90 +151,32 @@ void runs_from_fresh(void)
         run_on(&c, 1000);
         ask_fresh(some_number(&c, CS_SOCKETS));
     }
-    saw_enough(CS_SUCCESS, 15000);
-    saw_enough(CS_BAD_ATTRIBUTE, 1000);
-    saw_enough(CS_BAD_BASE, 500);
-    saw_enough(CS_BAD_IRQ, 1000);
-    saw_enough(CS_BAD_SIZE, 1000);
-    saw_enough(CS_BAD_SOCKET, 500);
-    saw_enough(CS_NO_CARD, 500);
-    saw_enough(CS_UNSUPPORTED_SERVICE, 500);
-    saw_enough(CS_BAD_ARG_LENGTH, 500);
-    saw_enough(CS_BAD_ARGS, 200);
-    saw_enough(CS_IN_USE, 1000);
-    saw_enough(CS_NO_MORE_ITEMS, 500);
-    saw_enough(CS_OUT_OF_RESOURCE, 200);
-    saw_enough(CS_BAD_HANDLE, 200);
+    saw_all(10);
+    must_hold("a run did enough", answered(CS_SUCCESS) >= 15000);
 }
 
-/* Sets with I/O grants too, which the archive cannot make yet. */
+/* Every eighth is a full table. */
 void runs_from_sets(void)
 {
     static struct model m;
     for (uint64_t seed = 1001; seed <= 1800; seed++) {
         struct chance c = {seed};
-        random_set(&c, &m);
+        if (seed % 8 == 0)
+            full_set(&m, 8 + pick(&c, CS_CLIENTS - 7));
+        else
+            random_set(&c, &m);
         lend_set(&m);
         run_on(&c, 100);
     }
-    saw_enough(CS_SUCCESS, 20000);
-    saw_enough(CS_IN_USE, 3000);
-    saw_enough(CS_NO_MORE_ITEMS, 500);
-    saw_enough(CS_OUT_OF_RESOURCE, 200);
+    saw_all(50);
+    must_hold("a run did enough", answered(CS_SUCCESS) >= 15000);
 }
 
-/* ---- Runs of IRQ grants and masks ---- */
-
-/* Every code that document 01 has for these services, the table's apart. */
-static const struct {
-    uint16_t service;
-    uint32_t code;
-    unsigned long least;
-} of_sockets_seen[] = {
-    {CS_REQUEST_IRQ, CS_SUCCESS, 5000},
-    {CS_REQUEST_IRQ, CS_BAD_ARG_LENGTH, 500},
-    {CS_REQUEST_IRQ, CS_BAD_HANDLE, 500},
-    {CS_REQUEST_IRQ, CS_BAD_SOCKET, 500},
-    {CS_REQUEST_IRQ, CS_NO_CARD, 500},
-    {CS_REQUEST_IRQ, CS_BAD_ATTRIBUTE, 500},
-    {CS_REQUEST_IRQ, CS_BAD_ARGS, 500},
-    {CS_REQUEST_IRQ, CS_IN_USE, 500},
-    {CS_REQUEST_IRQ, CS_BAD_IRQ, 500},
-    {CS_RELEASE_IRQ, CS_SUCCESS, 5000},
-    {CS_RELEASE_IRQ, CS_BAD_ARG_LENGTH, 500},
-    {CS_RELEASE_IRQ, CS_BAD_HANDLE, 500},
-    {CS_RELEASE_IRQ, CS_BAD_SOCKET, 500},
-    {CS_RELEASE_IRQ, CS_BAD_IRQ, 500},
-    {CS_RELEASE_IRQ, CS_BAD_ATTRIBUTE, 500},
-    {CS_REQUEST_SOCKET_MASK, CS_SUCCESS, 5000},
-    {CS_REQUEST_SOCKET_MASK, CS_BAD_ARG_LENGTH, 500},
-    {CS_REQUEST_SOCKET_MASK, CS_BAD_HANDLE, 500},
-    {CS_REQUEST_SOCKET_MASK, CS_BAD_SOCKET, 500},
-    {CS_REQUEST_SOCKET_MASK, CS_NO_CARD, 500},
-    {CS_REQUEST_SOCKET_MASK, CS_BAD_ATTRIBUTE, 500},
-    {CS_REQUEST_SOCKET_MASK, CS_IN_USE, 500},
-    {CS_RELEASE_SOCKET_MASK, CS_SUCCESS, 5000},
-    {CS_RELEASE_SOCKET_MASK, CS_BAD_ARG_LENGTH, 500},
-    {CS_RELEASE_SOCKET_MASK, CS_BAD_HANDLE, 500},
-    {CS_RELEASE_SOCKET_MASK, CS_BAD_SOCKET, 500},
-};
-
-/* 100,000 such calls at least. */
-static void saw_all_of_sockets(void)
-{
-    unsigned long calls = 0;
-    for (size_t i = 0; i < sizeof of_sockets_seen / sizeof *of_sockets_seen; i++) {
-        unsigned long times = answered_to(of_sockets_seen[i].service, of_sockets_seen[i].code);
-        must_hold("a run gave each service's codes often enough",
-                  times >= of_sockets_seen[i].least);
-        calls += times;
-    }
-    must_hold("a run had enough IRQ and mask calls", calls >= 100000);
-}
-
+/* 100,000 calls of the six services that name a socket, at least. */
 void runs_of_sockets(void)
 {
     static struct model m;
+    unsigned long calls = 0;
     for (uint64_t seed = 2001; seed <= 2450; seed++) {
         struct chance c = {seed};
         do
@@ -186,5 +186,8 @@ void runs_of_sockets(void)
         for (unsigned i = 0; i < 320; i++)
             random_question(&c, OF_SOCKETS);
     }
-    saw_all_of_sockets();
+    for (unsigned i = 0; i < SERVICES; i++)
+        if (of_sockets(gives[i].service))
+            calls += saw_all_of(i, 300);
+    must_hold("a run had enough calls that name a socket", calls >= 100000);
 }

@@ -6,18 +6,35 @@
 
 /* ---- The services that name a socket, each with what it accepts ---- */
 
-/* A packet for socket 0: level 6 named or held, dynamic level; Card Detect. */
+/* A packet for socket 0: level 6 named or held, dynamic level; Card Detect; eight
+   ports from 304 on, at 16 lines. */
+enum { REQUEST_IRQ, RELEASE_IRQ, REQUEST_MASK, RELEASE_MASK, REQUEST_IO, RELEASE_IO, KINDS };
 static const struct kind {
     uint16_t service;
     size_t len;
-    uint8_t packet[CS_REQUEST_IRQ_LENGTH];
-} kinds[] = {
-    {CS_REQUEST_IRQ, 8, {0, 0, 2, 0, NOT_ASSIGNED, 0xA6, 0, 0}},
-    {CS_RELEASE_IRQ, 5, {0, 0, 2, 0, 6}},
-    {CS_REQUEST_SOCKET_MASK, 4, {0, 0, 0x80, 0}},
-    {CS_RELEASE_SOCKET_MASK, 2, {0, 0}},
+    uint8_t packet[CS_REQUEST_IO_LENGTH];
+} kinds[KINDS] = {
+    [REQUEST_IRQ] = {CS_REQUEST_IRQ, 8, {0, 0, 2, 0, NOT_ASSIGNED, 0xA6, 0, 0}},
+    [RELEASE_IRQ] = {CS_RELEASE_IRQ, 5, {0, 0, 2, 0, 6}},
+    [REQUEST_MASK] = {CS_REQUEST_SOCKET_MASK, 4, {0, 0, 0x80, 0}},
+    [RELEASE_MASK] = {CS_RELEASE_SOCKET_MASK, 2, {0, 0}},
+    [REQUEST_IO] = {CS_REQUEST_IO, 11, {0, 0, 0x04, 0x03, 8, 0, 0, 0, 0, 0, 16}},
+    [RELEASE_IO] = {CS_RELEASE_IO, 11, {0, 0, 0x04, 0x03, 8, 0, 0, 0, 0, 0, 16}},
 };
-enum { KINDS = sizeof kinds / sizeof *kinds };
+
+/* Level 6 and ports 300 to 30F are managed. */
+static void both_managed(struct model *m)
+{
+    ready_set(m, 1u << 6, 0);
+    manage(m, 0x300, 16, false);
+}
+
+static void lend_both_managed(void)
+{
+    struct model m;
+    both_managed(&m);
+    lend_set(&m);
+}
 
 /* What the client at this place has to hold before a release. */
 static void hold(struct model *m, const struct kind *kind, unsigned place, unsigned socket)
@@ -27,6 +44,8 @@ static void hold(struct model *m, const struct kind *kind, unsigned place, unsig
         m->irq[socket] = (struct irq_grant){true, client->handle, 6, DYNAMIC_LEVEL};
     if (kind->service == CS_RELEASE_SOCKET_MASK)
         client->masks[socket] = (struct mask){true, CS_EVENT_CARD_DETECT_CHANGE};
+    if (kind->service == CS_RELEASE_IO)
+        m->io[socket] = (struct io_grant){true, client->handle, 0x304, 8, 16, false};
 }
 
 /* Any length up to what is lent. */
@@ -50,7 +69,7 @@ static void done_or(uint32_t answer, bool good, uint16_t handle, uint32_t code)
 static void try_length(const struct kind *kind, size_t len)
 {
     struct model m;
-    ready_set(&m, 1u << 6, 0);
+    both_managed(&m);
     hold(&m, kind, 0, 0);
     lend_set(&m);
     describe("length %lu", (unsigned long)len);
@@ -76,7 +95,7 @@ static void try_handle(const struct kind *kind, uint16_t handle)
 {
     struct model m;
     bool live = (handle >= 1 && handle <= 15) || handle == 300;
-    ready_set(&m, 1u << 6, 0);
+    both_managed(&m);
     m.issued = m.client[15].handle = 300;
     hold(&m, kind, handle == 300 ? 15 : live ? handle - 1u : 0, 5);
     lend_set(&m);
@@ -101,17 +120,33 @@ static void gone(uint16_t client)
     must_be(request_mask(client, 6, 0), CS_BAD_HANDLE, 0);
     must_be(release_irq(client, 7, 2, 6), CS_BAD_HANDLE, 0);
     must_be(release_mask(client, 7), CS_BAD_HANDLE, 0);
+    io_refused(client, 6, 0x304, 8, ALONE, 16, CS_BAD_HANDLE);
+    io_refused(client, 6, 0, 8, ALONE, 16, CS_BAD_HANDLE);
+    must_be(release_io(client, 7, 0x304, 8), CS_BAD_HANDLE, 0);
+}
+
+/* All that there is to hold, at socket 7. */
+static void get_all(uint16_t client)
+{
+    irq_granted(client, 7, 2, 0xA6, 0, 6);
+    must_be(request_mask(client, 7, 0), CS_SUCCESS, client);
+    io_granted(client, 7, 0x304, 8, ALONE, 16);
+}
+
+static void give_all_back(uint16_t client)
+{
+    must_be(release_irq(client, 7, 2, 6), CS_SUCCESS, client);
+    must_be(release_mask(client, 7), CS_SUCCESS, client);
+    io_released(client, 7, 0x304, 8);
 }
 
 /* "each issued once in a table's life": who registers again is another client,
    and has nothing of what the old handle had. */
 void stale_handles(void)
 {
-    lend_ready(1u << 6, 0);
-    irq_granted(16, 7, 2, 0xA6, 0, 6);
-    must_be(request_mask(16, 7, 0), CS_SUCCESS, 16);
-    must_be(release_irq(16, 7, 2, 6), CS_SUCCESS, 16);
-    must_be(release_mask(16, 7), CS_SUCCESS, 16);
+    lend_both_managed();
+    get_all(16);
+    give_all_back(16);
     must_be(deregister(1), CS_SUCCESS, 1);
     must_be(deregister(16), CS_SUCCESS, 16);
     gone(1);
@@ -119,37 +154,42 @@ void stale_handles(void)
     must_be(register_one(), CS_SUCCESS, 17);
     gone(1);
     gone(16);
-    irq_granted(17, 7, 2, 0xA6, 0, 6);
-    must_be(request_mask(17, 7, 0), CS_SUCCESS, 17);
+    get_all(17);
     gone(1);
     gone(16);
     must_be(deregister(17), CS_IN_USE, 0);
-    must_be(release_irq(17, 7, 2, 6), CS_SUCCESS, 17);
-    must_be(release_mask(17, 7), CS_SUCCESS, 17);
+    give_all_back(17);
     must_be(deregister(17), CS_SUCCESS, 17);
     gone(17);
 }
 
-/* Each client gives back its own alone: another's grant is BAD_IRQ, another's
-   mask BAD_SOCKET. */
+/* Each client gives back its own alone: another's grant is BAD_IRQ or BAD_BASE,
+   another's mask BAD_SOCKET. */
 void others_holdings(void)
 {
-    lend_ready(1u << 6, 0);
+    lend_both_managed();
     irq_granted(15, 7, 2, 0xA6, 0, 6);
     irq_granted(16, 6, 2, 0xA6, 0, 6);
     must_be(request_mask(15, 7, 0), CS_SUCCESS, 15);
     must_be(request_mask(16, 6, 0), CS_SUCCESS, 16);
+    io_granted(15, 7, 0x304, 8, SHARED, 16);
+    io_granted(16, 6, 0x304, 8, SHARED, 16);
     must_be(release_irq(16, 7, 2, 6), CS_BAD_IRQ, 0);
     must_be(release_irq(15, 6, 2, 6), CS_BAD_IRQ, 0);
     must_be(release_mask(16, 7), CS_BAD_SOCKET, 0);
     must_be(release_mask(15, 6), CS_BAD_SOCKET, 0);
+    io_not_released(16, 7, 0x304, 8);
+    io_not_released(15, 6, 0x304, 8);
     must_be(ask_sharers(6), CS_SUCCESS, 2);
     must_be(release_irq(15, 7, 2, 6), CS_SUCCESS, 15);
     must_be(release_mask(15, 7), CS_SUCCESS, 15);
+    io_released(15, 7, 0x304, 8);
     must_be(deregister(15), CS_SUCCESS, 15);
     must_be(deregister(16), CS_IN_USE, 0);
     must_be(release_irq(16, 6, 2, 6), CS_SUCCESS, 16);
     must_be(release_mask(16, 6), CS_SUCCESS, 16);
+    must_be(deregister(16), CS_IN_USE, 0);
+    io_released(16, 6, 0x304, 8);
     must_be(deregister(16), CS_SUCCESS, 16);
 }
 
@@ -159,7 +199,7 @@ static void try_socket(const struct kind *kind, unsigned sockets, uint8_t socket
 {
     struct model m;
     bool below = socket < sockets;
-    ready_set(&m, 1u << 6, 0);
+    both_managed(&m);
     m.sockets = sockets;
     for (unsigned s = sockets; s < CS_SOCKETS; s++)
         m.card[s] = false;
@@ -188,13 +228,13 @@ void packet_sockets(void)
 
 /* "Card out takes no grant or mask away", on socket 2; a card on another socket
    makes no difference. */
-void cards_between(void)
+static void irq_and_mask_between(void)
 {
-    lend_ready(1u << 6, 0);
+    lend_both_managed();
     irq_granted(1, 2, 1, 0x26, 0, 6);
     must_be(request_mask(1, 2, 0x0FFF), CS_SUCCESS, 1);
     must_be(ask_card_out(2), CS_SUCCESS, 0);
-    grant_bytes(2, 1, 6, TIME_MULTIPLEXED);
+    irq_grant_bytes(2, 1, 6, TIME_MULTIPLEXED);
     mask_bytes(0, 2, 0x1FFF);
     must_be(ask_sharers(6), CS_SUCCESS, 1);
     must_be(deregister(1), CS_IN_USE, 0);
@@ -212,13 +252,45 @@ void cards_between(void)
     must_be(ask_card_out(3), CS_SUCCESS, 0);
     must_be(release_irq(1, 2, 1, 6), CS_SUCCESS, 1);
     must_be(release_mask(1, 2), CS_SUCCESS, 1);
-    no_grant_bytes(2);
+    no_irq_grant_bytes(2);
     mask_bytes(0, 2, 0);
     must_be(deregister(1), CS_SUCCESS, 1);
     must_be(release_mask(2, 2), CS_SUCCESS, 2);
     must_be(release_irq(2, 3, 1, 6), CS_SUCCESS, 2);
     must_be(deregister(2), CS_SUCCESS, 2);
     must_be(ask_sharers(6), CS_SUCCESS, 0);
+}
+
+/* The same of an I/O grant: its ports stay held, for others and for base 0. */
+static void io_between(void)
+{
+    lend_both_managed();
+    io_granted(1, 2, 0x304, 8, SHARED, 10);
+    must_be(ask_card_out(2), CS_SUCCESS, 0);
+    io_grant_bytes(2, 1, 0x304, 8, 10, true);
+    must_be(deregister(1), CS_IN_USE, 0);
+    io_refused(1, 2, 0x304, 8, SHARED, 10, CS_NO_CARD);
+    io_refused(2, 2, 0x300, 4, ALONE, 16, CS_NO_CARD);
+    io_refused(2, 2, 0, 4, ALONE, 16, CS_NO_CARD);
+    io_refused(2, 3, 0x30B, 1, ALONE, 16, CS_IN_USE);
+    io_refused(2, 3, 0, 8, ALONE, 16, CS_IN_USE);
+    io_chosen(2, 3, 4, ALONE, 16, 0x300);
+    must_be(ask_card_in(2), CS_SUCCESS, 0);
+    io_refused(1, 2, 0x304, 8, SHARED, 10, CS_IN_USE);
+    io_refused(2, 2, 0x30C, 4, ALONE, 16, CS_IN_USE);
+    must_be(ask_card_out(2), CS_SUCCESS, 0);
+    must_be(ask_card_out(3), CS_SUCCESS, 0);
+    io_not_released(2, 2, 0x304, 8);
+    io_released(1, 2, 0x304, 8);
+    must_be(deregister(1), CS_SUCCESS, 1);
+    io_released(2, 3, 0x300, 4);
+    must_be(deregister(2), CS_SUCCESS, 2);
+}
+
+void cards_between(void)
+{
+    irq_and_mask_between();
+    io_between();
 }
 
 /* Each socket's own card is what is looked at. */
@@ -228,12 +300,13 @@ void empty_sockets(void)
         for (uint8_t socket = 0; socket < CS_SOCKETS; socket++) {
             struct model m;
             bool card = (cards >> socket & 1) != 0;
-            ready_set(&m, 1u << 6, 0);
+            both_managed(&m);
             for (unsigned s = 0; s < CS_SOCKETS; s++)
                 m.card[s] = (cards >> s & 1) != 0;
             lend_set(&m);
             done_or(request_irq(3, socket, 0, 0x26, 0), card, 3, CS_NO_CARD);
             done_or(request_mask(3, socket, 0), card, 3, CS_NO_CARD);
+            done_or(request_io(3, socket, 0, 8, ALONE, 16), card, 3, CS_NO_CARD);
         }
 }
 
@@ -256,8 +329,8 @@ static const struct {
     uint8_t socket, function;
 } no_sockets[] = {{0, 1}, {CS_SOCKETS, 0}, {0xFF, 0xFF}};
 
-/* The checks that all four share, on socket 0: the packet is one byte too short,
-   the client was never registered, there is no such socket. */
+/* The checks that all of them share, on socket 0: the packet is one byte too
+   short, the client was never registered, there is no such socket. */
 static void ask_wrongly(const struct kind *kind, unsigned applies, uint8_t socket, uint8_t function,
                         uint32_t code)
 {
@@ -286,7 +359,7 @@ static void request_irq_wrongly(uint16_t bad_attributes, uint8_t bad_info_1, uin
                                      CS_BAD_ATTRIBUTE,  CS_BAD_ARGS,   CS_IN_USE,     CS_BAD_IRQ};
     for (unsigned applies = 0; applies < 1u << 8; applies++) {
         struct model m;
-        struct kind kind = kinds[0];
+        struct kind kind = kinds[REQUEST_IRQ];
         ready_set(&m, (applies & 0x80) != 0 ? 1u << 9 : 1u << 9 | 1u << 6, 0);
         m.card[0] = (applies & 8) == 0;
         if ((applies & 0x10) != 0) {
@@ -325,7 +398,7 @@ static void release_irq_wrongly(uint16_t holder, uint8_t held, uint8_t named, ui
     for (unsigned applies = 0; applies < 1u << 5; applies++)
         for (unsigned card = 0; card < 2; card++) {
             struct model m;
-            struct kind kind = kinds[1];
+            struct kind kind = kinds[RELEASE_IRQ];
             bool irq = (applies & 8) != 0;
             ready_set(&m, 0xFFFF, 0);
             m.card[0] = card == 1;
@@ -361,7 +434,7 @@ static void request_mask_wrongly(uint8_t high_events, uint16_t held)
                                      CS_NO_CARD,        CS_BAD_ATTRIBUTE, CS_IN_USE};
     for (unsigned applies = 0; applies < 1u << 6; applies++) {
         struct model m;
-        struct kind kind = kinds[2];
+        struct kind kind = kinds[REQUEST_MASK];
         ready_set(&m, 0, 0);
         m.card[0] = (applies & 8) == 0;
         if ((applies & 0x10) != 0)
@@ -394,6 +467,100 @@ void release_mask_order(void)
             m.client[1].masks[0] = m.client[0].masks[1] = (struct mask){true, 0};
             if ((applies & 8) == 0)
                 m.client[0].masks[0] = (struct mask){true, 0};
-            order_is(&m, &kinds[3], codes, 4, applies);
+            order_is(&m, &kinds[RELEASE_MASK], codes, 4, applies);
         }
+}
+
+struct wrong_attribute {
+    uint8_t attributes, lines;
+};
+struct wrong_size {
+    uint8_t count, lines, ports_2;
+};
+
+/* 304 to 30B are asked for, or 309 to 310, of which one isn't managed, or any
+   eight. Another socket holds 307 to 30A, which meet them all. */
+static void request_io_wrongly(bool named, struct wrong_attribute attribute, struct wrong_size size)
+{
+    static const uint32_t codes[] = {CS_BAD_ARG_LENGTH, CS_BAD_HANDLE,    CS_BAD_SOCKET,
+                                     CS_NO_CARD,        CS_BAD_ATTRIBUTE, CS_BAD_SIZE,
+                                     CS_IN_USE,         CS_BAD_BASE,      CS_IN_USE};
+    for (unsigned applies = 0; applies < 1u << 9; applies++) {
+        struct model m;
+        struct kind kind = kinds[REQUEST_IO];
+        if (!named && (applies & 0x80) != 0)
+            continue; /* base 0 is never a bad one */
+        both_managed(&m);
+        m.card[0] = (applies & 8) == 0;
+        if ((applies & 0x20) != 0) {
+            kind.packet[4] = size.count;
+            kind.packet[8] = size.ports_2;
+            kind.packet[10] = size.lines;
+        }
+        if ((applies & 0x10) != 0) {
+            kind.packet[5] = attribute.attributes;
+            kind.packet[10] = attribute.lines;
+        }
+        if ((applies & 0x40) != 0)
+            m.io[0] = (struct io_grant){true, (applies & 8) != 0 ? 2 : 1, 0x300, 1, 16, false};
+        if ((applies & 0x80) != 0)
+            kind.packet[2] = 0x09;
+        if (!named)
+            kind.packet[2] = kind.packet[3] = 0;
+        if ((applies & 0x100) != 0)
+            m.io[1] = (struct io_grant){true, 2, 0x307, 4, 16, true};
+        order_is(&m, &kind, codes, 9, applies);
+    }
+}
+
+/* Reserved bits, First Shared without Shared, lines of 0, 17 and 255; no port, nine
+   ports at three lines, a second range. */
+void request_io_order(void)
+{
+    static const struct wrong_attribute attributes[] = {{0x10, 16}, {0x81, 16}, {0x02, 16},
+                                                        {0, 0},     {0, 17},    {0x0E, 255}};
+    static const struct wrong_size sizes[] = {{0, 16, 0}, {9, 3, 0}, {8, 16, 1}};
+    for (size_t a = 0; a < sizeof attributes / sizeof *attributes; a++)
+        for (size_t i = 0; i < sizeof sizes / sizeof *sizes; i++) {
+            request_io_wrongly(true, attributes[a], sizes[i]);
+            request_io_wrongly(false, attributes[a], sizes[i]);
+        }
+}
+
+/* "BAD_BASE unless this client holds that base and count on this socket. Its
+   NumPorts2 must be 0 (BAD_SIZE before that)." What socket 0 has instead, if
+   anything, and what socket 1 has. */
+static void release_io_wrongly(struct io_grant instead, struct io_grant beside, uint8_t ports_2)
+{
+    static const uint32_t codes[] = {CS_BAD_ARG_LENGTH, CS_BAD_HANDLE, CS_BAD_SOCKET, CS_BAD_SIZE,
+                                     CS_BAD_BASE};
+    for (unsigned applies = 0; applies < 1u << 5; applies++)
+        for (unsigned card = 0; card < 2; card++) {
+            struct model m;
+            struct kind kind = kinds[RELEASE_IO];
+            both_managed(&m);
+            m.card[0] = card == 1;
+            m.io[1] = beside;
+            if ((applies & 0x10) != 0)
+                m.io[0] = instead;
+            else
+                hold(&m, &kind, 0, 0);
+            if ((applies & 8) != 0)
+                kind.packet[8] = ports_2;
+            order_is(&m, &kind, codes, 5, applies);
+        }
+}
+
+void release_io_order(void)
+{
+    static const struct io_grant nothing, own = {true, 1, 0x30C, 4, 16, false};
+    static const struct io_grant others[] = {{0},
+                                             {true, 2, 0x304, 8, 16, false},
+                                             {true, 1, 0x303, 8, 16, false},
+                                             {true, 1, 0x304, 7, 16, false},
+                                             {true, 1, 0x300, 4, 16, true}};
+    for (size_t i = 0; i < sizeof others / sizeof *others; i++) {
+        release_io_wrongly(others[i], nothing, 1);
+        release_io_wrongly(others[i], own, 255);
+    }
 }

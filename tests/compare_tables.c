@@ -18,7 +18,7 @@ static uint32_t boot_both(void)
     return CS_BOOT_CODE(answer) | CS_BOOT_PLACE(answer) << 16;
 }
 
-enum { ENTRIES = 16 };
+enum { ENTRIES = 18 };
 
 static uint32_t ask_entry(unsigned which)
 {
@@ -53,6 +53,10 @@ static uint32_t ask_entry(unsigned which)
         return request_mask(1, 0, 0);
     case 14:
         return release_mask(1, 0);
+    case 15:
+        return request_io(1, 0, 0, 1, SHARED, 16);
+    case 16:
+        return release_io(1, 0, 0x100, 8);
     default:
         return boot_both();
     }
@@ -321,19 +325,24 @@ void broken_clauses(void)
 
 /* ---- Pairs of grants ---- */
 
-/* Two I/O grants near each other or near an alias of each other. */
+static struct io_grant some_ports(struct chance *c, uint32_t most)
+{
+    uint8_t count = (uint8_t)(1 + pick(c, most)), lines = (uint8_t)(1 + pick(c, CS_LINES));
+    return ports(0, count, lines);
+}
+
+/* Two I/O grants near each other or near an image of each other. */
 void meeting_grants(void)
 {
     struct chance c = {13};
     for (unsigned i = 0; i < 4000; i++) {
         struct model m = two_sockets();
-        struct io_grant a = ports((uint16_t)(1 + pick(&c, CS_PORTS - 256)),
-                                  (uint8_t)(1 + pick(&c, 255)), (uint8_t)(1 + pick(&c, CS_LINES)));
-        struct io_grant b = ports(0, (uint8_t)(1 + pick(&c, one_in(&c, 2) ? 8 : 255)),
-                                  (uint8_t)(1 + pick(&c, CS_LINES)));
+        struct io_grant a = some_ports(&c, 255), b = some_ports(&c, one_in(&c, 2) ? 8 : 255);
         unsigned smaller = a.lines < b.lines ? a.lines : b.lines;
-        uint32_t alias = a.base + (pick(&c, CS_PORTS) << smaller);
-        b.base = (uint16_t)(alias + (one_in(&c, 2) ? a.count : 0u - b.count) + pick(&c, 5) - 2);
+        a.base = (uint16_t)(1 + pick(&c, CS_PORTS - 256));
+        uint32_t image = a.base + (pick(&c, CS_PORTS) << smaller);
+        uint32_t beside = one_in(&c, 2) ? a.count : 0u - b.count;
+        b.base = (uint16_t)(image + beside + pick(&c, 5) - 2);
         a.shared = one_in(&c, 3);
         b.shared = one_in(&c, 3);
         m.io[0] = a;
@@ -369,19 +378,28 @@ void manners_on_a_level(void)
 
 /* ---- Single bytes ---- */
 
-/* Then the next of the entries. */
-static void damage(const uint8_t *image, size_t at, uint8_t value)
+static void lend_damaged(const uint8_t *image, size_t at, uint8_t value)
 {
     static uint8_t damaged[CS_TABLE_SIZE];
-    static unsigned entry;
-    if (value == image[at])
-        return;
     memcpy(damaged, image, CS_TABLE_SIZE);
     damaged[at] = value;
     lend_bytes(damaged, CS_TABLE_SIZE);
     describe("byte %u changed from %02X to %02X", (unsigned)at, image[at], value);
-    ask_sharers(0);
+}
+
+static void ask_next_entry(void)
+{
+    static unsigned entry;
     ask_entry(entry++ % ENTRIES);
+}
+
+static void damage(const uint8_t *image, size_t at, uint8_t value)
+{
+    if (value == image[at])
+        return;
+    lend_damaged(image, at, value);
+    ask_sharers(0);
+    ask_next_entry();
 }
 
 static void damage_facts(struct chance *c, const uint8_t *image)
@@ -420,4 +438,96 @@ void damaged_bytes(void)
     }
     must_hold("some were still tables", answered(CS_SUCCESS) >= 300);
     must_hold("most were none", answered(CS_GENERAL_FAILURE) >= 15000);
+}
+
+/* ---- Single bytes of tables that calls made ---- */
+
+static const struct boot_list *list_of(unsigned ranges)
+{
+    static struct boot_list list;
+    list.len = 0;
+    put_record(&list, CS_RESOURCE_IRQ, 0, 3, 0);
+    put_record(&list, CS_RESOURCE_IRQ, CS_RESERVE, 9, 0);
+    for (unsigned i = 0; i < ranges; i++)
+        put_record(&list, CS_RESOURCE_IO, i % 2 == 0 ? 0 : CS_RESERVE, 0x300 + 0x20 * i, 0x20);
+    return &list;
+}
+
+/* Some sockets, each with a card; clients come, and the second one leaves. */
+static void make_table(uint32_t sockets, uint16_t clients, unsigned ranges)
+{
+    lend_fresh(sockets);
+    must_boot(boot(list_of(ranges)), CS_SUCCESS, 2 + ranges);
+    for (uint16_t client = 1; client <= clients; client++)
+        must_be(register_one(), CS_SUCCESS, client);
+    must_be(deregister(2), CS_SUCCESS, 2);
+    for (uint32_t s = 0; s < sockets; s++)
+        must_be(ask_card_in(s), CS_SUCCESS, 0);
+}
+
+/* Two sockets: a grant at ten lines and one that shares, levels held alone, masks
+   of both clients; the second card is out again. */
+static void make_small_table(void)
+{
+    make_table(2, 3, 2);
+    io_granted(1, 0, 0x300, 8, ALONE, 10);
+    io_chosen(3, 1, 20, FIRST_SHARED, 16, 0x320);
+    irq_granted(3, 0, 0, 0x30, 0x0208, 3);
+    irq_granted(3, 1, 0, 0x30, 0x0208, 9);
+    must_be(request_mask(1, 1, 0), CS_SUCCESS, 1);
+    must_be(request_mask(3, 0, 0x0FFF), CS_SUCCESS, 3);
+    must_be(ask_card_out(1), CS_SUCCESS, 0);
+}
+
+/* Eight sockets: ports that adjoin, shared in pairs, at 9 to 16 lines; a level that
+   all share; a mask on each. */
+static void make_large_table(void)
+{
+    make_table(8, 6, 5);
+    for (uint8_t s = 0; s < CS_SOCKETS; s++) {
+        uint16_t client = s % 2 == 0 ? 1 : 6;
+        io_granted(client, s, (uint16_t)(0x300 + 16 * (s / 2)), 16, SHARED, (uint8_t)(9 + s));
+        irq_granted(client, s, 2, 0xA3, 0, 3);
+        must_be(request_mask(client, s, (uint16_t)(0x0101 * s)), CS_SUCCESS, client);
+    }
+}
+
+/* Whether this place is in the head, among the levels or in a record that is
+   used. */
+static bool is_used(const struct model *m, size_t at)
+{
+    if (at < AT_IO)
+        return true;
+    if (at < AT_IRQ)
+        return m->io[(at - AT_IO) / IO_SIZE].live;
+    if (at < AT_CLIENTS)
+        return m->irq[(at - AT_IRQ) / IRQ_SIZE].live;
+    if (at < AT_RANGES)
+        return (at - AT_CLIENTS) / CLIENT_SIZE < m->clients;
+    return at < AT_REST && (at - AT_RANGES) / RANGE_SIZE < m->ranges;
+}
+
+/* Every other value in what is used, one in what is not. */
+static void damage_everywhere(void)
+{
+    static uint8_t image[CS_TABLE_SIZE];
+    struct model m = *lent_facts();
+    memcpy(image, lent_table(), sizeof image);
+    for (size_t at = 0; at < CS_TABLE_SIZE; at++) {
+        bool used = is_used(&m, at);
+        for (unsigned change = used ? 1 : 1 + at % 255; change <= 255; change += used ? 1 : 255) {
+            lend_damaged(image, at, (uint8_t)(image[at] ^ change));
+            ask_next_entry();
+        }
+    }
+}
+
+void damaged_tables(void)
+{
+    make_small_table();
+    damage_everywhere();
+    make_large_table();
+    damage_everywhere();
+    must_hold("some were still tables", answered(CS_SUCCESS) >= 1000);
+    must_hold("most were none", answered(CS_GENERAL_FAILURE) >= 50000);
 }

@@ -1,10 +1,11 @@
 /*
  * demo.c: the keeper's main job, call by call
  *
- * A table of two sockets, the levels and ports that it manages, two cards,
- * clients that come and go, a level that two of them share, and what is refused
- * on the way.
+ * A table of two sockets, the levels and ports that it manages, two cards and
+ * clients that come and go; then three lessons: a handle is not a slot, a refusal
+ * tidies nothing, ports whose numbers differ can still be the same port.
  */
+#include <stdbool.h>
 #include <stdio.h>
 #include <string.h>
 
@@ -18,9 +19,33 @@ static void tell_code(const char *call, uint32_t code)
     printf("%s: %s\n", call, code_name(code));
 }
 
-static void tell(const char *call, uint32_t answer)
+static void tell_bytes(const uint8_t *bytes, size_t len)
 {
-    printf("%s: %s, handle %u\n", call, code_name(CS_CODE(answer)), (unsigned)CS_HANDLE(answer));
+    for (size_t i = 0; i < len; i++)
+        printf(" %02X", bytes[i]);
+}
+
+/* Makes a call, and tells its answer and what became of the packet. Of a refusal
+   it is told whether every byte is as before. */
+static void call(uint16_t service, uint16_t handle, uint8_t *packet, size_t len)
+{
+    static uint8_t table_before[CS_TABLE_SIZE], packet_before[CS_REGISTER_CLIENT_LENGTH];
+    memcpy(table_before, table, sizeof table);
+    memcpy(packet_before, packet, len);
+    uint32_t answer = cs_call(table, sizeof table, service, handle, packet, len);
+    bool table_kept = memcmp(table_before, table, sizeof table) == 0;
+    bool packet_kept = memcmp(packet_before, packet, len) == 0;
+    printf(": %s, handle %u\n", code_name(CS_CODE(answer)), (unsigned)CS_HANDLE(answer));
+    if (CS_CODE(answer) != CS_SUCCESS)
+        printf("  table %s, packet %s\n", table_kept ? "kept" : "changed",
+               packet_kept ? "kept" : "changed");
+    if (!packet_kept) {
+        printf("  packet");
+        tell_bytes(packet_before, len);
+        printf("\n  became");
+        tell_bytes(packet, len);
+        printf("\n");
+    }
 }
 
 /* ---- What is managed ---- */
@@ -99,85 +124,68 @@ static void manage(void)
     show_ports();
 }
 
-/* ---- Clients ---- */
+/* ---- The services ---- */
 
-static uint32_t register_client(uint8_t attributes)
+static void register_client(uint8_t attributes)
 {
     uint8_t packet[CS_REGISTER_CLIENT_LENGTH] = {attributes, 0, CS_EVENT_CARD_DETECT_CHANGE, 0};
-    return cs_call(table, sizeof table, CS_REGISTER_CLIENT, 0, packet, sizeof packet);
+    printf("RegisterClient, attributes %02X", attributes);
+    call(CS_REGISTER_CLIENT, 0, packet, sizeof packet);
 }
 
-static uint32_t deregister_client(uint16_t handle)
+static void deregister_client(uint16_t client)
 {
-    return cs_call(table, sizeof table, CS_DEREGISTER_CLIENT, handle, NULL,
-                   CS_DEREGISTER_CLIENT_LENGTH);
-}
-
-/* Handle 1 is given back and stale from then on; 2 and 3 stay. */
-static void come_and_go(void)
-{
-    tell("RegisterClient of two types", register_client(CS_IO_CLIENT | CS_MEMORY_CLIENT));
-    tell("RegisterClient", register_client(CS_IO_CLIENT));
-    tell("DeregisterClient 1", deregister_client(1));
-    tell("DeregisterClient 1 again", deregister_client(1));
-    tell("RegisterClient", register_client(CS_IO_CLIENT));
-    tell("RegisterClient", register_client(CS_MEMORY_CLIENT));
-}
-
-/* ---- What clients hold ---- */
-
-static void tell_bytes(const uint8_t *bytes, size_t len)
-{
-    for (size_t i = 0; i < len; i++)
-        printf(" %02X", bytes[i]);
-}
-
-/* Tells what a call answered and how it left the packet. If it left every byte
-   of table and packet as it was, that is told instead. */
-static void call(const char *name, uint16_t service, uint16_t handle, uint8_t *packet, size_t len)
-{
-    static uint8_t table_before[CS_TABLE_SIZE], packet_before[CS_REQUEST_IRQ_LENGTH];
-    memcpy(table_before, table, sizeof table);
-    memcpy(packet_before, packet, len);
-    tell(name, cs_call(table, sizeof table, service, handle, packet, len));
-    if (memcmp(packet_before, packet, len) != 0) {
-        printf("  packet");
-        tell_bytes(packet_before, len);
-        printf(" became");
-        tell_bytes(packet, len);
-        printf("\n");
-    } else if (memcmp(table_before, table, sizeof table) == 0) {
-        printf("  table and packet keep every byte\n");
-    }
+    uint8_t empty[1] = {0};
+    printf("DeregisterClient %u", client);
+    call(CS_DEREGISTER_CLIENT, client, empty, CS_DEREGISTER_CLIENT_LENGTH);
 }
 
 /* For a card that does level interrupts and can share; of levels 0 to 7 those
    whose bits are set will do. */
-static void request_irq(const char *name, uint16_t client, uint8_t socket, uint8_t type,
-                        uint8_t levels)
+static void request_irq(uint16_t client, uint8_t socket, uint8_t type, uint8_t levels)
 {
     uint8_t packet[CS_REQUEST_IRQ_LENGTH] = {socket, 0, type};
     packet[5] = CS_IRQ_INFO_SHARE | CS_IRQ_INFO_LEVEL | CS_IRQ_INFO_MASK;
     packet[6] = levels;
-    call(name, CS_REQUEST_IRQ, client, packet, sizeof packet);
+    printf("RequestIRQ, client %u, socket %u, type %u, levels %02X", client, socket, type, levels);
+    call(CS_REQUEST_IRQ, client, packet, sizeof packet);
 }
 
-static void release_irq(const char *name, uint16_t client, uint8_t socket, uint8_t level)
+static void release_irq(uint16_t client, uint8_t socket, uint8_t level)
 {
     uint8_t packet[CS_RELEASE_IRQ_LENGTH] = {socket, 0, CS_IRQ_DYNAMIC, 0, level};
-    call(name, CS_RELEASE_IRQ, client, packet, sizeof packet);
+    printf("ReleaseIRQ, client %u, socket %u, level %u", client, socket, level);
+    call(CS_RELEASE_IRQ, client, packet, sizeof packet);
 }
 
-static void request_mask(const char *name, uint16_t client, uint8_t socket)
+/* Eight ports, which are not shared; base 0 asks for any. */
+static void request_io(uint16_t client, uint8_t socket, uint16_t base, uint8_t lines)
+{
+    uint8_t packet[CS_REQUEST_IO_LENGTH] = {socket, 0, (uint8_t)base, (uint8_t)(base >> 8), 8};
+    packet[10] = lines;
+    printf("RequestIO, client %u, socket %u, base %X, %u lines", client, socket, base, lines);
+    call(CS_REQUEST_IO, client, packet, sizeof packet);
+}
+
+static void release_io(uint16_t client, uint8_t socket, uint16_t base)
+{
+    uint8_t packet[CS_RELEASE_IO_LENGTH] = {socket, 0, (uint8_t)base, (uint8_t)(base >> 8), 8};
+    printf("ReleaseIO, client %u, socket %u, base %X", client, socket, base);
+    call(CS_RELEASE_IO, client, packet, sizeof packet);
+}
+
+static void request_mask(uint16_t client, uint8_t socket)
 {
     uint8_t packet[CS_REQUEST_SOCKET_MASK_LENGTH] = {socket, 0, CS_EVENT_CARD_DETECT_CHANGE, 0};
-    call(name, CS_REQUEST_SOCKET_MASK, client, packet, sizeof packet);
+    printf("RequestSocketMask, client %u, socket %u", client, socket);
+    call(CS_REQUEST_SOCKET_MASK, client, packet, sizeof packet);
 }
 
-static void release_mask(const char *name, uint16_t client, uint8_t socket)
+static void release_mask(uint16_t client, uint8_t socket)
 {
     uint8_t packet[CS_RELEASE_SOCKET_MASK_LENGTH] = {socket, 0};
-    call(name, CS_RELEASE_SOCKET_MASK, client, packet, sizeof packet);
+    printf("ReleaseSocketMask, client %u, socket %u", client, socket);
+    call(CS_RELEASE_SOCKET_MASK, client, packet, sizeof packet);
 }
 
 static void sharers(uint32_t level)
@@ -187,30 +195,67 @@ static void sharers(uint32_t level)
            (unsigned)CS_COUNT(answer));
 }
 
-/* Level 5 is reserved, so both clients get level 3, and share it. */
-static void hold(void)
+/* ---- The lessons ---- */
+
+enum { LEVEL_3 = 1 << 3, LEVEL_5 = 1 << 5 };
+
+/* Handle 1 is given back and stale from then on; 2 and 3 stay. */
+static void a_handle_is_not_a_slot(void)
 {
-    enum { LEVEL_3 = 1 << 3, LEVEL_5 = 1 << 5 };
-    request_irq("RequestIRQ, client 1, socket 0", 1, 0, CS_IRQ_DYNAMIC, LEVEL_3 | LEVEL_5);
-    request_irq("RequestIRQ, client 2, socket 0", 2, 0, CS_IRQ_DYNAMIC, LEVEL_3 | LEVEL_5);
-    request_irq("RequestIRQ of level 3 alone, exclusive", 3, 1, CS_IRQ_EXCLUSIVE, LEVEL_3);
-    request_irq("RequestIRQ, client 3, socket 1", 3, 1, CS_IRQ_DYNAMIC, LEVEL_3 | LEVEL_5);
-    sharers(3);
-    show_levels();
-    request_mask("RequestSocketMask, client 3, socket 1", 3, 1);
+    puts("\nA handle is not a slot: a number given back is never given again.");
+    register_client(CS_IO_CLIENT);
+    deregister_client(1);
+    register_client(CS_IO_CLIENT);
+    register_client(CS_MEMORY_CLIENT);
+    deregister_client(1);
+    request_irq(1, 0, CS_IRQ_DYNAMIC, LEVEL_3 | LEVEL_5);
 }
 
-/* A card that goes takes nothing away: the client gives back what it has. */
-static void give_back(void)
+/* Level 5 is reserved, so both clients get level 3, and share it. Refused on the
+   way: a client of two types, a shared level for one alone, an interrupt of no
+   type, and that a client leaves while it holds something. */
+static void a_refusal_tidies_nothing(void)
 {
+    puts("\nA refusal tidies nothing: table and packet keep every byte.");
+    register_client(CS_IO_CLIENT | CS_MEMORY_CLIENT);
+    request_irq(2, 0, CS_IRQ_DYNAMIC, LEVEL_3 | LEVEL_5);
+    request_irq(3, 1, CS_IRQ_EXCLUSIVE, LEVEL_3);
+    request_irq(3, 1, 3, LEVEL_3);
+    request_irq(3, 1, CS_IRQ_DYNAMIC, LEVEL_3 | LEVEL_5);
+    sharers(3);
+    show_levels();
+    request_mask(3, 1);
+    deregister_client(3);
+}
+
+/* A card that decodes ten lines cannot tell 2F8 and 6F8 apart. */
+static void the_same_port(void)
+{
+    puts("\nPorts whose numbers differ can still be the same port: 2F8 and 6F8.");
+    tell_code("Add ports 6F8 to 6FF", adjust_ports(CS_ACTION_ADD, 0x6F8, 8));
+    request_io(2, 0, 0x2F8, 10);
+    request_io(3, 1, 0x6F8, 16);
+    request_io(3, 1, 0, 16);
+    release_io(3, 1, 0x310);
+    release_io(2, 0, 0x2F8);
+    request_io(2, 0, 0x2F8, 16);
+    request_io(3, 1, 0x6F8, 16);
+    show_ports();
+}
+
+/* The client gives back what it has, and can leave. */
+static void a_card_goes(void)
+{
+    puts("\nA card that goes takes nothing away.");
     tell_code("Card out, socket 1", cs_card_out(table, sizeof table, 1));
     sharers(3);
-    tell("DeregisterClient 3", deregister_client(3));
-    release_irq("ReleaseIRQ, client 2, socket 1", 2, 1, 3);
-    release_irq("ReleaseIRQ, client 3, socket 1", 3, 1, 3);
-    release_mask("ReleaseSocketMask, client 3, socket 1", 3, 1);
+    deregister_client(3);
+    release_irq(2, 1, 3);
+    release_irq(3, 1, 3);
+    release_io(3, 1, 0x6F8);
+    release_mask(3, 1);
     sharers(3);
-    tell("DeregisterClient 3", deregister_client(3));
+    deregister_client(3);
 }
 
 int main(void)
@@ -220,8 +265,9 @@ int main(void)
     tell_code("Card in, socket 0", cs_card_in(table, sizeof table, 0));
     tell_code("Card in, socket 1", cs_card_in(table, sizeof table, 1));
     tell_code("Card in, socket 2", cs_card_in(table, sizeof table, 2));
-    come_and_go();
-    hold();
-    give_back();
+    a_handle_is_not_a_slot();
+    a_refusal_tidies_nothing();
+    the_same_port();
+    a_card_goes();
     return 0;
 }

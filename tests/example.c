@@ -11,6 +11,7 @@ int main(void)
 {
     uint8_t packet[CS_REGISTER_CLIENT_LENGTH] = {0};
     uint8_t irq[CS_REQUEST_IRQ_LENGTH] = {0};
+    uint8_t io[CS_REQUEST_IO_LENGTH] = {0};
     uint16_t events = CS_EVENT_CARD_DETECT_CHANGE | CS_EVENT_RESET;
     uint64_t booted;
     uint32_t answer;
@@ -41,6 +42,17 @@ int main(void)
         return 1;
     answer = cs_call(table, sizeof table, CS_RELEASE_IRQ, client,
                      irq, CS_RELEASE_IRQ_LENGTH);
+    if (CS_CODE(answer) != CS_SUCCESS)
+        return 1;
+
+    io[4] = 8;
+    io[10] = 10;
+    answer = cs_call(table, sizeof table, CS_REQUEST_IO, client,
+                     io, sizeof io);
+    if (CS_CODE(answer) != CS_SUCCESS || io[2] != 0x00 || io[3] != 0x03)
+        return 1;
+    answer = cs_call(table, sizeof table, CS_RELEASE_IO, client,
+                     io, CS_RELEASE_IO_LENGTH);
     if (CS_CODE(answer) != CS_SUCCESS)
         return 1;
 

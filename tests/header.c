@@ -31,6 +31,7 @@ uint32_t every_name(uint8_t *table, uint8_t *packet)
     uint32_t irq = CS_IRQ_FORCE_PULSE + CS_IRQ_FIRST_SHARED + CS_IRQ_PULSE_ALLOCATED +
                    CS_IRQ_INFO_LEVEL_NUMBER + CS_IRQ_INFO_MASK + CS_IRQ_INFO_LEVEL +
                    CS_IRQ_INFO_PULSE + CS_IRQ_INFO_SHARE;
+    uint32_t io = CS_IO_FIRST_SHARED + CS_IO_FORCE_ALIAS + CS_IO_16_BIT + CS_STACK;
     uint64_t booted = cs_boot(table, CS_TABLE_SIZE, packet, CS_BOOT_MOST * CS_BOOT_RECORD);
     uint32_t answer = cs_fresh(table, CS_TABLE_SIZE, CS_SOCKETS);
     answer += cs_card_in(table, CS_TABLE_SIZE, CS_SOCKETS - 1);
@@ -44,10 +45,12 @@ uint32_t every_name(uint8_t *table, uint8_t *packet)
         cs_call(table, CS_TABLE_SIZE, CS_ADJUST_RESOURCE_INFO, 0, packet, CS_ADJUST_IRQ_LENGTH);
     answer += cs_call(table, CS_TABLE_SIZE, CS_REQUEST_IRQ, 1, packet, CS_REQUEST_IRQ_LENGTH);
     answer += cs_call(table, CS_TABLE_SIZE, CS_RELEASE_IRQ, 1, packet, CS_RELEASE_IRQ_LENGTH);
+    answer += cs_call(table, CS_TABLE_SIZE, CS_REQUEST_IO, 1, packet, CS_REQUEST_IO_LENGTH);
+    answer += cs_call(table, CS_TABLE_SIZE, CS_RELEASE_IO, 1, packet, CS_RELEASE_IO_LENGTH);
     answer += cs_call(table, CS_TABLE_SIZE, CS_REQUEST_SOCKET_MASK, 1, packet,
                       CS_REQUEST_SOCKET_MASK_LENGTH);
     answer += cs_call(table, CS_TABLE_SIZE, CS_RELEASE_SOCKET_MASK, 1, packet,
                       CS_RELEASE_SOCKET_MASK_LENGTH);
     answer += CS_BOOT_CODE(booted) + CS_BOOT_PLACE(booted);
-    return codes + attributes + events + resources + irq + answer;
+    return codes + attributes + events + resources + irq + io + answer;
 }

@@ -159,16 +159,26 @@ static bool in_the_way(const struct model *m, const struct io_grant *wish, bool 
     return false;
 }
 
+/* One past the highest managed port: no candidate reaches beyond. */
+static uint32_t end_of_managed(const struct model *m)
+{
+    uint32_t end = 0;
+    for (unsigned i = 0; i < m->ranges; i++)
+        if (m->range[i].base + m->range[i].count > end)
+            end = m->range[i].base + m->range[i].count;
+    return end;
+}
+
 /* "Base 0: candidates are the positive multiples of the smallest power of two
    not below the count, all ports managed, none past FFFF, meeting no live grant.
    Candidates wholly in unreserved ranges come first, then the lowest; none:
    IN_USE." The answer is then 0. */
 static uint32_t choose_base(const struct model *m, struct io_grant *wish)
 {
-    uint32_t step = 1, lowest_reserved = 0;
+    uint32_t step = 1, lowest_reserved = 0, end = end_of_managed(m);
     while (step < wish->count)
         step *= 2;
-    for (uint32_t base = step; base + wish->count <= CS_PORTS; base += step) {
+    for (uint32_t base = step; base + wish->count <= end; base += step) {
         if (!ports_managed(m, base, wish->count, false))
             continue;
         wish->base = (uint16_t)base;
@@ -185,7 +195,7 @@ static uint32_t choose_base(const struct model *m, struct io_grant *wish)
 /* RequestIO's packet: socket 2, base 2, ports, attributes, base 2 (2), ports 2,
    attributes 2, lines. */
 enum { IO_BASE = 2, IO_PORTS = 4, IO_ATTRIBUTES = 5, IO_PORTS_2 = 8, IO_LINES = 10 };
-enum { IO_FIRST_SHARED = 2, IO_LISTED = 0x0F };
+enum { IO_LISTED = CS_IO_SHARED | CS_IO_FIRST_SHARED | CS_IO_FORCE_ALIAS | CS_IO_16_BIT };
 
 /* "attribute bits outside section 5.52's list, First Shared without Shared, or
    lines outside 1 to 16, BAD_ATTRIBUTE" */
@@ -193,7 +203,7 @@ static bool io_attributes_allowed(uint8_t attributes, uint8_t lines)
 {
     if ((attributes & ~IO_LISTED) != 0)
         return false;
-    if ((attributes & IO_FIRST_SHARED) != 0 && (attributes & CS_IO_SHARED) == 0)
+    if ((attributes & CS_IO_FIRST_SHARED) != 0 && (attributes & CS_IO_SHARED) == 0)
         return false;
     return lines_allowed(lines);
 }
@@ -230,7 +240,7 @@ static uint32_t request_io(struct model *m, struct call *call)
         return CS_BAD_SIZE;
     if (m->io[packet[0]].live)
         return CS_IN_USE;
-    uint32_t code = place_io(m, &wish, (attributes & IO_FIRST_SHARED) != 0);
+    uint32_t code = place_io(m, &wish, (attributes & CS_IO_FIRST_SHARED) != 0);
     if (code != CS_SUCCESS)
         return code;
     m->io[packet[0]] = wish;

@@ -2,8 +2,8 @@
  * model.h: document 01 once more, in plain C
  *
  * Written from document 01 and the volume alone, for comparison with the
- * proved library: a set of facts and the rules over it. It has all nine
- * services and the five host calls, also those that the archive lacks.
+ * proved library: a set of facts and the rules over it, for all nine services
+ * and the five host calls.
  */
 #ifndef MODEL_H
 #define MODEL_H
@@ -13,12 +13,6 @@
 #include <stdint.h>
 
 #include "card_services.h"
-
-/* The services of document 01 that card_services.h does not have yet. */
-#define CS_REQUEST_IO 0x1F
-#define CS_REQUEST_IO_LENGTH 11
-#define CS_RELEASE_IO 0x1B
-#define CS_RELEASE_IO_LENGTH 11
 
 /* Actions are below this, and resource types; two of those are built. */
 enum { ACTIONS = 4, RESOURCES = 5 };

@@ -6,12 +6,13 @@
 #include <string.h>
 
 #include "layout.h"
+#include "model_cases.h"
 #include "names.h"
 #include "sets.h"
 
 static unsigned long checks, failed;
 
-static void expect(const char *what, bool holds)
+void expect(const char *what, bool holds)
 {
     checks++;
     if (!holds) {
@@ -20,7 +21,7 @@ static void expect(const char *what, bool holds)
     }
 }
 
-static void expect_code(const char *what, uint32_t answer, uint32_t code)
+void expect_code(const char *what, uint32_t answer, uint32_t code)
 {
     checks++;
     if (CS_CODE(answer) != code) {
@@ -162,8 +163,7 @@ static uint32_t remove_irq(struct model *m, uint8_t level)
 }
 
 /* Add or Remove of an I/O range, in the short and in the long form. */
-static uint32_t short_io(struct model *m, uint8_t action, uint16_t base, uint8_t ports,
-                         uint8_t attributes)
+uint32_t short_io(struct model *m, uint8_t action, uint16_t base, uint8_t ports, uint8_t attributes)
 {
     return adjust(m,
                   (uint8_t[]){action, CS_RESOURCE_IO, (uint8_t)base, (uint8_t)(base >> 8), ports,
@@ -171,7 +171,7 @@ static uint32_t short_io(struct model *m, uint8_t action, uint16_t base, uint8_t
                   CS_ADJUST_IO_SHORT_LENGTH);
 }
 
-static uint32_t long_io(struct model *m, uint8_t action, uint32_t base, uint32_t ports)
+uint32_t long_io(struct model *m, uint8_t action, uint32_t base, uint32_t ports)
 {
     uint8_t packet[CS_ADJUST_IO_LONG_LENGTH] = {action, CS_RESOURCE_IO};
     for (unsigned i = 0; i < 4; i++) {
@@ -182,7 +182,7 @@ static uint32_t long_io(struct model *m, uint8_t action, uint32_t base, uint32_t
     return adjust(m, packet, sizeof packet);
 }
 
-static uint32_t add_io(struct model *m, uint16_t base, uint8_t ports)
+uint32_t add_io(struct model *m, uint16_t base, uint8_t ports)
 {
     return short_io(m, CS_ACTION_ADD, base, ports, 0);
 }
@@ -193,7 +193,7 @@ static uint32_t register_io_client(struct model *m)
     return model_call(m, CS_REGISTER_CLIENT, 0, packet, sizeof packet);
 }
 
-static uint32_t deregister(struct model *m, uint16_t handle)
+uint32_t deregister(struct model *m, uint16_t handle)
 {
     return model_call(m, CS_DEREGISTER_CLIENT, handle, NULL, 0);
 }
@@ -222,35 +222,8 @@ static uint32_t release_irq(struct model *m, uint8_t socket, uint16_t handle, ui
     return model_call(m, CS_RELEASE_IRQ, handle, (uint8_t[]){socket, 0, type, 0xFF, level}, 5);
 }
 
-/* BasePort1 is told. */
-static uint32_t request_io(struct model *m, uint8_t socket, uint16_t base, uint8_t ports,
-                           uint8_t attributes, uint8_t lines, uint16_t *given)
-{
-    uint8_t packet[11] = {socket, 0,          (uint8_t)base, (uint8_t)(base >> 8),
-                          ports,  attributes, 0xAA,          0xAA,
-                          0,      0xFF,       lines};
-    uint32_t answer = model_call(m, CS_REQUEST_IO, 1, packet, sizeof packet);
-    *given = (uint16_t)(packet[2] | packet[3] << 8);
-    return answer;
-}
-
-static uint32_t request_io_code(struct model *m, uint8_t socket, uint16_t base, uint8_t ports,
-                                uint8_t attributes, uint8_t lines)
-{
-    uint16_t given;
-    return request_io(m, socket, base, ports, attributes, lines, &given);
-}
-
-static uint32_t release_io(struct model *m, uint8_t socket, uint16_t handle, uint16_t base,
-                           uint8_t ports, uint8_t ports_2)
-{
-    uint8_t packet[11] = {
-        socket, 0, (uint8_t)base, (uint8_t)(base >> 8), ports, 0xFF, 0xAA, 0xAA, ports_2, 0xFF, 0};
-    return model_call(m, CS_RELEASE_IO, handle, packet, sizeof packet);
-}
-
 /* Eight sockets with cards and clients 1 and 2. */
-static void ready(struct model *m)
+void ready(struct model *m)
 {
     model_fresh(m, CS_SOCKETS);
     for (uint32_t s = 0; s < CS_SOCKETS; s++)
@@ -283,30 +256,7 @@ static void host_numbers(void)
         expect("the cards stay", m.card[s]);
 }
 
-/* ---- N1 to N12 ---- */
-
-static struct io_grant ports(uint16_t base, uint8_t count, uint8_t lines)
-{
-    return (struct io_grant){true, 1, base, count, lines, false};
-}
-
-static bool two_meet(struct io_grant a, struct io_grant b)
-{
-    return meet(&a, &b) && meet(&b, &a);
-}
-
-static bool neither_meets(struct io_grant a, struct io_grant b)
-{
-    return !meet(&a, &b) && !meet(&b, &a);
-}
-
-static void n1_to_n4(void)
-{
-    expect("N1", two_meet(ports(0x2F8, 8, 10), ports(0x6F8, 8, 16)));
-    expect("N2", neither_meets(ports(0x2F8, 8, 16), ports(0x6F8, 8, 16)));
-    expect("N3", neither_meets(ports(0x3E8, 8, 16), ports(0x3F0, 8, 16)));
-    expect("N4", two_meet(ports(0x100, 1, 8), ports(0x200, 1, 16)));
-}
+/* ---- N5 to N7 and N10 to N12; model_io_cases.c has the others ---- */
 
 static void n5(void)
 {
@@ -337,21 +287,6 @@ static void n7(void)
     expect_code("N7 time-multiplexed", request_irq_code(&m, 1, 1, 0xA3, 0), CS_BAD_IRQ);
     expect_code("N7 dynamic level again", request_irq_code(&m, 1, 2, 0xA3, 0), CS_SUCCESS);
     expect("N7 two sharers", model_sharers(&m, 3) == 2u << 16);
-}
-
-static void n8_n9(void)
-{
-    struct model m;
-    uint16_t given;
-    ready(&m);
-    add_io(&m, 0x300, 16);
-    expect_code("N8 held", request_io(&m, 0, 0x300, 8, 0, 16, &given), CS_SUCCESS);
-    expect_code("N8", request_io(&m, 1, 0, 8, 0, 16, &given), CS_SUCCESS);
-    expect("N8 gives 308", given == 0x308);
-    ready(&m);
-    add_io(&m, 0x302, 11);
-    expect_code("N9", request_io(&m, 0, 0, 5, 0, 16, &given), CS_SUCCESS);
-    expect("N9 gives 308", given == 0x308);
 }
 
 static void n10(void)
@@ -386,32 +321,6 @@ static void n12(void)
 }
 
 /* ---- Rules beside the numbered cases ---- */
-
-/* The rule by its letter: every port of one against every port of the other. */
-static bool meet_by_letter(const struct io_grant *a, const struct io_grant *b)
-{
-    unsigned smaller = a->lines < b->lines ? a->lines : b->lines;
-    for (unsigned i = 0; i < a->count; i++)
-        for (unsigned j = 0; j < b->count; j++)
-            if ((a->base + i) % (1u << smaller) == (b->base + j) % (1u << smaller))
-                return true;
-    return false;
-}
-
-static void meeting(void)
-{
-    struct chance c = {1};
-    unsigned met = 0, tried = 3000;
-    for (unsigned i = 0; i < tried; i++) {
-        struct io_grant a = ports((uint16_t)pick(&c, CS_PORTS), (uint8_t)(1 + pick(&c, 20)),
-                                  (uint8_t)(1 + pick(&c, CS_LINES)));
-        struct io_grant b = ports((uint16_t)(a.base + (1u << a.lines) + pick(&c, 64) - 32),
-                                  (uint8_t)(1 + pick(&c, 20)), (uint8_t)(1 + pick(&c, CS_LINES)));
-        expect("meeting by its letter", meet(&a, &b) == meet_by_letter(&a, &b));
-        met += meet_by_letter(&a, &b);
-    }
-    expect("some met, some didn't", met >= tried / 10 && met <= tried - tried / 10);
-}
 
 static void manners(void)
 {
@@ -516,102 +425,6 @@ static void irq_release(void)
     expect_code("released without a card", release_irq(&m, 0, 1, 2, 3), CS_SUCCESS);
     expect_code("remove it then", remove_irq(&m, 3), CS_SUCCESS);
     expect_code("remove it again", remove_irq(&m, 3), CS_BAD_IRQ);
-}
-
-static void request_io_codes(void)
-{
-    static const struct {
-        const char *what;
-        uint16_t base;
-        uint8_t ports, attributes, lines;
-        uint32_t code;
-    } cases[] = {
-        {"bit 4", 0x300, 8, 0x10, 16, CS_BAD_ATTRIBUTE},
-        {"bits 2 and 3", 0x300, 8, 0x0C, 16, CS_SUCCESS},
-        {"First Shared without Shared", 0x300, 8, 2, 16, CS_BAD_ATTRIBUTE},
-        {"First Shared with Shared", 0x300, 8, 3, 16, CS_SUCCESS},
-        {"lines 0", 0x300, 1, 0, 0, CS_BAD_ATTRIBUTE},
-        {"lines 1", 0x300, 2, 0, 1, CS_SUCCESS},
-        {"lines 17", 0x300, 1, 0, 17, CS_BAD_ATTRIBUTE},
-        {"no port", 0x300, 0, 0, 16, CS_BAD_SIZE},
-        {"two to the lines", 0x300, 8, 0, 3, CS_SUCCESS},
-        {"over two to the lines", 0x300, 9, 0, 3, CS_BAD_SIZE},
-        {"unmanaged at the end", 0x309, 8, 0, 16, CS_BAD_BASE},
-        {"unmanaged at the start", 0x2FF, 8, 0, 16, CS_BAD_BASE},
-        {"the last of the range", 0x308, 8, 0, 16, CS_SUCCESS},
-        {"up to FFFF", 0xFFF8, 8, 0, 16, CS_SUCCESS},
-        {"past FFFF", 0xFFF9, 8, 0, 16, CS_BAD_BASE},
-        {"over two ranges", 0x300, 24, 0, 16, CS_SUCCESS},
-        {"base 0, no candidate", 0, 33, 0, 16, CS_IN_USE},
-    };
-    for (size_t i = 0; i < sizeof cases / sizeof *cases; i++) {
-        struct model m;
-        ready(&m);
-        add_io(&m, 0x300, 16);
-        add_io(&m, 0xFFF8, 8);
-        if (cases[i].ports == 24)
-            add_io(&m, 0x310, 8);
-        expect_code(cases[i].what,
-                    request_io_code(&m, 0, cases[i].base, cases[i].ports, cases[i].attributes,
-                                    cases[i].lines),
-                    cases[i].code);
-    }
-}
-
-static void io_sharing(void)
-{
-    struct model m;
-    uint16_t given;
-    ready(&m);
-    add_io(&m, 0x2F8, 16);
-    add_io(&m, 0x6F8, 8);
-    request_io(&m, 0, 0x6F8, 8, 1, 10, &given);
-    expect_code("an alias, not shared", request_io_code(&m, 1, 0x2F8, 8, 0, 16), CS_IN_USE);
-    expect_code("an alias, First Shared", request_io_code(&m, 1, 0x2F8, 8, 3, 16), CS_IN_USE);
-    expect_code("an alias, shared", request_io_code(&m, 1, 0x2F8, 8, 1, 16), CS_SUCCESS);
-    expect_code("a second on the socket", request_io_code(&m, 1, 0x300, 8, 1, 16), CS_IN_USE);
-    request_io(&m, 2, 0, 8, 1, 16, &given);
-    expect("base 0 meets no live grant, also if shared", given == 0x300);
-}
-
-static void io_choice(void)
-{
-    struct model m;
-    uint16_t given;
-    ready(&m);
-    short_io(&m, CS_ACTION_ADD, 0x200, 16, CS_RESERVE);
-    short_io(&m, CS_ACTION_ADD, 0x300, 4, 0);
-    short_io(&m, CS_ACTION_ADD, 0x304, 4, CS_RESERVE);
-    request_io(&m, 0, 0, 8, 0, 16, &given);
-    expect("half reserved is not wholly unreserved", given == 0x200);
-    request_io(&m, 1, 0, 4, 0, 16, &given);
-    expect("unreserved first", given == 0x300);
-    request_io(&m, 2, 0, 4, 0, 16, &given);
-    expect("then the lowest reserved", given == 0x208);
-    ready(&m);
-    long_io(&m, CS_ACTION_ADD, 0, CS_PORTS);
-    request_io(&m, 0, 0, 255, 0, 16, &given);
-    expect("a positive multiple", given == 256);
-}
-
-static void io_release(void)
-{
-    struct model m;
-    ready(&m);
-    add_io(&m, 0x300, 16);
-    request_io_code(&m, 0, 0x300, 8, 0, 16);
-    model_card_out(&m, 0);
-    expect_code("another client", release_io(&m, 0, 2, 0x300, 8, 0), CS_BAD_BASE);
-    expect_code("another base", release_io(&m, 0, 1, 0x308, 8, 0), CS_BAD_BASE);
-    expect_code("another count", release_io(&m, 0, 1, 0x300, 7, 0), CS_BAD_BASE);
-    expect_code("another socket", release_io(&m, 1, 1, 0x300, 8, 0), CS_BAD_BASE);
-    expect_code("NumPorts2 before that", release_io(&m, 1, 1, 0x300, 8, 1), CS_BAD_SIZE);
-    expect_code("remove a held range", short_io(&m, CS_ACTION_REMOVE, 0x300, 16, 0), CS_IN_USE);
-    expect_code("remove a part", short_io(&m, CS_ACTION_REMOVE, 0x308, 8, 0), CS_BAD_BASE);
-    expect_code("deregister a holder", deregister(&m, 1), CS_IN_USE);
-    expect_code("released without a card", release_io(&m, 0, 1, 0x300, 8, 0), CS_SUCCESS);
-    expect_code("released again", release_io(&m, 0, 1, 0x300, 8, 0), CS_BAD_BASE);
-    expect_code("remove it then", short_io(&m, CS_ACTION_REMOVE, 0x300, 16, 0), CS_SUCCESS);
 }
 
 /* On N6's table, with 300, 16 managed too. */
@@ -772,19 +585,6 @@ static void given_handles(void)
         expect("Remove's handle",
                model_call(&m, CS_ADJUST_RESOURCE_INFO, given[i], take, 4) == answer);
     }
-}
-
-/* NumPorts2, and a socket's function. */
-static void fields_that_must_be_zero(void)
-{
-    struct model m;
-    uint8_t two_ranges[11] = {0, 0, 0, 3, 8, 0, 0, 0, 1, 0, 16};
-    uint8_t function[11] = {0, 1, 0, 3, 8, 0, 0, 0, 0, 0, 16};
-    ready(&m);
-    add_io(&m, 0x300, 16);
-    expect_code("NumPorts2 not 0", model_call(&m, CS_REQUEST_IO, 1, two_ranges, 11), CS_BAD_SIZE);
-    expect_code("function not 0", model_call(&m, CS_REQUEST_IO, 1, function, 11), CS_BAD_SOCKET);
-    expect_code("nor at a release", model_call(&m, CS_RELEASE_IO, 1, function, 11), CS_BAD_SOCKET);
 }
 
 static void masks(void)
@@ -949,36 +749,29 @@ int main(void)
     resource_numbers();
     irq_and_mask_numbers();
     host_numbers();
-    n1_to_n4();
     n5();
     n6();
     n7();
-    n8_n9();
     n10();
     n11();
     n12();
-    meeting();
     manners();
     request_irq_codes();
     irq_order();
     irq_choice();
     irq_release();
-    request_io_codes();
-    io_sharing();
-    io_choice();
-    io_release();
     adjust_codes();
     shown();
     shown_holders();
     ports_that_hold();
     given_handles();
-    fields_that_must_be_zero();
     masks();
     mask_of_no_event();
     boot_list();
     boot_codes();
     boot_places();
     range_limit();
+    io_cases();
     runs();
     printf("model_cases: %lu checks, %lu differ\n", checks, failed);
     return failed == 0 ? 0 : 1;

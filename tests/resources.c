@@ -75,13 +75,15 @@ static uint8_t some_byte(void)
 static uint32_t show_range(enum form form, uint8_t action, uint32_t from)
 {
     uint32_t base = action == CS_ACTION_FIRST ? some_byte() * 0x01010101u : from;
-    uint32_t ports = (uint32_t)some_byte() << 24 | (uint32_t)some_byte() << 8 | some_byte();
-    return adjust_io(form, action, base, ports, some_byte(), some_byte());
+    uint32_t ports = some_byte() * 0x01000101u;
+    uint8_t attributes = some_byte(), lines = some_byte();
+    return adjust_io(form, action, base, ports, attributes, lines);
 }
 
 static uint32_t show_level(uint8_t action, uint8_t from)
 {
-    return adjust_irq(action, some_byte(), action == CS_ACTION_FIRST ? some_byte() : from);
+    uint8_t attributes = some_byte();
+    return adjust_irq(action, attributes, action == CS_ACTION_FIRST ? some_byte() : from);
 }
 
 void range_shown(enum form form, uint8_t action, uint32_t from, struct shown by_hand)

@@ -2,7 +2,10 @@
 
 #include <string.h>
 
-/* ---- Chance ---- */
+/* ---- Chance ----
+
+   C leaves open which of two draws in one expression or list comes first, so each
+   stands in a declaration or statement of its own: the same sets everywhere. */
 
 /* splitmix64 */
 static uint64_t next(struct chance *c)
@@ -57,7 +60,8 @@ void full_set(struct model *m, unsigned clients)
 
 static uint16_t allowed_attributes(struct chance *c)
 {
-    return (uint16_t)(1u << pick(c, 3) | pick(c, 4) << 3);
+    uint32_t type = pick(c, 3), insertion = pick(c, 4);
+    return (uint16_t)(1u << type | insertion << 3);
 }
 
 static void random_client(struct chance *c, struct model *m)
@@ -96,7 +100,8 @@ static uint8_t some_lines(struct chance *c)
 
 static void random_range(struct chance *c, struct model *m)
 {
-    m->range[m->ranges++] = (struct range){some_port(c), some_count(c), one_in(c, 3)};
+    uint32_t base = some_port(c), count = some_count(c);
+    m->range[m->ranges++] = (struct range){base, count, one_in(c, 3)};
     if (!well_formed(m))
         m->ranges--;
 }
@@ -111,12 +116,14 @@ static void random_io_grant(struct chance *c, struct model *m, unsigned socket)
 {
     const struct range *r = &m->range[pick(c, m->ranges)];
     uint32_t from = pick(c, r->count), left = r->count - from, count = some_count(c);
+    uint16_t client = some_client(c, m);
+    uint8_t lines = some_lines(c);
     m->io[socket] = (struct io_grant){
         .live = true,
-        .client = some_client(c, m),
+        .client = client,
         .base = (uint16_t)(r->base + from),
         .count = (uint8_t)(count < left ? count : left),
-        .lines = some_lines(c),
+        .lines = lines,
         .shared = one_in(c, 2),
     };
     if (!well_formed(m))
@@ -125,12 +132,9 @@ static void random_io_grant(struct chance *c, struct model *m, unsigned socket)
 
 static void random_irq_grant(struct chance *c, struct model *m, unsigned socket)
 {
-    m->irq[socket] = (struct irq_grant){
-        .live = true,
-        .client = some_client(c, m),
-        .level = (uint8_t)pick(c, CS_LEVELS),
-        .manner = (uint8_t)pick(c, MANNERS),
-    };
+    uint16_t client = some_client(c, m);
+    uint8_t level = (uint8_t)pick(c, CS_LEVELS), manner = (uint8_t)pick(c, MANNERS);
+    m->irq[socket] = (struct irq_grant){true, client, level, manner};
     if (!well_formed(m))
         m->irq[socket] = (struct irq_grant){0};
 }
@@ -216,7 +220,8 @@ static uint32_t perhaps_wide(struct chance *c, uint32_t number)
 /* Ports that are managed, or next to them, or others. */
 static struct range some_ports(struct chance *c, const struct model *m)
 {
-    struct range ports = {one_in(c, 2) ? pick(c, CS_PORTS) : some_port(c), some_count(c), false};
+    uint32_t base = one_in(c, 2) ? pick(c, CS_PORTS) : some_port(c);
+    struct range ports = {base, some_count(c), false};
     if (m->ranges > 0 && one_in(c, 2)) {
         const struct range *known = &m->range[pick(c, m->ranges)];
         ports.base = known->base;
@@ -231,7 +236,9 @@ static struct range some_ports(struct chance *c, const struct model *m)
             ports.count = known->count;
         }
     }
-    return (struct range){perhaps_wide(c, ports.base), perhaps_wide(c, ports.count), false};
+    ports.base = perhaps_wide(c, ports.base);
+    ports.count = perhaps_wide(c, ports.count);
+    return ports;
 }
 
 static uint8_t some_attributes(struct chance *c)
@@ -249,7 +256,8 @@ static uint8_t some_resource(struct chance *c)
 static void adjust_packet(struct chance *c, const struct model *m, struct request *r)
 {
     struct range ports = some_ports(c, m);
-    uint32_t ends = some_attributes(c) | (uint32_t)(one_in(c, 16) ? byte(c) : CS_LINES) << 8;
+    uint32_t attributes = some_attributes(c), lines = one_in(c, 16) ? byte(c) : CS_LINES;
+    uint32_t ends = attributes | lines << 8;
     r->packet[0] = one_in(c, 32) ? byte(c) : (uint8_t)pick(c, ACTIONS);
     r->packet[1] = some_resource(c);
     if (r->packet[1] == CS_RESOURCE_IRQ) {
@@ -319,8 +327,9 @@ static void request_irq_packet(struct chance *c, const struct model *m, struct r
     r->packet[5] = (uint8_t)(card | (one_in(c, 2) ? CS_IRQ_INFO_MASK : pick(c, CS_LEVELS)));
     if (one_in(c, 16))
         r->packet[5] = byte(c);
+    uint32_t one = pick(c, CS_LEVELS), other = pick(c, CS_LEVELS);
     if (one_in(c, 2))
-        put(r, 6, 2, one_in(c, 8) ? 0 : 1u << pick(c, CS_LEVELS) | 1u << pick(c, CS_LEVELS));
+        put(r, 6, 2, one_in(c, 8) ? 0 : 1u << one | 1u << other);
 }
 
 static void release_irq_packet(struct chance *c, const struct model *m, struct request *r)
@@ -332,10 +341,23 @@ static void release_irq_packet(struct chance *c, const struct model *m, struct r
     r->handle = one_in(c, 4) || !g->live ? r->handle : g->client;
 }
 
+/* A managed port, a granted one or an image of it, or another. */
+static uint32_t some_base(struct chance *c, const struct model *m)
+{
+    const struct io_grant *g = &m->io[pick(c, CS_SOCKETS)];
+    if (g->live && one_in(c, 3))
+        return g->base + (pick(c, 4) << g->lines);
+    if (m->ranges == 0 || one_in(c, 4))
+        return some_port(c);
+    const struct range *r = &m->range[pick(c, m->ranges)];
+    return r->base + pick(c, r->count);
+}
+
+/* Base 0 in every third. */
 static void request_io_packet(struct chance *c, const struct model *m, struct request *r)
 {
     put_socket(c, m, r, io_free);
-    put(r, 2, 2, one_in(c, 3) ? 0 : some_port(c));
+    put(r, 2, 2, one_in(c, 3) ? 0 : some_base(c, m));
     r->packet[4] = (uint8_t)some_count(c);
     r->packet[5] = one_in(c, 8) ? byte(c) : (uint8_t)pick(c, 16);
     r->packet[8] = one_in(c, 16) ? byte(c) : 0;

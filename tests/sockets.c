@@ -19,6 +19,19 @@ void lend_ready(uint16_t managed, uint16_t reserved)
     lend_set(&m);
 }
 
+void manage(struct model *m, uint32_t base, uint32_t count, bool reserved)
+{
+    m->range[m->ranges++] = (struct range){base, count, reserved};
+}
+
+void lend_ports(uint32_t base, uint32_t count)
+{
+    struct model m;
+    ready_set(&m, 0, 0);
+    manage(&m, base, count, false);
+    lend_set(&m);
+}
+
 /* ---- IRQ ---- */
 
 static void irq_packet(uint8_t packet[CS_REQUEST_IRQ_LENGTH], uint8_t socket, uint16_t attributes,
@@ -79,15 +92,107 @@ void irq_refused(uint16_t client, uint8_t socket, uint16_t attributes, uint8_t i
     packet_left(socket, attributes, NOT_ASSIGNED, info_1, info_2);
 }
 
-void grant_bytes(unsigned socket, uint16_t client, uint8_t level, uint8_t manner)
+void irq_grant_bytes(unsigned socket, uint16_t client, uint8_t level, uint8_t manner)
 {
     uint8_t by_hand[] = {(uint8_t)client, (uint8_t)(client >> 8), level, manner};
     table_must_have(133 + 4 * socket, by_hand, sizeof by_hand);
 }
 
-void no_grant_bytes(unsigned socket)
+void no_irq_grant_bytes(unsigned socket)
 {
-    grant_bytes(socket, 0, 0, 0);
+    irq_grant_bytes(socket, 0, 0, 0);
+}
+
+/* ---- I/O ---- */
+
+static void io_ports_packet(uint8_t packet[CS_REQUEST_IO_LENGTH], uint8_t socket, uint16_t base,
+                            uint8_t count, uint8_t attributes, uint8_t lines)
+{
+    packet[0] = socket;
+    packet[1] = 0;
+    packet[2] = (uint8_t)base;
+    packet[3] = (uint8_t)(base >> 8);
+    packet[4] = count;
+    packet[5] = attributes;
+    packet[6] = packet[7] = IGNORED;
+    packet[8] = 0;
+    packet[9] = IGNORED;
+    packet[10] = lines;
+}
+
+uint32_t request_io(uint16_t client, uint8_t socket, uint16_t base, uint8_t count,
+                    uint8_t attributes, uint8_t lines)
+{
+    uint8_t packet[CS_REQUEST_IO_LENGTH];
+    io_ports_packet(packet, socket, base, count, attributes, lines);
+    return ask_call(CS_REQUEST_IO, client, packet, sizeof packet);
+}
+
+/* "Its attributes, lines and BasePort2 are ignored." */
+uint32_t release_io(uint16_t client, uint8_t socket, uint16_t base, uint8_t count)
+{
+    uint8_t packet[CS_RELEASE_IO_LENGTH];
+    io_ports_packet(packet, socket, base, count, IGNORED, IGNORED);
+    return ask_call(CS_RELEASE_IO, client, packet, sizeof packet);
+}
+
+static void io_packet_left(uint8_t socket, uint16_t base, uint8_t count, uint8_t attributes,
+                           uint8_t lines)
+{
+    uint8_t by_hand[CS_REQUEST_IO_LENGTH];
+    io_ports_packet(by_hand, socket, base, count, attributes, lines);
+    packet_must_be(by_hand, sizeof by_hand);
+}
+
+void io_granted(uint16_t client, uint8_t socket, uint16_t base, uint8_t count, uint8_t attributes,
+                uint8_t lines)
+{
+    must_be(request_io(client, socket, base, count, attributes, lines), CS_SUCCESS, client);
+    io_packet_left(socket, base, count, attributes, lines);
+    io_grant_bytes(socket, client, base, count, lines, (attributes & 1) != 0);
+}
+
+/* "Success writes BasePort1." */
+void io_chosen(uint16_t client, uint8_t socket, uint8_t count, uint8_t attributes, uint8_t lines,
+               uint16_t base)
+{
+    must_be(request_io(client, socket, 0, count, attributes, lines), CS_SUCCESS, client);
+    io_packet_left(socket, base, count, attributes, lines);
+    io_grant_bytes(socket, client, base, count, lines, (attributes & 1) != 0);
+}
+
+void io_refused(uint16_t client, uint8_t socket, uint16_t base, uint8_t count, uint8_t attributes,
+                uint8_t lines, uint32_t code)
+{
+    must_be(request_io(client, socket, base, count, attributes, lines), code, 0);
+    io_packet_left(socket, base, count, attributes, lines);
+}
+
+void io_released(uint16_t client, uint8_t socket, uint16_t base, uint8_t count)
+{
+    must_be(release_io(client, socket, base, count), CS_SUCCESS, client);
+    io_packet_left(socket, base, count, IGNORED, IGNORED);
+    no_io_grant_bytes(socket);
+}
+
+void io_not_released(uint16_t client, uint8_t socket, uint16_t base, uint8_t count)
+{
+    must_be(release_io(client, socket, base, count), CS_BAD_BASE, 0);
+    io_packet_left(socket, base, count, IGNORED, IGNORED);
+}
+
+void io_grant_bytes(unsigned socket, uint16_t client, uint16_t base, uint8_t count, uint8_t lines,
+                    bool shared)
+{
+    uint8_t by_hand[11] = {
+        (uint8_t)client, (uint8_t)(client >> 8), (uint8_t)base, (uint8_t)(base >> 8), count, lines,
+        shared};
+    table_must_have(45 + 11 * socket, by_hand, sizeof by_hand);
+}
+
+void no_io_grant_bytes(unsigned socket)
+{
+    io_grant_bytes(socket, 0, 0, 0, 0, false);
 }
 
 /* ---- Masks ---- */

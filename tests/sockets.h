@@ -1,5 +1,5 @@
 /*
- * sockets.h: IRQ grants and socket masks, asked field by field
+ * sockets.h: IRQ grants, I/O grants and socket masks, asked field by field
  */
 #ifndef SOCKETS_H
 #define SOCKETS_H
@@ -11,13 +11,28 @@
 void ready_set(struct model *m, uint16_t managed, uint16_t reserved);
 void lend_ready(uint16_t managed, uint16_t reserved);
 
+/* Adds a managed range to the set; lends a ready set with one, unreserved, and no
+   level. */
+void manage(struct model *m, uint32_t base, uint32_t count, bool reserved);
+void lend_ports(uint32_t base, uint32_t count);
+
 /* AssignedIRQ as RequestIRQ is asked with it here: some byte that is no level. */
 enum { NOT_ASSIGNED = 0xEE };
+
+/* What the I/O services ignore, as they are asked with it here: each byte of
+   BasePort2 and Attributes2, and of a release Attributes1 and the lines. */
+enum { IGNORED = 0xDD };
+
+/* Attributes1: nothing set, Shared, First Shared with Shared. */
+enum { ALONE = 0, SHARED = 1, FIRST_SHARED = 3 };
 
 /* The function is 0. */
 uint32_t request_irq(uint16_t client, uint8_t socket, uint16_t attributes, uint8_t info_1,
                      uint16_t info_2);
 uint32_t release_irq(uint16_t client, uint8_t socket, uint16_t attributes, uint8_t level);
+uint32_t request_io(uint16_t client, uint8_t socket, uint16_t base, uint8_t count,
+                    uint8_t attributes, uint8_t lines);
+uint32_t release_io(uint16_t client, uint8_t socket, uint16_t base, uint8_t count);
 uint32_t request_mask(uint16_t client, uint8_t socket, uint16_t events);
 uint32_t release_mask(uint16_t client, uint8_t socket);
 
@@ -30,10 +45,27 @@ void pulse_granted(uint16_t client, uint8_t socket, uint16_t attributes, uint8_t
 void irq_refused(uint16_t client, uint8_t socket, uint16_t attributes, uint8_t info_1,
                  uint16_t info_2, uint32_t code);
 
-/* A socket's IRQ grant and a client's mask as docs/LAYOUT.md has their bytes:
-   the client is told by its place, a mask by its word. */
-void grant_bytes(unsigned socket, uint16_t client, uint8_t level, uint8_t manner);
-void no_grant_bytes(unsigned socket);
+/* RequestIO with the answer, the packet and the grant's bytes worked out by hand:
+   a named base granted, base 0 with the base chosen, or the packet as it was
+   asked. */
+void io_granted(uint16_t client, uint8_t socket, uint16_t base, uint8_t count, uint8_t attributes,
+                uint8_t lines);
+void io_chosen(uint16_t client, uint8_t socket, uint8_t count, uint8_t attributes, uint8_t lines,
+               uint16_t base);
+void io_refused(uint16_t client, uint8_t socket, uint16_t base, uint8_t count, uint8_t attributes,
+                uint8_t lines, uint32_t code);
+
+/* ReleaseIO that gives the grant back, and one that is refused. */
+void io_released(uint16_t client, uint8_t socket, uint16_t base, uint8_t count);
+void io_not_released(uint16_t client, uint8_t socket, uint16_t base, uint8_t count);
+
+/* A socket's grants and a client's mask as docs/LAYOUT.md has their bytes: the
+   client of a mask is told by its place, a mask by its word. */
+void irq_grant_bytes(unsigned socket, uint16_t client, uint8_t level, uint8_t manner);
+void no_irq_grant_bytes(unsigned socket);
+void io_grant_bytes(unsigned socket, uint16_t client, uint16_t base, uint8_t count, uint8_t lines,
+                    bool shared);
+void no_io_grant_bytes(unsigned socket);
 void mask_bytes(unsigned place, unsigned socket, uint16_t word);
 
 #endif

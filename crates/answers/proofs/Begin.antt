@@ -20,6 +20,7 @@ use Rattle.layout.specs.Reading.{socketsIn, marked}
 use Rattle.layout.specs.Sound.{Accepted, LiveIn}
 use Rattle.layout.specs.Served.{ServedBy}
 use Rattle.layout.proofs.Of
+use Rattle.layout.proofs.RoundTrip.{live-positive}
 use Rattle.answers.specs.Answers.{NamesSocket}
 
 -- the packet has n bytes, the handle h is live, and the socket s is named
@@ -34,11 +35,24 @@ pub record Begins (R : Facts → Outcome → Type 0) (b p : List ℕ) (n h : ℕ
   pub by-handle : length p ≡ n → (LiveIn b h → ⊥) → ServedBy R b b p BadHandle 0
   pub by-socket : length p ≡ n → LiveIn b h → (socketsIn b ≤ socketOf p) ⊎ (byte p 1 ≢ 0) → ServedBy R b b p BadSocket 0
 
-module _ (b p : List ℕ) (a : Accepted b) (n h : ℕ) where
-  -- the facts say so too
-  is-live : LiveIn b h → Live (a .facts) h
-  is-live l = Of.live-listed b a (l .0) h (l .1) (l .2)
+-- the facts say so too
+is-live : (b : List ℕ) (a : Accepted b) (h : ℕ) → LiveIn b h → Live (a .facts) h
+is-live b a h l = Of.live-listed b a (l .0) h (l .1) (l .2)
 
+module _ (b p : List ℕ) (a : Accepted b) {n h s : ℕ} (begun : Begun b p n h s) where
+  -- the socket that is named is one of a table's
+  pub in-sockets : s < Table.mostSockets
+  in-sockets = omega (arith, begun .socket .number, begun .socket .counted, Of.sockets-in b a, a .formed .sockets-most)
+
+  -- what a socket's place asks of the table
+  pub in-table : (length b ≡ Layout.tableSize) × (s < Table.mostSockets)
+  in-table = (Of.size-in b a, in-sockets)
+
+  -- a live handle is not 0
+  pub positive : 0 < h
+  positive = live-positive (a .formed) (is-live b a h (begun .live))
+
+module _ (b p : List ℕ) (a : Accepted b) (n h : ℕ) where
   bad-socket : (socketsIn b ≤ socketOf p) ⊎ (byte p 1 ≢ 0) → BadSocketIn (a .facts) p
   bad-socket (inl l) = inl (omega (arith, Of.sockets-in b a))
   bad-socket (inr d) = inr d
@@ -47,13 +61,9 @@ module _ (b p : List ℕ) (a : Accepted b) (n h : ℕ) where
   good-socket x (inl l) = omega (arith, x .counted, Of.sockets-in b a)
   good-socket x (inr d) = d (x .function)
 
-  -- the socket that is named is one of a table's, and its byte says whether a card is in it
-  module _ {s : ℕ} (begun : Begun b p n h s) where
-    pub in-sockets : s < Table.mostSockets
-    in-sockets = omega (arith, begun .socket .number, begun .socket .counted, Of.sockets-in b a, a .formed .sockets-most)
-
-    card-byte : a .facts .card (socketOf p) ≡ marked (byte b (Layout.cardsAt + s))
-    card-byte = ap (a .facts .card) (sym (begun .socket .number)) ∙ Of.card-said b a s in-sockets
+  -- the socket's byte says whether a card is in it
+  card-byte : {s : ℕ} → Begun b p n h s → a .facts .card (socketOf p) ≡ marked (byte b (Layout.cardsAt + s))
+  card-byte {s} begun = ap (a .facts .card) (sym (begun .socket .number)) ∙ Of.card-said b a s (in-sockets b p a begun)
 
   module _ (own : List Check) where
     -- the first that applies is one of the three
@@ -63,16 +73,16 @@ module _ (b p : List ℕ) (a : Accepted b) (n h : ℕ) where
         record {
           by-length = λ d. refused BadArgLength (inl (d, refl));
           by-handle = λ e d. refused BadHandle (inr ((λ x. x e), inl ((λ l. d (Of.listed-live b a h l)), refl)));
-          by-socket = λ e l d. refused BadSocket (inr ((λ x. x e), inr ((λ x. x (is-live l)), inl (bad-socket d, refl))));
+          by-socket = λ e l d. refused BadSocket (inr ((λ x. x e), inr ((λ x. x (is-live b a h l)), inl (bad-socket d, refl))));
         }
 
     -- or none of them applies: then it is the first of the service's own, or none
     module _ {s : ℕ} (begun : Begun b p n h s) where
       pub then-first : (k : Code) → FirstGiven own k → FirstGiven (releaseChecks n (a .facts) h p own) k
-      then-first k f = inr ((λ x. x (begun .size)), inr ((λ x. x (is-live (begun .live))), inr (good-socket (begun .socket), f)))
+      then-first k f = inr ((λ x. x (begun .size)), inr ((λ x. x (is-live b a h (begun .live))), inr (good-socket (begun .socket), f)))
 
       pub then-passed : Passed own → Passed (releaseChecks n (a .facts) h p own)
-      then-passed f = ((λ x. x (begun .size)), ((λ x. x (is-live (begun .live))), (good-socket (begun .socket), f)))
+      then-passed f = ((λ x. x (begun .size)), ((λ x. x (is-live b a h (begun .live))), (good-socket (begun .socket), f)))
 
   -- a request's card: it is missing, or it is there
   module _ (own : List Check) {s : ℕ} (begun : Begun b p n h s) where

@@ -14,6 +14,7 @@ use Rattle.facts.specs.Ports.{Meet, Has, Managed}
 use Rattle.facts.specs.Io.{Candidate, SmallestPower, RequestIo}
 use Rattle.cases.specs.Cases.{Exactly, done, ports, ready, grantingIo, halfHeld, ioPacket}
 use Rattle.facts.proofs.Sets.{put-is}
+use Rattle.facts.proofs.Choices.{smallest-power-unique}
 use Rattle.facts.proofs.Unique.{request-io-unique}
 use Rattle.cases.proofs.Permitted.{exactly, as-left, _then_, _nor_, listed-alone, alone-chosen}
 
@@ -29,9 +30,6 @@ eight n sized = record { power = 3; is = refl; not-below = sized .1; smallest = 
     go : (k : ℕ) → n ≤ 2 ^ k → Dec (3 ≤ k) → 8 ≤ 2 ^ k
     go k l (yes h) = pow-mono h
     go k l (no h) = absurd (omega (arith, pow-mono {i = k} {j = 2} (omega arith)))
-
-smallest-power-unique : (n a b : ℕ) → SmallestPower n a → SmallestPower n b → a ≡ b
-smallest-power-unique n a b s t = omega (arith, s .smallest (t .power) (omega (arith, t .is)), t .smallest (s .power) (omega (arith, s .is)))
 
 -- the table of N8 and N9, with the I/O grants io and the one managed range r; and their packet
 abbrev pub ioTable : (ℕ → Option IoGrant) → Range → Facts

@@ -2,6 +2,7 @@
 pub mod Says
 pub mod Sets
 pub mod Codes
+pub mod Choices
 pub mod Company
 pub mod Unique
 pub mod Refusals

@@ -74,8 +74,8 @@ module _ (F : Facts) (h : ℕ) (p : List ℕ) where
   refusal-keeps requestSocketMask = ruled-keeps (requestMaskChecks F h p) _
   refusal-keeps releaseSocketMask = ruled-keeps (releaseMaskChecks F h p) _
 
-  pub call-refusal-keeps : (built : Service → Bool) (number : ℕ) → RefusalKeeps F p (Call built number F h p)
-  call-refusal-keeps built number = either-keeps (λ o r. refusal-keeps (r .0 .service) o (r .1)) (λ o r ne. r .2)
+  pub call-refusal-keeps : (number : ℕ) → RefusalKeeps F p (Call number F h p)
+  call-refusal-keeps number = either-keeps (λ o r. refusal-keeps (r .0 .service) o (r .1)) (λ o r ne. r .2)
 
 pub card-refusal-keeps : (present : Bool) (F : Facts) (s : ℕ) (o : CardOutcome) → CardTo present F s o → o .code ≢ Success → o .facts ≡ F
 card-refusal-keeps present F s o (inl r) ne = r .1

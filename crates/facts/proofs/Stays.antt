@@ -6,12 +6,12 @@ use Rattle.facts.specs.WellFormed.{WellFormed}
 use Rattle.facts.specs.Checks.{Outcome}
 use Rattle.facts.specs.Services.{Service, registerClient, deregisterClient, adjustResourceInfo, requestIrq, releaseIrq, requestIo, releaseIo}
 use Rattle.facts.specs.Services.{requestSocketMask, releaseSocketMask, ruleOf}
-use Rattle.facts.specs.Laws.{BytesFor}
+use Rattle.facts.specs.Packets.{Bytes}
 use Rattle.facts.proofs.ClientsStay.{register-stays, deregister-stays, request-mask-stays, release-mask-stays}
 use Rattle.facts.proofs.ResourcesStay.{adjust-stays}
 use Rattle.facts.proofs.GrantsStay.{request-irq-stays, release-irq-stays, request-io-stays, release-io-stays}
 
-pub service-stays : (v : Service) (F : Facts) (h : ℕ) (p : List ℕ) (o : Outcome) → WellFormed F → BytesFor v p → ruleOf v F h p o
+pub service-stays : (v : Service) (F : Facts) (h : ℕ) (p : List ℕ) (o : Outcome) → WellFormed F → Bytes p → ruleOf v F h p o
     → WellFormed (o .facts)
 service-stays registerClient F h p o w b = register-stays F h p o w
 service-stays deregisterClient F h p o w b = deregister-stays F h p o w

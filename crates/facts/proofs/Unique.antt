@@ -272,8 +272,8 @@ module _ (F : Facts) (h : ℕ) (p : List ℕ) where
   service-unique apart releaseSocketMask = release-mask-unique
 
   -- a call: its number is one service's, or none's
-  pub call-unique : Apart 0 (F .ranges) → (built : Service → Bool) (number : ℕ) → Coincide (Call built number F h p)
-  call-unique apart built number =
+  pub call-unique : Apart 0 (F .ranges) → (number : ℕ) → Coincide (Call number F h p)
+  call-unique apart number =
       either-coincide (λ o o′ r r′. r′ .0 (r .0))
       (λ o o′ r r′. let e = number-injective (r .0 .service) (r′ .0 .service) (r .0 .number-is ∙ sym (r′ .0 .number-is)) in
       service-unique apart (r′ .0 .service) o o′ (subst (λ (s : Service). ruleOf s F h p o) e (r .1)) (r′ .1))

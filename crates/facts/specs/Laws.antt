@@ -19,8 +19,7 @@ use Rattle.facts.specs.Resources.{showRangeChecks}
 use Rattle.facts.specs.Irq.{Count, Sharers, RequestIrq, NoLevelFits, irqAheadChecks, irqRequestChecks, irqReleaseChecks, sharersChecks}
 use Rattle.facts.specs.Io.{RequestIo, NotAllManaged, InTheWay, NoCandidate, baseAsked, ioAheadChecks, ioRequestChecks, ioReleaseChecks}
 use Rattle.facts.specs.Boot.{Booted, Boot, recordSize, recordsAdded}
-use Rattle.facts.specs.Services.{Service, registerClient, deregisterClient, adjustResourceInfo, requestIrq, releaseIrq, requestIo, releaseIo}
-use Rattle.facts.specs.Services.{requestSocketMask, releaseSocketMask, ruleOf}
+use Rattle.facts.specs.Services.{Service, ruleOf}
 
 -- "any two permitted outcomes coincide"
 abbrev pub Coincide : {O : Type 0} → (O → Type 0) → Type 0
@@ -29,18 +28,6 @@ Coincide {O} R = (o o′ : O) → R o → R o′ → o ≡ o′
 -- "a refusal answers 0"; "Every code but 00 leaves table and packet unchanged"
 abbrev pub RefusalKeeps : Facts → List ℕ → (Outcome → Type 0) → Type 0
 RefusalKeeps F p R = (o : Outcome) → R o → o .code ≢ Success → Kept F p o
-
--- the one rule that needs to know that a packet's numbers are bytes: a count that RequestIO allows is one byte's
-abbrev pub BytesFor : Service → List ℕ → Type 0
-BytesFor requestIo p = Bytes p
-BytesFor registerClient p = Unit {0}
-BytesFor deregisterClient p = Unit {0}
-BytesFor adjustResourceInfo p = Unit {0}
-BytesFor requestIrq p = Unit {0}
-BytesFor releaseIrq p = Unit {0}
-BytesFor releaseIo p = Unit {0}
-BytesFor requestSocketMask p = Unit {0}
-BytesFor releaseSocketMask p = Unit {0}
 
 -- no check gives SUCCESS
 abbrev pub NoSuccess : List Check → Type 0
@@ -61,7 +48,8 @@ pub record ServiceLaws : Type 0 where
   pub one-outcome : (v : Service) (F : Facts) (h : ℕ) (p : List ℕ) → WellFormed F → Coincide (ruleOf v F h p)
   pub no-success : (F : Facts) (h : ℕ) (p : List ℕ) (w : Width) (x y a n : ℕ) → NoSuccess (everyCheck F h p w x y a n)
   pub refusal-keeps : (v : Service) (F : Facts) (h : ℕ) (p : List ℕ) → RefusalKeeps F p (ruleOf v F h p)
-  pub stays-formed : (v : Service) (F : Facts) (h : ℕ) (p : List ℕ) (o : Outcome) → WellFormed F → BytesFor v p → ruleOf v F h p o
+  -- a packet's numbers are bytes: RequestIO alone needs to know it, whose count a grant keeps in one byte
+  pub stays-formed : (v : Service) (F : Facts) (h : ℕ) (p : List ℕ) (o : Outcome) → WellFormed F → Bytes p → ruleOf v F h p o
       → WellFormed (o .facts)
 
 -- of the host's calls

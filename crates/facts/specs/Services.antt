@@ -1,7 +1,6 @@
 -- The nine services by their numbers, and the rule of a call. Assumes nothing.
 use mathlib.Core.Path.{_≡_}
 use mathlib.Core.Logic.{_⊎_}
-use mathlib.Core.Bool.{Bool, true}
 use Prim.Native.Nat.{ℕ}
 use Rattle.facts.specs.declared.Code.the-variants.{UnsupportedService}
 use Rattle.facts.specs.Checks.{Kept, Rule}
@@ -37,15 +36,14 @@ ruleOf releaseIo = ReleaseIo
 ruleOf requestSocketMask = RequestSocketMask
 ruleOf releaseSocketMask = ReleaseSocketMask
 
--- the number is that of a service that is built
-pub record Serves (built : Service → Bool) (number : ℕ) : Type 0 where
+-- the number is that of a service
+pub record Serves (number : ℕ) : Type 0 where
   pub service : Service
-  pub is-built : built service ≡ true
   pub number-is : serviceNumber service ≡ number
 
--- "Checks run in this order and the first that applies is given: table, service, length ..": a number that is no built service's is
+-- "Checks run in this order and the first that applies is given: table, service, length ..": a number that is no service's is
 -- UNSUPPORTED_SERVICE
-abbrev pub Call : (Service → Bool) → ℕ → Rule
-Call built number F h p o =
-    ((s : Serves built number) × ruleOf (s .service) F h p o)
-    ⊎ ((Serves built number → ⊥) × (o .code ≡ UnsupportedService) × Kept F p o)
+abbrev pub Call : ℕ → Rule
+Call number F h p o =
+    ((s : Serves number) × ruleOf (s .service) F h p o)
+    ⊎ ((Serves number → ⊥) × (o .code ≡ UnsupportedService) × Kept F p o)

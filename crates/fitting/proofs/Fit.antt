@@ -12,9 +12,9 @@ use Rattle.facts.specs.declared.Manner.{Manner}
 use Rattle.facts.specs.Table
 use Rattle.facts.specs.Table.{Level, IrqGrant}
 use Rattle.facts.specs.Packets.{byte, bit}
-use Rattle.facts.specs.Choice.{Before}
 use Rattle.facts.specs.Levels.{Holds, Together}
 use Rattle.facts.specs.Irq.{attributesOf, IrqFirstShared, mannerAsked, Fits, LevelTaken, NoLevelFits}
+use Rattle.facts.proofs.Choices.{chosen-first, chosen-then}
 use Rattle.facts.proofs.Says.{says-true, says-false, says-dec}
 use Rattle.layout.specs.Layout.{mark}
 use Rattle.layout.specs.Reading.{levelPlace, irqPlace, levelIn, irqIn, mannerOf}
@@ -126,20 +126,29 @@ module _ (b p : List ℕ) (a : Accepted b) where
   abbrev Early : ℕ → Type 0
   Early l = a .facts .level l .reserved ≡ false
 
+  -- a level that fits is unreserved exactly if its mark is 0
+  early-decided : (y : ℕ) → Fits (a .facts) p y → Dec (Early y)
+  early-decided y x = go (mark-is y (level-fits y x))
+    where
+      go : (reserveMark y ≡ 0) ⊎ (reserveMark y ≡ 1) → Dec (Early y)
+      go (inl e) = yes (unreserved-said y (level-fits y x) e)
+      go (inr e) = no (reserved-said y (level-fits y x) e)
+
+  early-mark : (y : ℕ) → Fits (a .facts) p y → Early y → reserveMark y ≡ 0
+  early-mark y x early = go (mark-is y (level-fits y x))
+    where
+      go : (reserveMark y ≡ 0) ⊎ (reserveMark y ≡ 1) → reserveMark y ≡ 0
+      go (inl e) = e
+      go (inr e) = absurd (reserved-said y (level-fits y x) e early)
+
   -- an unreserved level fits: the lowest of them is taken
   unreserved-taken : (l : ℕ) → LowestOf (FitsAs b p 0) l → LevelTaken (a .facts) p l
-  unreserved-taken l low = record { fits = fits-said 0 l (low .level) (low .holds); first = before }
-    where
-      early : Early l
-      early = unreserved-said l (low .level) (low .holds .reserved)
-
-      before : (y : ℕ) → Fits (a .facts) p y → Before Early l y
-      before y x = go (mark-is y (level-fits y x))
-        where
-          go : (reserveMark y ≡ 0) ⊎ (reserveMark y ≡ 1) → Before Early l y
-          go (inl e) =
-              let h = level-fits y x in inr (((λ _. unreserved-said y h e), (λ _. early)), low .least y h (as-marked y 0 x e))
-          go (inr e) = inl (early, reserved-said y (level-fits y x) e)
+  unreserved-taken l low =
+      chosen-first early-decided
+      (record {
+        fits = (fits-said 0 l (low .level) (low .holds), unreserved-said l (low .level) (low .holds .reserved));
+        least = λ y x. low .least y (level-fits y (x .0)) (as-marked y 0 (x .0) (early-mark y (x .0) (x .1)));
+      })
 
   -- none does: every level that fits is reserved, and the lowest of them is taken
   module _ (none : (y : ℕ) → y < Table.allLevels → FitsAs b p 0 y → ⊥) where
@@ -151,14 +160,9 @@ module _ (b p : List ℕ) (a : Accepted b) where
         go (inr e) = e
 
     reserved-taken : (l : ℕ) → LowestOf (FitsAs b p 1) l → LevelTaken (a .facts) p l
-    reserved-taken l low = record { fits = fits-said 1 l (low .level) (low .holds); first = before }
-      where
-        before : (y : ℕ) → Fits (a .facts) p y → Before Early l y
-        before y x =
-            let h = level-fits y x in
-            let r = reserved-said y h (late y x) in
-            let r₀ = reserved-said l (low .level) (low .holds .reserved) in
-            inr (((λ f. absurd (r₀ f)), (λ f. absurd (r f))), low .least y h (as-marked y 1 x (late y x)))
+    reserved-taken l low =
+        chosen-then (λ y x. reserved-said y (level-fits y x) (late y x))
+        (record { fits = fits-said 1 l (low .level) (low .holds); least = λ y x. low .least y (level-fits y x) (as-marked y 1 x (late y x)) })
 
   -- the level of the mask's lowest bit is taken; or the mask is 0, and none fits
   module _ (mask : ℕ) (is : MaskIs b p mask) where

@@ -1,21 +1,49 @@
--- A grant read field by field is the grant that its record says; and two grants are held against each other where both are there. Assumes nothing.
-use mathlib.Core.Path.{_≡_}
+-- Four bytes are zero where the number that they say is; a grant read field by field is the grant that its record says; and two grants are held against each other where both are there. Assumes nothing.
+use mathlib.Core.Path.{_≡_, ap, _∙_}
 use mathlib.Core.Logic.{⊎-elim}
 use mathlib.Core.List.{List}
 use mathlib.Core.Bool.{Bool, true, false, not}
-use Prim.Native.Nat.{ℕ, _+_, _≤_}
+use Prim.Native.Nat.{ℕ, _+_, _-_, _≤_}
 use native.Mathlib.Omega.{arith}
 use borrow.Author.Tests.{eq-eqb, eqb-true}
 use Rattle.facts.specs.Table
 use Rattle.facts.specs.Says.{Says}
-use Rattle.facts.specs.Packets.{byte, word}
+use Rattle.facts.specs.Packets.{byte, word, long}
 use Rattle.facts.specs.Ports.{Within}
 use Rattle.facts.specs.Levels.{Together}
 use Rattle.facts.proofs.Says.{says-true, says-as, says-yes, says-no}
 use Rattle.layout.specs.Reading.{ioPlace, irqPlace, ioIn, irqIn, mannerOf}
-use Rattle.layout.specs.Sound.{ManagedIn, IoPlaceSound}
+use Rattle.layout.specs.Sound.{Zero, ManagedIn, IoPlaceSound}
+use Rattle.reading.proofs.All.{All, all-none, all-more}
 use Rattle.grants.specs.declared.ios.Ports.{Ports}
 use Rattle.grants.specs.Parts.{PortsAt}
+
+-- four bytes are zero exactly if the number that they say is
+module _ (b : List ℕ) (at to : ℕ) (n : to ≡ at + 4) where
+  abbrev Spare : ℕ → Type 0
+  Spare k = byte b (at + k) ≡ 0
+
+  spare : (k p : ℕ) → byte b p ≡ 0 → at + k ≡ p → Spare k
+  spare k p z s = ap (byte b) s ∙ z
+
+  pub long-zero : long b at ≡ 0 → Zero b at to
+  long-zero e i f l = let here : i ≡ at + (i - at) = omega arith in ap (byte b) here ∙ each (i - at) (omega arith)
+    where
+      two : All 2 Spare
+      two = all-more {P = Spare} (all-more {P = Spare} (all-none Spare) (spare 0 at (omega (arith, e)) (omega arith))) (omega (arith, e))
+
+      each : All 4 Spare
+      each = all-more {P = Spare} (all-more {P = Spare} two (omega (arith, e))) (spare 3 (at + 2 + 1) (omega (arith, e)) (omega arith))
+
+  pub zero-long : Zero b at to → long b at ≡ 0
+  zero-long z =
+      omega (
+        arith,
+        z at (omega arith) (omega arith),
+        z (at + 1) (omega arith) (omega arith),
+        z (at + 2) (omega arith) (omega arith),
+        z (at + 2 + 1) (omega arith) (omega arith),
+      )
 
 -- whether the ports that a record says are managed
 abbrev Managed : List ℕ → ℕ → ℕ → Type 0

@@ -74,11 +74,10 @@ pub fn io_place_sound(t: &[u8], s: Socket) -> bool
 {
     let number = s.0;
     let at = IOS_AT + number * IO_SIZE;
-    let end = at + IO_SIZE;
-    if reading::zero(t, at, end) {
-        return true;
+    if reading::word(t, at) == 0 {
+        return reading::zero(t, at, at + IO_SIZE);
     }
-    if !reading::zero(t, at + IO_SPARE, end) {
+    if reading::long(t, at + IO_SPARE) != 0 {
         return false;
     }
     if MARKED < reading::byte(t, at + IO_SHARED) {

@@ -17,7 +17,6 @@ ghost use Prim.Native.Nat.{_+_, _<_, _≤_};
 ghost use lib.ListN.{length};
 ghost use Rattle.facts.specs.Table;
 ghost use Rattle.facts.specs.Says.{Says};
-ghost use Rattle.facts.specs.Ports.{Overlap};
 ghost use Rattle.layout.specs.Layout.{tableSize};
 ghost use Rattle.layout.specs.Sound.{Accepted};
 ghost use Rattle.holders.specs.Holders.{HoldsIn, holderIn, typeIn, AloneIn, SomeAloneIn, LowestBelow, LowestIs};
@@ -46,22 +45,6 @@ const HELD: u8 = 0x80;
 
 const HELD_SHARED: u8 = HELD + 0x01;
 
-// Whether the `count` ports from `base` on and the `count2` from `base2` on have one in common.
-fn overlaps(base: usize, count: usize, base2: usize, count2: usize) -> bool
-    ensures { λ r. ⌜ Says r (Overlap base count base2 count2) ⌝ }
-{
-    if count == 0 {
-        return false;
-    }
-    if count2 == 0 {
-        return false;
-    }
-    if base < base2 {
-        return base2 - base < count;
-    }
-    base - base2 < count2
-}
-
 // Whether the grant of the socket holds the level.
 fn level_on(t: &[u8], l: usize, s: Socket) -> bool
     requires { ⌜ (length (now t) ≡ tableSize) × (s .0 < Table.mostSockets) ⌝ }
@@ -87,7 +70,7 @@ fn ports_on(t: &[u8], base: usize, count: usize, s: Socket) -> bool
     }
     let held = reading::word(t, at + IO_BASE);
     let ports = reading::byte(t, at + IO_COUNT);
-    overlaps(held, ports, base, count)
+    ports::overlaps(held, ports, base, count)
 }
 
 // Whether the grant of the socket holds what is asked for.

@@ -27,13 +27,12 @@ use Rattle.layout.specs.Sound.{Accepted, IrqUsed}
 use Rattle.layout.specs.Served.{ServedBy}
 use Rattle.layout.specs.Changed.{irqEntered}
 use Rattle.layout.proofs.Of
-use Rattle.layout.proofs.RoundTrip.{live-positive}
 use Rattle.layout.proofs.Written.{word-length}
 use Rattle.layout.proofs.Irqs.{client-is, level-is, manner-is, granted-image, released-image}
 use Rattle.levels.specs.Places.{placeOf}
 use Rattle.answers.proofs.Serve.{left, refused-by, done-by}
 use Rattle.answers.proofs.Begin
-use Rattle.answers.proofs.Begin.{Begun, Begins}
+use Rattle.answers.proofs.Begin.{Begun, Begins, in-sockets, positive}
 use Rattle.irq.specs.Granting.{RecordSays}
 
 -- the rules, of a packet
@@ -70,25 +69,13 @@ enters-within b b₁ s client level size l e =
 
 -- the client is live and the socket is named: the socket's grant
 module _ (b p : List ℕ) (a : Accepted b) {n h s : ℕ} (begun : Begun b p n h s) where
-  pub in-sockets : s < Table.mostSockets
-  in-sockets = Begin.in-sockets b p a n h begun
-
-  -- what a socket's place asks of the table
-  pub in-table : (length b ≡ Layout.tableSize) × (s < Table.mostSockets)
-  in-table = (Of.size-in b a, in-sockets)
-
-  positive : 0 < h
-  positive = live-positive (a .formed) (Of.live-listed b a (begun .live .0) h (begun .live .1) (begun .live .2))
-
   free : (IrqUsed b s → ⊥) → a .facts .irq (socketOf p) ≡ none
-  free d = subst (λ (t : ℕ). a .facts .irq t ≡ none) (begun .socket .number) (go (Of.irq-of b a s in-sockets))
-    where
-      go : Of.GrantOf (λ (g : IrqGrant). g .client) (a .facts .irq s) (word b (irqPlace s)) → a .facts .irq s ≡ none
-      go (inl x) = x .0
-      go (inr x) = absurd (d (λ z. omega (arith, z, x .2, x .3)))
+  free d =
+      subst (λ (t : ℕ). a .facts .irq t ≡ none) (begun .socket .number)
+      (Of.none-said (λ (g : IrqGrant). g .client) (a .facts .irq s) (word b (irqPlace s)) (Of.irq-of b a s (in-sockets b p a begun)) d)
 
   grant-is : IrqUsed b s → a .facts .irq (socketOf p) ≡ some (irqIn b s)
-  grant-is u = subst (λ (t : ℕ). a .facts .irq t ≡ some (irqIn b s)) (begun .socket .number) (Of.irq-said b a s in-sockets u)
+  grant-is u = subst (λ (t : ℕ). a .facts .irq t ≡ some (irqIn b s)) (begun .socket .number) (Of.irq-said b a s (in-sockets b p a begun) u)
 
   used : a .facts .irq (socketOf p) ≡ none → IrqUsed b s → ⊥
   used e u = Option·none-ne-some (irqIn b s) (sym e ∙ grant-is u)
@@ -97,7 +84,7 @@ module _ (b p : List ℕ) (a : Accepted b) {n h s : ℕ} (begun : Begun b p n h 
   held : (l : ℕ) → RecordSays b s h l → IrqHeld (a .facts) h (socketOf p) l (irqIn b s)
   held l x =
       record {
-        live = grant-is (λ z. omega (arith, z, x .client, positive));
+        live = grant-is (λ z. omega (arith, z, x .client, positive b p a begun));
         client = client-is b s ∙ x .client;
         level = level-is b s ∙ x .level;
       }

@@ -49,26 +49,18 @@ const PULSE: usize = 6;
 
 const SHARE: usize = 7;
 
-// Whether the bit in a place is set.
-fn is_set(n: usize, place: usize) -> bool
-    requires { ⌜ place < 16 ⌝ }
-    ensures { λ r. ⌜ Says r (bit n place ≡ 1) ⌝ }
-{
-    (n >> place) % 2 == 1
-}
-
 fn attribute_set(p: &[u8], place: usize) -> bool
     requires { ⌜ (3 < length (now p)) × (place < 16) ⌝ }
     ensures { λ r. ⌜ Says r (bit (attributesOf (now (p .entry))) place ≡ 1) ⌝ }
 {
-    is_set(reading::word(p, ATTRIBUTES_AT), place)
+    reading::is_set(reading::word(p, ATTRIBUTES_AT), place)
 }
 
 fn info_set(p: &[u8], place: usize) -> bool
     requires { ⌜ (length (now p) ≡ requestIrqLength) × (place < 16) ⌝ }
     ensures { λ r. ⌜ Says r (bit (info1 (now (p .entry))) place ≡ 1) ⌝ }
 {
-    is_set(reading::byte(p, INFO_1_AT), place)
+    reading::is_set(reading::byte(p, INFO_1_AT), place)
 }
 
 pub fn type_asked(p: &[u8]) -> u8
@@ -241,7 +233,7 @@ pub fn names(p: &[u8], l: usize) -> bool
     ensures { λ r. ⌜ Says r (Named (now (p .entry)) l) ⌝ }
 {
     if info_set(p, MASK) {
-        return is_set(reading::word(p, INFO_2_AT), l);
+        return reading::is_set(reading::word(p, INFO_2_AT), l);
     }
     l == level_asked(p)
 }

@@ -41,11 +41,14 @@ pub extern "C" fn cs_call(table: &mut [u8], service: u16, handle: u16, packet: &
     let Loaded::Formed = scan::load(table) else {
         return unformed();
     };
-    // DeregisterClient, RegisterClient, ReleaseIRQ, RequestIRQ, RequestSocketMask, ReleaseSocketMask, AdjustResourceInfo, and every other number.
+    // DeregisterClient, RegisterClient; ReleaseIO, ReleaseIRQ, RequestIO, RequestIRQ; RequestSocketMask, ReleaseSocketMask; AdjustResourceInfo; every
+    // other number.
     match service {
         0x02 => answers::pack(clients::deregister(table, Handle(handle), packet)),
         0x10 => answers::pack(clients::register(table, packet)),
+        0x1B => answers::pack(io_ports::release(table, Handle(handle), packet)),
         0x1C => answers::pack(irq::release(table, Handle(handle), packet)),
+        0x1F => answers::pack(io_ports::request(table, Handle(handle), packet)),
         0x20 => answers::pack(irq::request(table, Handle(handle), packet)),
         0x22 => answers::pack(masks::request(table, Handle(handle), packet)),
         0x2F => answers::pack(masks::release(table, Handle(handle), packet)),

@@ -15,4 +15,6 @@ pub mod Changes
 pub mod Clients
 pub mod Managed
 pub mod Masks
+pub mod Entered
 pub mod Irqs
+pub mod Ios

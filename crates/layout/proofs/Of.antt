@@ -1,6 +1,6 @@
 -- What the bytes of an accepted table say of its facts. Assumes nothing.
 use mathlib.Core.Path.{_≡_, refl, ap, sym, _∙_, subst}
-use mathlib.Core.Logic.{_⊎_, inl, inr}
+use mathlib.Core.Logic.{_⊎_, inl, inr, _≢_}
 use mathlib.Core.List.{List}
 use mathlib.Core.Bool.{false}
 use mathlib.Core.Option.{Option, none, some, Option·some-injective, Option·none-ne-some}
@@ -29,6 +29,11 @@ use Rattle.layout.proofs.Grants.{no-client}
 -- there is no grant, and its record says no client; or there is one, and its record says whose
 abbrev pub GrantOf : {G : Type 0} → (G → ℕ) → Option G → ℕ → Type 0
 GrantOf {G} client o w = ((o ≡ none) × (w ≡ 0)) ⊎ ((g : G) × (o ≡ some g) × (w ≡ client g) × (0 < client g))
+
+-- a record that says no client is no grant's
+pub none-said : {G : Type 0} (client : G → ℕ) (o : Option G) (w : ℕ) → GrantOf client o w → (w ≢ 0 → ⊥) → o ≡ none
+none-said client o w (inl n) d = n .0
+none-said client o w (inr g) d = absurd (d (λ z. omega (arith, z, g .2, g .3)))
 
 module _ {G : Type 0} (client : G → ℕ) (o : Option G) (w h : ℕ) where
   -- a record that says a client is a grant of that client

@@ -5,12 +5,17 @@ use mathlib.Core.List.{List}
 use Prim.Native.Nat.{ℕ, _+_, _≤_, _<_}
 use lib.ListN.{length, getD, set}
 use Rattle.facts.specs.Packets.{byte, withWord}
-use Rattle.layout.specs.Reading.{clientPlace, irqPlace}
+use Rattle.layout.specs.Reading.{clientPlace, ioPlace, irqPlace}
 
 -- a new client in the place n: its record, the handles issued, the number of clients
 unfoldable pub entered : List ℕ → ℕ → ℕ → ℕ → ℕ → List ℕ
 entered b n h attributes events =
     set (withWord (withWord (withWord (withWord b (clientPlace n) h) (clientPlace n + 2) attributes) (clientPlace n + 4) events) 3 h) 1 (n + 1)
+
+-- the record of the I/O grant of the socket s: client, base, count, lines and shared mark
+unfoldable pub ioEntered : List ℕ → ℕ → ℕ → ℕ → ℕ → ℕ → ℕ → List ℕ
+ioEntered b s client base count lines shared =
+    set (set (set (withWord (withWord b (ioPlace s) client) (ioPlace s + 2) base) (ioPlace s + 4) count) (ioPlace s + 5) lines) (ioPlace s + 6) shared
 
 -- the record of the IRQ grant of the socket s: client, level and manner
 unfoldable pub irqEntered : List ℕ → ℕ → ℕ → ℕ → ℕ → List ℕ

@@ -1,2 +1,5 @@
--- Laws of the order of records. Assumes nothing.
+-- Laws of the order of records, of ranges that follow one another, of masks, and of what is wrong. Assumes nothing.
+pub mod Flaws
+pub mod Following
+pub mod Masks
 pub mod Order

@@ -1,10 +1,13 @@
--- The parts of soundness that one function each decides: clients and levels, and what lies past the last records. Assumes nothing.
+-- The parts of soundness that one function each decides: clients, levels and ranges, and what lies past the last records. Assumes nothing.
+use mathlib.Core.Path.{_≡_}
+use mathlib.Core.Logic.{_⊎_}
 use mathlib.Core.List.{List}
-use Prim.Native.Nat.{ℕ, _≤_, _<_}
+use Prim.Native.Nat.{ℕ, _+_, _≤_, _<_}
 use Rattle.facts.specs.Table
+use Rattle.facts.specs.Packets.{byte, word}
 use Rattle.layout.specs.Layout
-use Rattle.layout.specs.Reading.{clientsIn, rangesIn, issuedIn, handleIn, clientPlace, rangePlace}
-use Rattle.layout.specs.Sound.{Zero, LevelSound, MaskSound, handleBefore}
+use Rattle.layout.specs.Reading.{socketsIn, clientsIn, rangesIn, issuedIn, handleIn, clientPlace, maskPlace, rangePlace}
+use Rattle.layout.specs.Sound.{Zero, LevelSound, MaskSound, handleBefore, rangeBase, rangeCount}
 
 -- the records of all levels, and the masks of a client
 abbrev pub LevelsSound : List ℕ → Type 0
@@ -13,10 +16,29 @@ LevelsSound b = (l : ℕ) → l < Table.allLevels → LevelSound b l
 abbrev pub MasksSound : List ℕ → ℕ → Type 0
 MasksSound b i = (s : ℕ) → s < Table.mostSockets → MaskSound b i s
 
+-- a mask's word: none, or 4,096 and its events
+abbrev pub MaskFormed : ℕ → Type 0
+MaskFormed mask = (mask ≡ 0) ⊎ ((Table.allEvents ≤ mask) × (mask < Table.allEvents + Table.allEvents))
+
+-- each mask of the ith client is formed, and none is there for a socket from the count on
+abbrev pub MasksFormed : List ℕ → ℕ → Type 0
+MasksFormed b i = (s : ℕ) → s < Table.mostSockets → MaskFormed (word b (maskPlace i s))
+
+abbrev pub MasksEnd : List ℕ → ℕ → Type 0
+MasksEnd b i = (s : ℕ) → socketsIn b ≤ s → s < Table.mostSockets → word b (maskPlace i s) ≡ 0
+
 -- "live handles differ, aren't 0 and aren't over the number issued": the ith is over the one before it
 pub record HandleSound (b : List ℕ) (i : ℕ) : Type 0 where
   pub over : handleBefore b i < handleIn b i
   pub issued : handleIn b i ≤ issuedIn b
+
+-- the ith range starts at or past low and has a port, and its mark is one
+pub record RangeFollows (b : List ℕ) (low i : ℕ) : Type 0 where
+  pub from : low ≤ rangeBase b i
+  pub port : 1 ≤ rangeCount b i
+
+abbrev pub RangeMarked : List ℕ → ℕ → Type 0
+RangeMarked b i = byte b (rangePlace i + 6) ≤ 1
 
 -- what no client and no range uses is zero
 pub record EndsSound (b : List ℕ) : Type 0 where

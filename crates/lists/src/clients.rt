@@ -1,6 +1,5 @@
 // The clients: their records, in the order of their handles.
 use facts::Handle;
-use facts::Socket;
 use layout::ALL_EVENTS;
 use layout::CLIENT_ATTRIBUTES;
 use layout::CLIENT_EVENTS;
@@ -13,49 +12,65 @@ use layout::MASK_SIZE;
 use layout::MOST_SOCKETS;
 use layout::SOCKETS_IN;
 ghost use mathlib.Core.Path.{_≡_};
-ghost use Prim.Native.Nat.{_<_, _≤_};
+ghost use Prim.Native.Nat.{_+_, _*_, _<_, _≤_};
+ghost use lib.Dec.{eqb};
 ghost use lib.ListN.{length};
 ghost use Rattle.facts.specs.Table;
 ghost use Rattle.facts.specs.Says.{Says};
 ghost use Rattle.layout.specs.Layout.{tableSize};
 ghost use Rattle.layout.specs.Reading.{clientsIn};
-ghost use Rattle.layout.specs.Sound.{MaskSound, ClientSound, handleBefore, ClientsSound};
-ghost use Rattle.lists.specs.Parts.{MasksSound, HandleSound};
+ghost use Rattle.layout.specs.Sound.{ClientSound, handleBefore, ClientsSound};
+ghost use Rattle.lists.specs.Parts.{MaskFormed, MasksFormed, MasksEnd, MasksSound, HandleSound};
 
-// A socket's mask is 0, or 4,096 and itself.
-const ALL_MASKS: usize = ALL_EVENTS + ALL_EVENTS;
+// A mask is 0 where there is none, or 4,096 and its events: of its second byte, the upper half is then 1.
+const HALF_BYTE: u8 = 16;
 
-// A client's mask at the socket `s`: none, or one at a socket below the count.
-fn mask_sound(t: &[u8], i: usize, s: Socket) -> bool
-    requires { ⌜ (length (now t) ≡ tableSize) × (i < Table.mostClients) × (s .0 < Table.mostSockets) ⌝ }
-    ensures { λ r. ⌜ Says r (MaskSound (now (t .entry)) i (s .0)) ⌝ }
+// What is wrong with a mask of two bytes: 0 if nothing is.
+fn mask_flaw(low: u8, high: u8) -> u8
+    ensures { λ r. ⌜ Says (eqb r 0) (MaskFormed (low + 256 * high)) ⌝ }
 {
-    let number = s.0;
-    let at = CLIENTS_AT + i * CLIENT_SIZE + CLIENT_MASKS + number * MASK_SIZE;
-    let mask = reading::word(t, at);
-    if mask == 0 {
-        return true;
+    if high / HALF_BYTE == 1 {
+        return 0;
     }
-    if mask < ALL_EVENTS {
-        return false;
-    }
-    if ALL_MASKS <= mask {
-        return false;
-    }
-    let sockets = reading::byte(t, SOCKETS_IN);
-    number < sockets
+    low | high
 }
 
+// Whether each of a client's masks is formed: what is wrong with any of them or-ed together, with no early exit.
+fn masks_formed(t: &[u8], i: usize) -> bool
+    requires { ⌜ (length (now t) ≡ tableSize) × (i < Table.mostClients) ⌝ }
+    ensures { λ r. ⌜ Says r (MasksFormed (now (t .entry)) i) ⌝ }
+{
+    let at = CLIENTS_AT + i * CLIENT_SIZE + CLIENT_MASKS;
+    let mut flaws: u8 = 0;
+    for s in 0..MOST_SOCKETS {
+        let mask = at + s * MASK_SIZE;
+        flaws = flaws | mask_flaw(t[mask], t[mask + 1]);
+    }
+    flaws == 0
+}
+
+// Whether a client has no mask at a socket from the count on.
+fn masks_end(t: &[u8], i: usize) -> bool
+    requires { ⌜ (length (now t) ≡ tableSize) × (i < Table.mostClients) ⌝ }
+    ensures { λ r. ⌜ Says r (MasksEnd (now (t .entry)) i) ⌝ }
+{
+    let sockets = reading::byte(t, SOCKETS_IN);
+    if MOST_SOCKETS <= sockets {
+        return true;
+    }
+    let at = CLIENTS_AT + i * CLIENT_SIZE + CLIENT_MASKS;
+    reading::zero(t, at + sockets * MASK_SIZE, at + MOST_SOCKETS * MASK_SIZE)
+}
+
+// A client's masks: at each socket none, or one at a socket below the count.
 fn masks_sound(t: &[u8], i: usize) -> bool
     requires { ⌜ (length (now t) ≡ tableSize) × (i < Table.mostClients) ⌝ }
     ensures { λ r. ⌜ Says r (MasksSound (now (t .entry)) i) ⌝ }
 {
-    for s in 0..MOST_SOCKETS {
-        if !mask_sound(t, i, Socket(s)) {
-            return false;
-        }
+    if !masks_formed(t, i) {
+        return false;
     }
-    true
+    masks_end(t, i)
 }
 
 // The handle of the client listed before the client `i`, or 0.

@@ -45,5 +45,5 @@ pub fn ends_sound(t: &[u8]) -> bool
         return false;
     }
     let ranges_end = RANGES_AT + reading::byte(t, RANGES_IN) * RANGE_SIZE;
-    reading::zero(t, ranges_end, TABLE_SIZE)
+    reading::stretch_zero(t, ranges_end, TABLE_SIZE)
 }

@@ -3,37 +3,36 @@ use layout::ALL_LEVELS;
 use layout::LEVEL_RESERVED;
 use layout::LEVEL_SIZE;
 use layout::LEVELS_AT;
-use layout::MARKED;
 ghost use mathlib.Core.Path.{_≡_};
-ghost use Prim.Native.Nat.{_<_};
+ghost use Prim.Native.Nat.{_≤_};
+ghost use lib.Dec.{eqb};
 ghost use lib.ListN.{length};
-ghost use Rattle.facts.specs.Table;
 ghost use Rattle.facts.specs.Says.{Says};
 ghost use Rattle.layout.specs.Layout.{tableSize};
-ghost use Rattle.layout.specs.Sound.{LevelSound};
 ghost use Rattle.lists.specs.Parts.{LevelsSound};
 
-// "an unmanaged level isn't reserved"
-fn level_sound(t: &[u8], l: usize) -> bool
-    requires { ⌜ (length (now t) ≡ tableSize) × (l < Table.allLevels) ⌝ }
-    ensures { λ r. ⌜ Says r (LevelSound (now (t .entry)) l) ⌝ }
+// A mark is one of two numbers, 0 and 1.
+pub const MARKS: u8 = 2;
+
+// "an unmanaged level isn't reserved": what is wrong with a level's two marks, 0 if nothing is.
+fn level_flaw(managed: u8, reserved: u8) -> u8
+    ensures { λ r. ⌜ Says (eqb r 0) ((managed ≤ 1) × (reserved ≤ managed)) ⌝ }
 {
-    let at = LEVELS_AT + l * LEVEL_SIZE;
-    let managed = reading::byte(t, at);
-    if MARKED < managed {
-        return false;
+    if managed < reserved {
+        return 1;
     }
-    reading::byte(t, at + LEVEL_RESERVED) <= managed
+    managed / MARKS
 }
 
+// What is wrong with any of the levels or-ed together, with no early exit.
 pub fn levels_sound(t: &[u8]) -> bool
     requires { ⌜ length (now t) ≡ tableSize ⌝ }
     ensures { λ r. ⌜ Says r (LevelsSound (now (t .entry))) ⌝ }
 {
+    let mut flaws: u8 = 0;
     for l in 0..ALL_LEVELS {
-        if !level_sound(t, l) {
-            return false;
-        }
+        let at = LEVELS_AT + l * LEVEL_SIZE;
+        flaws = flaws | level_flaw(t[at], t[at + LEVEL_RESERVED]);
     }
-    true
+    flaws == 0
 }

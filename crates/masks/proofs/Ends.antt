@@ -45,7 +45,7 @@ module _ (b p : List ℕ) (a : Accepted b) {n h s : ℕ} (begun : Begun b p n h 
   place = begun .live .0
 
   pub in-sockets : s < Table.mostSockets
-  in-sockets = Begin.in-sockets b p a n h begun
+  in-sockets = Begin.in-sockets b p a begun
 
   -- what the mask's place asks of the table
   pub in-table : (length b ≡ Layout.tableSize) × (place < Table.mostClients) × (s < Table.mostSockets)

@@ -2,7 +2,7 @@
 use mathlib.Core.Path.{_≡_, refl, ap, ap₂, sym, _∙_, subst}
 use mathlib.Core.Logic.{inl, inr, ⊎-elim, _≢_}
 use mathlib.Core.List.{List}
-use mathlib.Core.Bool.{Bool, true, false≢true}
+use mathlib.Core.Bool.{Bool}
 use Prim.Native.Nat.{ℕ}
 use native.Mathlib.Omega.{arith}
 use Rattle.facts.specs.declared.Code.{Code}
@@ -10,13 +10,13 @@ use Rattle.facts.specs.declared.Code.the-variants.{Success}
 use Rattle.facts.specs.Codes.{numberOf}
 use Rattle.facts.specs.Table.{Facts, fresh}
 use Rattle.facts.specs.WellFormed.{WellFormed}
+use Rattle.facts.specs.Packets.{Bytes}
 use Rattle.facts.specs.Checks.{Outcome}
 use Rattle.facts.specs.Irq.{Count, Sharers}
 use Rattle.facts.specs.Sockets.{CardOutcome, CardTo}
 use Rattle.facts.specs.Boot.{Booted, Boot, stopped, recordsAdded}
-use Rattle.facts.specs.Services.{Service, registerClient, deregisterClient, adjustResourceInfo, requestIrq, releaseIrq, requestIo, releaseIo}
-use Rattle.facts.specs.Services.{requestSocketMask, releaseSocketMask, ruleOf, Call}
-use Rattle.facts.specs.Laws.{BytesFor, Coincide}
+use Rattle.facts.specs.Services.{Call}
+use Rattle.facts.specs.Laws.{Coincide}
 use Rattle.facts.proofs.Codes.{code-byte}
 use Rattle.facts.proofs.Unique.{call-unique}
 use Rattle.facts.proofs.Refusals.{call-refusal-keeps}
@@ -27,7 +27,7 @@ use Rattle.layout.specs.Served.{Served, TableRefused}
 use Rattle.layout.proofs.Accepts.{one-set}
 use Rattle.answers.specs.Answers.{packed}
 use Rattle.boot.specs.Booting.{placed}
-use Rattle.promises.specs.Entries.{built, CallPermitted, CardPermitted, SharersPermitted, BootPermitted, CallAnswers, CardAnswers}
+use Rattle.promises.specs.Entries.{CallPermitted, CardPermitted, SharersPermitted, BootPermitted, CallAnswers, CardAnswers}
 use Rattle.promises.specs.Entries.{SharersAnswers, FreshAnswers, BootAnswers}
 use Rattle.promises.specs.Laws.{Laws, TakenApart, CallLaws, CardLaws, SharersLaws, FreshLaws, BootLaws}
 
@@ -61,10 +61,10 @@ one-unformed u v = (u .code-is ∙ sym (v .code-is), u .table ∙ sym (v .table)
 -- cs_call
 module _ (service handle : ℕ) (b p : List ℕ) where
   abbrev Calls : Facts → Outcome → Type 0
-  Calls F = Call built service F handle p
+  Calls F = Call service F handle p
 
   calls-one : (F : Facts) → WellFormed F → Coincide (Calls F)
-  calls-one F w = call-unique F handle p (w .apart) built service
+  calls-one F w = call-unique F handle p (w .apart) service
 
   call-one : (b₁ b₂ p₁ p₂ : List ℕ) (r₁ r₂ : ℕ) → CallAnswers service handle b b₁ p p₁ r₁ → CallAnswers service handle b b₂ p p₂ r₂
       → (r₁ ≡ r₂) × (p₁ ≡ p₂) × (b₁ ≡ b₂)
@@ -89,32 +89,22 @@ module _ (service handle : ℕ) (b p : List ℕ) where
   call-refusal : (b₁ p₁ : List ℕ) (r : ℕ) (x : CallAnswers service handle b b₁ p p₁ r) → x .code ≢ Success → (x .answered ≡ 0) × (p₁ ≡ p) × (b₁ ≡ b)
   call-refusal b₁ p₁ r x d =
       ⊎-elim
-      (λ s. let k = call-refusal-keeps (s .accepted .facts) handle p built service _ (s .rule) d in
+      (λ s. let k = call-refusal-keeps (s .accepted .facts) handle p service _ (s .rule) d in
       (k .handle, k .packet, sym (s .table) ∙ ap image (k .facts) ∙ s .accepted .is))
       (λ u. (u .1, u .2, u .0 .table)) (x .permitted)
 
-  -- a built service leaves well-formed facts, and so does a number that is none's
-  service-stays : (F : Facts) (o : Outcome) → WellFormed F → (v : Service) → built v ≡ true → ruleOf v F handle p o → WellFormed (o .facts)
-  service-stays F o w v t = service-laws .stays-formed v F handle p o w (bytes v t)
-    where
-      bytes : (v : Service) → built v ≡ true → BytesFor v p
-      bytes registerClient t = tt
-      bytes deregisterClient t = tt
-      bytes adjustResourceInfo t = tt
-      bytes requestIrq t = tt
-      bytes releaseIrq t = tt
-      bytes requestIo t = absurd (false≢true t)
-      bytes releaseIo t = tt
-      bytes requestSocketMask t = tt
-      bytes releaseSocketMask t = tt
-
-  rule-stays : (F : Facts) (o : Outcome) → WellFormed F → Calls F o → WellFormed (o .facts)
-  rule-stays F o w (inl x) = service-stays F o w (x .0 .service) (x .0 .is-built) (x .1)
-  rule-stays F o w (inr x) = subst WellFormed (sym (x .2 .facts)) w
+  -- a service leaves well-formed facts, and so does a number that is none's
+  rule-stays : (F : Facts) (o : Outcome) → WellFormed F → Bytes p → Calls F o → WellFormed (o .facts)
+  rule-stays F o w bytes (inl x) = service-laws .stays-formed (x .0 .service) F handle p o w bytes (x .1)
+  rule-stays F o w bytes (inr x) = subst WellFormed (sym (x .2 .facts)) w
 
   call-stays : (b₁ p₁ : List ℕ) (r : ℕ) → Accepted b → CallAnswers service handle b b₁ p p₁ r → Accepted b₁
   call-stays b₁ p₁ r a x =
-      ⊎-elim (λ s. record { facts = s .after; formed = rule-stays (s .accepted .facts) _ (s .accepted .formed) (s .rule); is = s .table })
+      ⊎-elim (λ s. record {
+        facts = s .after;
+        formed = rule-stays (s .accepted .facts) _ (s .accepted .formed) (x .bytes) (s .rule);
+        is = s .table;
+      })
       (λ u. absurd (u .0 .unformed a)) (x .permitted)
 
   call-laws : CallLaws service handle b p

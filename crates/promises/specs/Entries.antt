@@ -2,7 +2,7 @@
 use mathlib.Core.Path.{_≡_}
 use mathlib.Core.Logic.{_⊎_}
 use mathlib.Core.List.{List}
-use mathlib.Core.Bool.{Bool, true, false}
+use mathlib.Core.Bool.{Bool}
 use Prim.Native.Nat.{ℕ, _≤_}
 use lib.ListN.{length}
 use Rattle.facts.specs.declared.Code.{Code}
@@ -10,10 +10,10 @@ use Rattle.facts.specs.declared.Code.the-variants.{Success, GeneralFailure}
 use Rattle.facts.specs.Codes.{numberOf}
 use Rattle.facts.specs.Table
 use Rattle.facts.specs.Table.{Facts, fresh}
+use Rattle.facts.specs.Packets.{Bytes}
 use Rattle.facts.specs.Irq.{Sharers}
 use Rattle.facts.specs.Boot.{Boot, stopped}
-use Rattle.facts.specs.Services.{Service, registerClient, deregisterClient, adjustResourceInfo, requestIrq, releaseIrq, requestIo, releaseIo}
-use Rattle.facts.specs.Services.{requestSocketMask, releaseSocketMask, Call}
+use Rattle.facts.specs.Services.{Call}
 use Rattle.facts.specs.Sockets.{CardTo}
 use Rattle.layout.specs.Layout
 use Rattle.layout.specs.Layout.{image}
@@ -22,28 +22,18 @@ use Rattle.layout.specs.Served.{Served, ServedBy, TableRefused}
 use Rattle.answers.specs.Answers.{packed}
 use Rattle.boot.specs.Booting.{placed}
 
--- the services that are built today; the others of document 01 answer as not built
-abbrev pub built : Service → Bool
-built registerClient = true
-built deregisterClient = true
-built adjustResourceInfo = true
-built requestIrq = true
-built releaseIrq = true
-built requestIo = false
-built releaseIo = false
-built requestSocketMask = true
-built releaseSocketMask = true
-
 -- cs_call: the service rules, and leaves the table b′ and the packet p′; or the table b is refused
 abbrev pub CallPermitted : ℕ → ℕ → List ℕ → List ℕ → List ℕ → List ℕ → Code → ℕ → Type 0
 CallPermitted service handle b b′ p p′ code answered =
-    ServedBy (λ (F : Facts). Call built service F handle p) b b′ p′ code answered
+    ServedBy (λ (F : Facts). Call service F handle p) b b′ p′ code answered
     ⊎ (TableRefused b b′ code × (answered ≡ 0) × (p′ ≡ p))
 
 pub record CallAnswers (service handle : ℕ) (b b′ p p′ : List ℕ) (r : ℕ) : Type 0 where
   pub code : Code
   pub answered : ℕ
   pub packs : r ≡ packed code answered
+  -- what is lent as a packet are bytes
+  pub bytes : Bytes p
   pub permitted : CallPermitted service handle b b′ p p′ code answered
 
 -- cs_card_in and cs_card_out: a code

@@ -1,8 +1,9 @@
 -- A walk past the managed ports, one range after the other, decides whether a run of ports is managed. Assumes nothing.
-use mathlib.Core.Path.{sym, subst}
-use mathlib.Core.Logic.{inl, inr}
+use mathlib.Core.Path.{_≡_, sym, ap, subst}
+use mathlib.Core.Logic.{_⊎_, inl, inr}
 use mathlib.Core.List.{List}
 use Prim.Native.Nat.{ℕ, _+_, _≤_, _<_}
+use native.Mathlib.Nat.{eq-or-lt-of-le}
 use native.Mathlib.Decide.{decLt}
 use native.Mathlib.Omega.{arith}
 use borrow.Author.Tests.{leb-true, leb-false}
@@ -12,7 +13,6 @@ use Rattle.facts.specs.Ports.{Within}
 use Rattle.layout.specs.Reading.{rangesIn}
 use Rattle.layout.specs.Sound.{ManagedIn, RangesSound, rangeBase, rangeCount}
 use Rattle.layout.proofs.Managed.{rangeEnd, ends-before}
-use Rattle.reading.specs.Finding.{Passes}
 use Rattle.reading.proofs.All.{All, all-none, all-more}
 
 -- from base on every port before p is managed, and p is in none of the first i ranges
@@ -25,8 +25,9 @@ pub passed-none : (b : List ℕ) (base : ℕ) → Passed b base base 0
 passed-none b base = record { from = omega arith; behind = λ q f l. absurd (omega arith); clear = all-none _ }
 
 module _ (b : List ℕ) (base p i : ℕ) (g : Passed b base p i) where
-  stay : (Within p (rangeBase b i) (rangeCount b i) → ⊥) → Passed b base p (i + 1)
-  stay n = record { from = g .from; behind = g .behind; clear = all-more (g .clear) n }
+  -- the range ends at or before p
+  pub passed-stay : rangeEnd b i ≤ p → Passed b base p (i + 1)
+  passed-stay h = record { from = g .from; behind = g .behind; clear = all-more (g .clear) (λ v. omega (arith, v .below)) }
 
   module _ (s : RangesSound b) (h : i < rangesIn b) (w : Within p (rangeBase b i) (rangeCount b i)) where
     behind-end : (q : ℕ) → base ≤ q → q < rangeEnd b i → ManagedIn b q
@@ -39,12 +40,13 @@ module _ (b : List ℕ) (base p i : ℕ) (g : Passed b base p i) where
     clear-end : All i (λ j. Within (rangeEnd b i) (rangeBase b j) (rangeCount b j) → ⊥)
     clear-end j l v = omega (arith, ends-before b s j i l h, v .below)
 
-    move : Passed b base (rangeEnd b i) (i + 1)
-    move = record { from = omega arith; behind = behind-end; clear = all-more clear-end (λ v. omega (arith, v .below)) }
+    pub passed-move : (next : ℕ) → next ≡ rangeEnd b i → Passed b base next (i + 1)
+    passed-move next e =
+        subst (λ (q : ℕ). Passed b base q (i + 1)) (sym e)
+        (record { from = omega arith; behind = behind-end; clear = all-more clear-end (λ v. omega (arith, v .below)) })
 
-  pub passed-more : RangesSound b → i < rangesIn b → (r : ℕ) → Passes p (rangeBase b i) (rangeCount b i) r → Passed b base r (i + 1)
-  passed-more s h r (inl x) = subst (λ (q : ℕ). Passed b base q (i + 1)) (sym (x .1)) (move s h (x .0))
-  passed-more s h r (inr x) = subst (λ (q : ℕ). Passed b base q (i + 1)) (sym (x .1)) (stay (x .0))
+    pub passed-found : (count : ℕ) → base + count ≤ rangeEnd b i → (q : ℕ) → Within q base count → ManagedIn b q
+    passed-found count l q v = behind-end q (v .from) (omega (arith, v .below))
 
   pub passed-says : rangesIn b ≤ i → (count : ℕ) → Says (leb (base + count) p) ((q : ℕ) → Within q base count → ManagedIn b q)
   passed-says h count =
@@ -55,3 +57,15 @@ module _ (b : List ℕ) (base p i : ℕ) (g : Passed b base p i) where
             let x : ManagedIn b p = m p (record { from = g .from; below = l }) in
             g .clear (x .0) (omega (arith, x .1)) (x .2);
       }
+
+-- a range starts past p, so those that follow it do
+pub passed-stop : (b : List ℕ) (base p i : ℕ) → Passed b base p i → RangesSound b → i < rangesIn b → p < rangeBase b i → Passed b base p (rangesIn b)
+passed-stop b base p i g s h l = record { from = g .from; behind = g .behind; clear = λ j m v. go j m v (decLt j i) }
+  where
+    later : (j : ℕ) → j < rangesIn b → Within p (rangeBase b j) (rangeCount b j) → (i ≡ j) ⊎ (i < j) → ⊥
+    later j m v (inl e) = let same : rangeBase b i ≡ rangeBase b j = ap (rangeBase b) e in omega (arith, same, v .from)
+    later j m v (inr n) = omega (arith, ends-before b s i j n m, v .from)
+
+    go : (j : ℕ) → j < rangesIn b → Within p (rangeBase b j) (rangeCount b j) → Dec (j < i) → ⊥
+    go j m v (yes n) = g .clear j n v
+    go j m v (no n) = later j m v (eq-or-lt-of-le (omega arith))

@@ -1,16 +1,17 @@
--- Bytes or-ed together are zero exactly if each of them is; and a record of a grant is used or zero. Assumes nothing.
-use mathlib.Core.Path.{_≡_, _∙_, ap, refl}
-use mathlib.Core.Logic.{_⊎_, inl, inr, ⊎-elim, _≢_}
+-- Numbers or-ed together are zero exactly if each of them is, and so are bytes; and a record of a grant is used or zero. Assumes nothing.
+use mathlib.Core.Path.{_≡_, _∙_, ap}
+use mathlib.Core.Logic.{_⊎_, inr, ⊎-elim, _≢_}
 use mathlib.Core.List.{List}
 use mathlib.Core.Bool.{Bool, false}
 use Prim.Native.Nat.{ℕ, _+_, _≤_, _<_}
-use native.Mathlib.Nat.{eq-or-lt-of-le}
+use native.Mathlib.Decide.{ℕ-discrete, decLt}
 use native.Mathlib.Omega.{arith}
+use borrow.Author.Tests.{eq-eqb, ne-eqb}
 use lib.Bits.{bitOr, or-add-and, and-le-l, and-le-r}
 use lib.Dec.{eqb}
 use Rattle.facts.specs.Says.{Says}
 use Rattle.facts.specs.Packets.{byte}
-use Rattle.facts.proofs.Says.{says-false, says-as, says-eq}
+use Rattle.facts.proofs.Says.{says-true, says-false, says-as, says-eq}
 use Rattle.layout.specs.Sound.{Zero, LiveIn, ClientsSound}
 
 or-zero-left : (x y : ℕ) → bitOr x y ≡ 0 → x ≡ 0
@@ -22,31 +23,59 @@ or-zero-right x y e = omega (arith, or-add-and x y, and-le-l x y)
 or-zero : (x y : ℕ) → x ≡ 0 → y ≡ 0 → bitOr x y ≡ 0
 or-zero x y p q = omega (arith, or-add-and x y)
 
+-- a number is zero where what its being zero says is so
+zero-where : (n : ℕ) {P : Type 0} → Says (eqb n 0) P → P → n ≡ 0
+zero-where n s p = go (ℕ-discrete n 0)
+  where
+    go : Dec (n ≡ 0) → n ≡ 0
+    go (yes e) = e
+    go (no d) = absurd (s .fails (ne-eqb n 0 d) p)
+
+pub or-says : (x y : ℕ) {P Q : Type 0} → Says (eqb x 0) P → Says (eqb y 0) Q → Says (eqb (bitOr x y) 0) (P × Q)
+or-says x y p q =
+    says-as (says-eq (bitOr x y) 0)
+    (λ e. (p .holds (eq-eqb x 0 (or-zero-left x y e)), q .holds (eq-eqb y 0 (or-zero-right x y e))))
+    (λ h. or-zero x y (zero-where x p (h .0)) (zero-where y q (h .1)))
+
+-- a stretch of two parts is zero exactly if both are
+module _ (b : List ℕ) (from mid to : ℕ) (f : from ≤ mid) (l : mid ≤ to) where
+  pub zero-joined : Zero b from mid → Zero b mid to → Zero b from to
+  zero-joined z z′ i h m = go (decLt i mid)
+    where
+      go : Dec (i < mid) → byte b i ≡ 0
+      go (yes n) = z i h n
+      go (no n) = z′ i (omega arith) m
+
+  zero-before : Zero b from to → Zero b from mid
+  zero-before z i h m = z i h (omega arith)
+
+  zero-after : Zero b from to → Zero b mid to
+  zero-after z i h m = z i (omega arith) m
+
 -- the number is zero exactly if the bytes from one place up to another are
 pub record Gathered (b : List ℕ) (from to all : ℕ) : Type 0 where
-  pub only : all ≡ 0 → Zero b from to
-  pub each : Zero b from to → all ≡ 0
+  pub says : Says (eqb all 0) (Zero b from to)
 
-module _ (b : List ℕ) (from : ℕ) where
-  pub gathered-none : Gathered b from from 0
-  gathered-none = record { only = λ e i f l. absurd (omega arith); each = λ z. refl }
+pub gathered-none : (b : List ℕ) (from to : ℕ) → to ≡ from → Gathered b from to 0
+gathered-none b from to e = record { says = says-true (λ i f l. absurd (omega arith)) }
 
-  zero-more : (i : ℕ) → Zero b from i → byte b i ≡ 0 → Zero b from (i + 1)
-  zero-more i z e k f l = go (eq-or-lt-of-le (omega arith))
-    where
-      go : (k ≡ i) ⊎ (k < i) → byte b k ≡ 0
-      go (inl s) = ap (byte b) s ∙ e
-      go (inr l′) = z k f l′
+pub gathered-joined : (b : List ℕ) (from mid to x y : ℕ) → from ≤ mid → mid ≤ to → Gathered b from mid x → Gathered b mid to y
+    → Gathered b from to (bitOr x y)
+gathered-joined b from mid to x y f l g g′ =
+    record {
+      says = says-as (or-says x y (g .says) (g′ .says)) (λ z. zero-joined b from mid to f l (z .0) (z .1))
+          (λ z. (zero-before b from mid to f l z, zero-after b from mid to f l z));
+    }
 
-  pub gathered-more : (i all : ℕ) → from ≤ i → Gathered b from i all → Gathered b from (i + 1) (bitOr all (byte b i))
-  gathered-more i all h g =
-      record {
-        only = λ e. zero-more i (g .only (or-zero-left all (byte b i) e)) (or-zero-right all (byte b i) e);
-        each = λ z. or-zero all (byte b i) (g .each (λ k f l. z k f (omega arith))) (z i h (omega arith));
-      }
+pub gathered-more : (b : List ℕ) (from i next all : ℕ) → from ≤ i → next ≡ i + 1 → Gathered b from i all
+    → Gathered b from next (bitOr all (byte b i))
+gathered-more b from i next all h e g = gathered-joined b from i next all (byte b i) h (omega arith) g here
+  where
+    here : Gathered b i next (byte b i)
+    here = record { says = says-as (says-eq (byte b i) 0) (λ z k f l. ap (byte b) (omega arith) ∙ z) (λ z. z i (omega arith) (omega arith)) }
 
-  pub gathered-says : (i to all : ℕ) → i ≡ to → Gathered b from i all → Says (eqb all 0) (Zero b from to)
-  gathered-says i to all s g = rw s at (says-as (says-eq all 0) (g .only) (g .each))
+pub gathered-says : (b : List ℕ) (from i to all : ℕ) → i ≡ to → Gathered b from i all → Says (eqb all 0) (Zero b from to)
+gathered-says b from i to all s g = rw s at (g .says)
 
 -- a record that is zero, or is used and is P: where it isn't zero, P decides
 module _ {Zeroed Used P : Type 0} (not-zero : Zeroed → ⊥) where

@@ -12,7 +12,7 @@ use layout::RANGE_SIZE;
 use layout::RANGES_AT;
 use layout::RANGES_IN;
 ghost use mathlib.Core.Path.{_≡_};
-ghost use Prim.Native.Nat.{ℕ, _+_, _<_, _≤_};
+ghost use Prim.Native.Nat.{ℕ, _+_, _*_, _<_, _≤_};
 ghost use lib.ListN.{length};
 ghost use Rattle.facts.specs.Table;
 ghost use Rattle.facts.specs.Says.{Says};
@@ -22,7 +22,7 @@ ghost use Rattle.facts.specs.WellFormed.{AttributesAllowed};
 ghost use Rattle.layout.specs.Layout.{tableSize};
 ghost use Rattle.layout.specs.Reading.{clientsIn, rangesIn, mannerOf};
 ghost use Rattle.layout.specs.Sound.{Zero, LiveIn, MaskUsed, ManagedIn, RangesSound, rangeBase, rangeCount, endBefore};
-ghost use Rattle.reading.specs.Finding.{Finds, Passes};
+ghost use Rattle.reading.specs.Finding.{Finds};
 
 // How many numbers one byte and two bytes hold.
 const ALL_BYTES: usize = 256;
@@ -30,6 +30,11 @@ const ALL_BYTES: usize = 256;
 const ALL_WORDS: usize = 65536;
 
 const WORD_SIZE: usize = 2;
+
+// Quarters of a long stretch start at multiples of this many bytes.
+const STEP: usize = 64;
+
+const QUARTERS: usize = 4;
 
 // A client's attributes are five bits, of which the lowest three say its type.
 const ALL_ATTRIBUTES: usize = 32;
@@ -70,6 +75,14 @@ pub fn handle(t: &[u8], at: usize) -> Handle
     Handle(word(t, at) as u16)
 }
 
+// Whether the bit in a place is set.
+pub fn is_set(n: usize, place: usize) -> bool
+    requires { ⌜ place < 16 ⌝ }
+    ensures { λ r. ⌜ Says r (Packets.bit n place ≡ 1) ⌝ }
+{
+    (n >> place) % 2 == 1
+}
+
 // Whether the bytes from one place up to another are zero: all of them or-ed together, with no early exit.
 pub fn zero(t: &[u8], from: usize, to: usize) -> bool
     requires { ⌜ (from ≤ to) × (to ≤ length (now t)) ⌝ }
@@ -82,6 +95,48 @@ pub fn zero(t: &[u8], from: usize, to: usize) -> bool
         i += 1;
     }
     all == 0
+}
+
+// Whether four stretches of one size, one after the other, are zero: each or-ed together by itself, and all four at a time.
+fn quarters_zero(t: &[u8], from: usize, size: usize) -> bool
+    requires { ⌜ from + 4 * size ≤ length (now t) ⌝ }
+    ensures { λ r. ⌜ Says r (Zero (now (t .entry)) from (from + 4 * size)) ⌝ }
+{
+    let second = from + size;
+    let third = second + size;
+    let fourth = third + size;
+    let mut all: u8 = 0;
+    let mut all2: u8 = 0;
+    let mut all3: u8 = 0;
+    let mut all4: u8 = 0;
+    let mut i = 0;
+    while i < size {
+        all = all | t[from + i];
+        all2 = all2 | t[second + i];
+        all3 = all3 | t[third + i];
+        all4 = all4 | t[fourth + i];
+        i += 1;
+    }
+    all | all2 | all3 | all4 == 0
+}
+
+// Whether the bytes of a long stretch are zero: four quarters from the first place on that `STEP` divides, and what lies before and after them.
+pub fn stretch_zero(t: &[u8], from: usize, to: usize) -> bool
+    requires { ⌜ (length (now t) ≡ tableSize) × (from ≤ to) × (to ≤ tableSize) ⌝ }
+    ensures { λ r. ⌜ Says r (Zero (now (t .entry)) from to) ⌝ }
+{
+    let start = (from + STEP - 1) / STEP * STEP;
+    if to < start {
+        return zero(t, from, to);
+    }
+    if !zero(t, from, start) {
+        return false;
+    }
+    let size = (to - start) / (QUARTERS * STEP) * STEP;
+    if !quarters_zero(t, start, size) {
+        return false;
+    }
+    zero(t, start + QUARTERS * size, to)
 }
 
 // "Attribute bits or client types that 5.37 doesn't allow": one of bits 0 to 2, any of bits 3 and 4, no other.
@@ -182,22 +237,8 @@ pub fn end_before(t: &[u8], i: usize) -> usize
     range_end(t, i - 1)
 }
 
-// The port after the range `i`, where `p` is one of its ports, and else `p`.
-fn past(t: &[u8], i: usize, p: usize) -> usize
-    requires { ⌜ (length (now t) ≡ tableSize) × (i < Table.mostRanges) ⌝ }
-    ensures { λ r. ⌜ Passes p (rangeBase (now (t .entry)) i) (rangeCount (now (t .entry)) i) r ⌝ }
-{
-    let end = range_end(t, i);
-    if p < word(t, RANGES_AT + i * RANGE_SIZE) {
-        return p;
-    }
-    if end <= p {
-        return p;
-    }
-    end
-}
-
-// Whether all the ports are managed: one pass over the ranges, which are in order, past every port that is.
+// Whether all the ports are managed: one pass over the ranges, which are in order. `p` is the first port that no range passed has; where a range
+// starts past it, no range that follows has it.
 pub fn managed(t: &[u8], base: usize, count: usize) -> bool
     requires { ⌜ (length (now t) ≡ tableSize) × (rangesIn (now t) ≤ Table.mostRanges) × RangesSound (now t) ⌝ }
     requires { ⌜ (base < Table.allPorts) × (count ≤ Table.allPorts) ⌝ }
@@ -207,10 +248,17 @@ pub fn managed(t: &[u8], base: usize, count: usize) -> bool
     let end = base + count;
     let mut p = base;
     for i in 0..ranges {
-        if end <= p {
+        let next = range_end(t, i);
+        if next <= p {
+            continue;
+        }
+        if p < word(t, RANGES_AT + i * RANGE_SIZE) {
+            return end <= p;
+        }
+        if end <= next {
             return true;
         }
-        p = past(t, i, p);
+        p = next;
     }
     end <= p
 }

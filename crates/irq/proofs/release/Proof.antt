@@ -17,9 +17,9 @@ use Rattle.layout.specs.Served.{ServedBy}
 use Rattle.layout.proofs.Of.{size-in, clients-in}
 use Rattle.reading.specs.Finding.{FirstAt, Finds}
 use Rattle.answers.specs.Answers.{SizeIs, NamesSocket, NamedIs}
-use Rattle.answers.proofs.Begin.{Begun}
+use Rattle.answers.proofs.Begin.{in-table, Begun}
 use Rattle.irq.specs.Granting.{RecordSays, GrantIs, KindIs}
-use Rattle.irq.proofs.Ends.{Releases, in-table, release-begins, release-unheld, release-differs, release-done}
+use Rattle.irq.proofs.Ends.{Releases, release-begins, release-unheld, release-differs, release-done}
 use Rattle.irq.proofs.release.Statement.{statement}
 use Rattle.irq.proofs.release.Tie as tie
 

@@ -16,14 +16,14 @@ use Rattle.layout.specs.Served.{ServedBy}
 use Rattle.layout.proofs.Of.{size-in, clients-in}
 use Rattle.reading.specs.Finding.{FirstAt, Finds}
 use Rattle.answers.specs.Answers.{SizeIs, NamesSocket, NamedIs, CardIs}
-use Rattle.answers.proofs.Begin.{Begun}
+use Rattle.answers.proofs.Begin.{in-table, Begun}
 use Rattle.layout.specs.Layout
 use Rattle.layout.specs.Changed.{irqEntered}
 use Rattle.levels.specs.Places.{placeOf}
 use Rattle.irq_packets.specs.Asking.{AttributesAre, InfoIs}
 use Rattle.fitting.specs.Fitting.{TakenIs}
 use Rattle.irq.specs.Granting.{PlaceIs}
-use Rattle.irq.proofs.Ends.{Requests, in-table, place-small, request-begins, request-no-card}
+use Rattle.irq.proofs.Ends.{Requests, place-small, request-begins, request-no-card}
 use Rattle.irq.proofs.Ends.{request-attributes, request-info, request-held, request-none, request-done}
 use Rattle.irq.proofs.request.Statement.{statement}
 use Rattle.irq.proofs.request.Tie as tie

@@ -3,7 +3,7 @@
 use Prim.Native.Nat.{_-_, _≤_}
 use native.Mathlib.Omega.{arith}
 use Rattle.facts.proofs.Says.{says-true}
-use Rattle.reading.proofs.Passing.{Passed, passed-none, passed-more, passed-says}
+use Rattle.reading.proofs.Passing.{Passed, passed-none, passed-stay, passed-move, passed-found, passed-stop, passed-says}
 use Rattle.reading.proofs.managed.Statement.{statement}
 use Rattle.reading.proofs.managed.Tie as tie
 
@@ -13,12 +13,15 @@ Inv-loop t base count ranges end p₀ i₀ p i = (i ≤ ranges) × Passed t base
 abbrev μ-loop : tie.MeasureT-loop
 μ-loop t base count ranges end p₀ i₀ p i = ranges - i
 
--- where the call began, and the turn in which a range was passed
+-- where the call began, the turn in which a range's end was read, and where it was
 abbrev begun : tie.At-loop Inv-loop μ-loop → tie.Start Inv-loop μ-loop
 begun c = c .before .before .before
 
-abbrev turn : tie.After-past Inv-loop μ-loop → tie.At-loop Inv-loop μ-loop
-turn c = c .before .before .before
+abbrev turn : tie.After-range-end Inv-loop μ-loop → tie.At-loop Inv-loop μ-loop
+turn c = c .before .before
+
+abbrev asked : tie.After-word Inv-loop μ-loop → tie.After-range-end Inv-loop μ-loop
+asked c = c .before .before
 
 byte-requires : tie.Need-byte-requires Inv-loop μ-loop
 byte-requires c κs = omega arith
@@ -29,11 +32,8 @@ add-end c = omega arith
 loop-holds : tie.Need-loop-holds Inv-loop μ-loop
 loop-holds c = (omega arith, passed-none _ _)
 
-returns : tie.Need-returns Inv-loop μ-loop
-returns c = says-true (λ q w. c .before .before .loop .inv .1 .behind q (w .from) (omega (arith, w .below)))
-
-past-requires : tie.Need-past-requires Inv-loop μ-loop
-past-requires c κs = omega arith
+range-end-requires : tie.Need-range-end-requires Inv-loop μ-loop
+range-end-requires c κs = omega arith
 
 add-i : tie.Need-add-i Inv-loop μ-loop
 add-i c = omega arith
@@ -42,12 +42,43 @@ loop-less : tie.Need-loop-less Inv-loop μ-loop
 loop-less c = omega arith
 
 loop-again : tie.Need-loop-again Inv-loop μ-loop
-loop-again c =
-    let pre = begun (turn c) .pre .0 in
-    (omega arith, passed-more _ _ _ _ (turn c .loop .inv .1) (pre .2) (omega arith) _ (c .past .ensures))
+loop-again c = (omega arith, passed-stay _ _ _ _ (turn (c .before) .loop .inv .1) (omega arith))
+
+mul-word : tie.Need-mul-word Inv-loop μ-loop
+mul-word c = omega arith
+
+add-word : tie.Need-add-word Inv-loop μ-loop
+add-word c = omega arith
+
+word-requires : tie.Need-word-requires Inv-loop μ-loop
+word-requires c κs = omega arith
+
+returns : tie.Need-returns Inv-loop μ-loop
+returns c =
+    let at = turn (asked (c .before)) in
+    passed-says _ _ _ _ (passed-stop _ _ _ _ (at .loop .inv .1) (begun at .pre .0 .2) (omega arith) (omega arith)) (omega arith) _
 
 returns-2 : tie.Need-returns-2 Inv-loop μ-loop
-returns-2 c = passed-says _ _ _ _ (c .before .loop .inv .1) (omega arith) _
+returns-2 c =
+    let at = turn (asked (c .before .before)) in
+    says-true
+    (passed-found _ _ _ _ (at .loop .inv .1) (begun at .pre .0 .2) (omega arith) (record { from = omega arith; below = omega arith }) _ (omega arith))
+
+add-i-2 : tie.Need-add-i-2 Inv-loop μ-loop
+add-i-2 c = omega arith
+
+loop-less-2 : tie.Need-loop-less-2 Inv-loop μ-loop
+loop-less-2 c = omega arith
+
+loop-again-2 : tie.Need-loop-again-2 Inv-loop μ-loop
+loop-again-2 c =
+    let at = turn (asked (c .before .before)) in (
+      omega arith,
+      passed-move _ _ _ _ (at .loop .inv .1) (begun at .pre .0 .2) (omega arith) (record { from = omega arith; below = omega arith }) _ (omega arith),
+    )
+
+returns-3 : tie.Need-returns-3 Inv-loop μ-loop
+returns-3 c = passed-says _ _ _ _ (c .before .loop .inv .1) (omega arith) _
 
 pub managed-spec : {M : Type 1} → statement M
 managed-spec =
@@ -58,9 +89,16 @@ managed-spec =
     byte-requires
     add-end
     loop-holds
-    returns
-    past-requires
+    range-end-requires
     add-i
     loop-less
     loop-again
-    returns-2)
+    mul-word
+    add-word
+    word-requires
+    returns
+    returns-2
+    add-i-2
+    loop-less-2
+    loop-again-2
+    returns-3)

@@ -13,7 +13,7 @@ abbrev μ-loop : tie.MeasureT-loop
 μ-loop t from to all₀ i₀ all i = to - i
 
 loop-holds : tie.Need-loop-holds Inv-loop μ-loop
-loop-holds c = (omega arith, omega arith, gathered-none _ _)
+loop-holds c = (omega arith, omega arith, gathered-none _ _ _ (omega arith))
 
 shared-slice-read-all : tie.Need-shared-slice-read-all Inv-loop μ-loop
 shared-slice-read-all c = omega arith
@@ -25,7 +25,7 @@ loop-less : tie.Need-loop-less Inv-loop μ-loop
 loop-less c = omega arith
 
 loop-again : tie.Need-loop-again Inv-loop μ-loop
-loop-again c = (omega arith, omega arith, gathered-more _ _ _ _ (omega arith) (c .before .before .loop .inv .2))
+loop-again c = (omega arith, omega arith, gathered-more _ _ _ _ _ (omega arith) (omega arith) (c .before .before .loop .inv .2))
 
 returns : tie.Need-returns Inv-loop μ-loop
 returns c = gathered-says _ _ _ _ _ (omega arith) (c .before .loop .inv .2)

@@ -1,15 +1,17 @@
--- `grants::ios::io_place_sound` meets its contract: a record that is not zero is a grant if each test passes.
+-- `grants::ios::io_place_sound` meets its contract: a record without a client is zero, and one with a client is a grant if each test passes.
 -- Assumes nothing.
-use mathlib.Core.Logic.{inl}
+use mathlib.Core.Path.{sym, _∙_}
+use mathlib.Core.Logic.{inl, ⊎-elim}
 use Prim.Native.Nat.{_+_}
 use native.Mathlib.Omega.{arith}
 use borrow.Author.Needs.{needs}
 use denote.Ref.{now}
-use Rattle.facts.proofs.Says.{says-true, says-yes, says-no}
+use Rattle.facts.proofs.Says.{says-as, says-yes, says-no}
 use Rattle.layout.specs.Layout.{ioSize}
 use Rattle.layout.specs.Reading.{ioPlace}
 use Rattle.layout.specs.Sound.{Zero}
 use Rattle.reading.proofs.Zeros.{place-false, place-says, live-used}
+use Rattle.grants.proofs.Records.{long-zero, zero-long}
 use Rattle.grants.proofs.ios.io_place_sound.Statement.{statement}
 use Rattle.grants.proofs.ios.io_place_sound.Tie as tie
 
@@ -24,7 +26,9 @@ abbrev marked : tie.Else3 → tie.Else2
 marked c = c .before .before
 
 used : (c : tie.Else1) → let a = begun c .args in Zero (now (a .t)) (ioPlace (a .s .0)) (ioPlace (a .s .0) + ioSize) → ⊥
-used c = c .before .zero .ensures .fails (c .if1 .left)
+used c z =
+    let at = ioPlace (begun c .args .s .0) in
+    c .if1 .left (omega (arith, c .before .word .ensures .0, z at (omega arith) (omega arith), z (at + 1) (omega arith) (omega arith)))
 
 mul-at : tie.Need-mul-at
 mul-at c = search needs
@@ -32,23 +36,32 @@ mul-at c = search needs
 add-at : tie.Need-add-at
 add-at c = search needs
 
-add-end : tie.Need-add-end
-add-end c = search needs
+word-requires : tie.Need-word-requires
+word-requires c κs = search needs
+
+add-zero : tie.Need-add-zero
+add-zero c = search needs
 
 zero-requires : tie.Need-zero-requires
 zero-requires c κs = search needs
 
 returns : tie.Need-returns
-returns c = says-true (inl (c .before .zero .ensures .holds (c .if1 .taken)))
+returns c =
+    let read = c .before .before in
+    says-as (c .zero .ensures) inl (⊎-elim (λ z. z) (λ g. absurd (g .0 (sym (read .word .ensures .0) ∙ c .before .if1 .taken))))
 
-add-zero : tie.Need-add-zero
-add-zero c = search needs
+add-long : tie.Need-add-long
+add-long c = search needs
 
-zero-requires-2 : tie.Need-zero-requires-2
-zero-requires-2 c κs = search needs
+long-requires : tie.Need-long-requires
+long-requires c κs = search needs
 
 returns-2 : tie.Need-returns-2
-returns-2 c = place-false (used (c .before .before)) (λ g. says-no (c .before .zero2 .ensures) (c .if2 .taken) (g .spare))
+returns-2 c =
+    let a = begun (c .before .before) .args in
+    let at = ioPlace (a .s .0) in
+    place-false (used (c .before .before))
+    (λ g. c .if2 .taken (c .before .long .ensures .0 ∙ zero-long (now (a .t)) (at + 7) (at + ioSize) (omega arith) (g .spare)))
 
 add-byte : tie.Need-add-byte
 add-byte c = search needs
@@ -80,10 +93,12 @@ returns-5 c =
     let tested = c .before .before .before in
     let free = marked tested in
     let begin = spared free in
+    let b = now (begun begin .args .t) in
+    let at = ioPlace (begun begin .args .s .0) in
     let p = says-yes (c .before .before .ports-sound .ensures) (c .before .if4 .left) in
     place-says (used begin) (c .holder-sound .ensures)
     (λ h. (
-      live-used (now (begun begin .args .t)) (begun begin .pre .3) (h .client),
+      live-used b (begun begin .pre .3) (h .client),
       record {
         client = h .client;
         socket = h .socket;
@@ -94,7 +109,7 @@ returns-5 c =
         decoded = p .decoded;
         managed = p .managed;
         mark = rw (tested .before .byte .ensures .0) at (tested .if3 .left);
-        spare = says-yes (free .before .zero2 .ensures) (free .if2 .left);
+        spare = long-zero b (at + 7) (at + ioSize) (omega arith) (sym (free .before .long .ensures .0) ∙ free .if2 .left);
       },
     ))
     (λ g. record { client = g .client; socket = g .socket })
@@ -105,11 +120,12 @@ io-place-sound-spec =
     (tie.spec
     mul-at
     add-at
-    add-end
+    word-requires
+    add-zero
     zero-requires
     returns
-    add-zero
-    zero-requires-2
+    add-long
+    long-requires
     returns-2
     add-byte
     byte-requires

@@ -1,53 +1,29 @@
--- `lists::clients::masks_sound` meets its contract: the masks passed are sound.
+-- `lists::clients::masks_sound` meets its contract: each mask is formed, and none is there from the count on.
 -- Assumes nothing.
-use Prim.Native.Nat.{_-_}
-use native.Mathlib.Omega.{arith}
 use borrow.Author.Needs.{needs}
-use Rattle.facts.specs.Table.{mostSockets}
-use Rattle.layout.specs.Sound.{MaskSound}
-use Rattle.reading.proofs.All.{SoFar, so-far-none, so-far-next, so-far-stop, so-far-end}
+use denote.Ref.{now}
+use Rattle.facts.proofs.Says.{says-as, says-yes, says-false-by}
+use Rattle.lists.proofs.Masks.{sound-formed, sound-end, formed-sound}
 use Rattle.lists.proofs.clients.masks_sound.Statement.{statement}
 use Rattle.lists.proofs.clients.masks_sound.Tie as tie
 
-abbrev Inv-loop : tie.InvT-loop
-Inv-loop t i s₀ s = SoFar mostSockets (MaskSound t i) s
+masks-formed-requires : tie.Need-masks-formed-requires
+masks-formed-requires c κs = search needs
 
-abbrev μ-loop : tie.MeasureT-loop
-μ-loop t i s₀ s = mostSockets - s
+returns : tie.Need-returns
+returns c =
+    let a = c .before .before .before .args in
+    says-false-by (c .before .masks-formed .ensures) (c .if1 .taken) (sound-formed (now (a .t)) (a .i))
 
-loop-holds : tie.Need-loop-holds Inv-loop μ-loop
-loop-holds c = so-far-none
+masks-end-requires : tie.Need-masks-end-requires
+masks-end-requires c κs = search needs
 
-mask-sound-requires : tie.Need-mask-sound-requires Inv-loop μ-loop
-mask-sound-requires c κs = search needs
-
-returns : tie.Need-returns Inv-loop μ-loop
-returns c = so-far-stop (c .before .before .loop-test .taken) (c .before .mask-sound .ensures) (c .if1 .taken)
-
-add-s : tie.Need-add-s Inv-loop μ-loop
-add-s c = omega arith
-
-loop-less : tie.Need-loop-less Inv-loop μ-loop
-loop-less c = omega arith
-
-loop-again : tie.Need-loop-again Inv-loop μ-loop
-loop-again c =
-    so-far-next (c .before .before .before .loop .inv) (c .before .before .loop-test .taken) (c .before .mask-sound .ensures)
-    (c .if1 .left)
-
-returns-2 : tie.Need-returns-2 Inv-loop μ-loop
-returns-2 c = so-far-end (c .before .loop .inv) (c .loop-test .left)
+returns-2 : tie.Need-returns-2
+returns-2 c =
+    let asked = c .before .before in
+    let a = asked .before .before .args in
+    says-as (c .masks-end .ensures) (formed-sound (now (a .t)) (a .i) (says-yes (asked .masks-formed .ensures) (c .before .if1 .left)))
+    (sound-end (now (a .t)) (a .i))
 
 pub masks-sound-spec : {M : Type 1} → statement M
-masks-sound-spec =
-    tie.close
-    (tie.spec
-    Inv-loop
-    μ-loop
-    loop-holds
-    mask-sound-requires
-    returns
-    add-s
-    loop-less
-    loop-again
-    returns-2)
+masks-sound-spec = tie.close (tie.spec masks-formed-requires returns masks-end-requires returns-2)

@@ -38,12 +38,12 @@ mul-ranges-end c = search needs
 add-ranges-end : tie.Need-add-ranges-end
 add-ranges-end c = search needs
 
-zero-requires-2 : tie.Need-zero-requires-2
-zero-requires-2 c κs = search needs
+stretch-zero-requires : tie.Need-stretch-zero-requires
+stretch-zero-requires c κs = search needs
 
 returns-2 : tie.Need-returns-2
 returns-2 c =
-    says-as (rw (c .before .byte2 .ensures .0) at (c .zero2 .ensures))
+    says-as (rw (c .before .byte2 .ensures .0) at (c .stretch-zero .ensures))
     (λ z. record { clients-end = says-yes (clients-end (c .before .before .before)) (c .before .before .if1 .left); ranges-end = z })
     (λ p. p .ranges-end)
 
@@ -59,5 +59,5 @@ ends-sound-spec =
     byte-requires-2
     mul-ranges-end
     add-ranges-end
-    zero-requires-2
+    stretch-zero-requires
     returns-2)

@@ -1,28 +1,44 @@
--- `lists::levels::levels_sound` meets its contract: the levels passed are sound.
+-- `lists::levels::levels_sound` meets its contract. The loop's invariant: what is wrong is 0 exactly if the levels passed are sound.
 -- Assumes nothing.
-use Prim.Native.Nat.{_-_}
+use Prim.Native.Nat.{_-_, _≤_}
 use native.Mathlib.Omega.{arith}
-use borrow.Author.Needs.{needs}
 use Rattle.facts.specs.Table.{allLevels}
+use Rattle.facts.proofs.Says.{says-as}
 use Rattle.layout.specs.Sound.{LevelSound}
-use Rattle.reading.proofs.All.{SoFar, so-far-none, so-far-next, so-far-stop, so-far-end}
+use Rattle.lists.proofs.Flaws.{Flawless, flawless-none, flawless-more, flawless-says}
 use Rattle.lists.proofs.levels.levels_sound.Statement.{statement}
 use Rattle.lists.proofs.levels.levels_sound.Tie as tie
 
 abbrev Inv-loop : tie.InvT-loop
-Inv-loop t l₀ l = SoFar allLevels (LevelSound t) l
+Inv-loop t flaws₀ l₀ flaws l = (l ≤ allLevels) × Flawless (LevelSound t) l flaws
 
 abbrev μ-loop : tie.MeasureT-loop
-μ-loop t l₀ l = allLevels - l
+μ-loop t flaws₀ l₀ flaws l = allLevels - l
+
+-- where a turn began
+abbrev turn : tie.After-level-flaw Inv-loop μ-loop → tie.In-loop Inv-loop μ-loop
+turn c = c .before .before .before
 
 loop-holds : tie.Need-loop-holds Inv-loop μ-loop
-loop-holds c = so-far-none
+loop-holds c = (omega arith, flawless-none _)
 
-level-sound-requires : tie.Need-level-sound-requires Inv-loop μ-loop
-level-sound-requires c κs = search needs
+mul-at : tie.Need-mul-at Inv-loop μ-loop
+mul-at c = omega arith
 
-returns : tie.Need-returns Inv-loop μ-loop
-returns c = so-far-stop (c .before .before .loop-test .taken) (c .before .level-sound .ensures) (c .if1 .taken)
+add-at : tie.Need-add-at Inv-loop μ-loop
+add-at c = omega arith
+
+shared-slice-read-level-flaw : tie.Need-shared-slice-read-level-flaw Inv-loop μ-loop
+shared-slice-read-level-flaw c = omega arith
+
+add-level-flaw : tie.Need-add-level-flaw Inv-loop μ-loop
+add-level-flaw c = omega arith
+
+shared-slice-read-level-flaw-2 : tie.Need-shared-slice-read-level-flaw-2 Inv-loop μ-loop
+shared-slice-read-level-flaw-2 c = omega arith
+
+level-flaw-requires : tie.Need-level-flaw-requires Inv-loop μ-loop
+level-flaw-requires c κs = omega arith
 
 add-l : tie.Need-add-l Inv-loop μ-loop
 add-l c = omega arith
@@ -31,12 +47,14 @@ loop-less : tie.Need-loop-less Inv-loop μ-loop
 loop-less c = omega arith
 
 loop-again : tie.Need-loop-again Inv-loop μ-loop
-loop-again c =
-    so-far-next (c .before .before .before .loop .inv) (c .before .before .loop-test .taken) (c .before .level-sound .ensures)
-    (c .if1 .left)
+loop-again c = (
+  omega arith,
+  flawless-more _ (turn c .before .loop .inv .1)
+      (says-as (c .level-flaw .ensures) (λ p. record { managed = p .0; reserved = p .1 }) (λ p. (p .managed, p .reserved))),
+)
 
-returns-2 : tie.Need-returns-2 Inv-loop μ-loop
-returns-2 c = so-far-end (c .before .loop .inv) (c .loop-test .left)
+returns : tie.Need-returns Inv-loop μ-loop
+returns c = flawless-says allLevels (omega arith) (c .before .loop .inv .1)
 
 pub levels-sound-spec : {M : Type 1} → statement M
 levels-sound-spec =
@@ -45,9 +63,13 @@ levels-sound-spec =
     Inv-loop
     μ-loop
     loop-holds
-    level-sound-requires
-    returns
+    mul-at
+    add-at
+    shared-slice-read-level-flaw
+    add-level-flaw
+    shared-slice-read-level-flaw-2
+    level-flaw-requires
     add-l
     loop-less
     loop-again
-    returns-2)
+    returns)

@@ -1,29 +1,35 @@
--- `lists::ranges::ranges_sound` meets its contract: the ranges passed are sound.
+-- `lists::ranges::ranges_sound` meets its contract: the ranges passed follow one another, and the last lies within the ports.
 -- Assumes nothing.
 use Prim.Native.Nat.{_-_}
 use native.Mathlib.Omega.{arith}
-use Rattle.layout.specs.Sound.{RangeSound, endBefore}
-use Rattle.reading.proofs.All.{SoFar, so-far-none, so-far-next, so-far-stop, so-far-end}
+use Rattle.facts.proofs.Says.{says-false, says-yes, says-false-by}
+use Rattle.lists.proofs.Following.{Passed, passed-none, passed-more, passed-says, sound-follows, sound-within}
 use Rattle.lists.proofs.ranges.ranges_sound.Statement.{statement}
 use Rattle.lists.proofs.ranges.ranges_sound.Tie as tie
 
 abbrev Inv-loop : tie.InvT-loop
-Inv-loop t ranges i₀ i = SoFar ranges (λ k. RangeSound t (endBefore t k) k) i
+Inv-loop t ranges low₀ flaws₀ i₀ low flaws i = Passed t low flaws i
 
 abbrev μ-loop : tie.MeasureT-loop
-μ-loop t ranges i₀ i = ranges - i
+μ-loop t ranges low₀ flaws₀ i₀ low flaws i = ranges - i
 
 byte-requires : tie.Need-byte-requires Inv-loop μ-loop
 byte-requires c κs = omega arith
 
 loop-holds : tie.Need-loop-holds Inv-loop μ-loop
-loop-holds c = so-far-none
+loop-holds c = passed-none _
 
-range-sound-requires : tie.Need-range-sound-requires Inv-loop μ-loop
-range-sound-requires c κs = omega arith
+range-follows-requires : tie.Need-range-follows-requires Inv-loop μ-loop
+range-follows-requires c κs = omega arith
 
 returns : tie.Need-returns Inv-loop μ-loop
-returns c = so-far-stop (omega arith) (c .before .range-sound .ensures) (c .if1 .taken)
+returns c = says-false-by (c .before .range-follows .ensures) (c .if1 .taken) (sound-follows _ _ _ _ (c .before .before .before .loop .inv) (omega arith))
+
+mark-flaw-requires : tie.Need-mark-flaw-requires Inv-loop μ-loop
+mark-flaw-requires c κs = omega arith
+
+range-end-requires : tie.Need-range-end-requires Inv-loop μ-loop
+range-end-requires c κs = omega arith
 
 add-i : tie.Need-add-i Inv-loop μ-loop
 add-i c = omega arith
@@ -33,11 +39,20 @@ loop-less c = omega arith
 
 loop-again : tie.Need-loop-again Inv-loop μ-loop
 loop-again c =
-    so-far-next (c .before .before .before .loop .inv) (c .before .before .loop-test .taken) (c .before .range-sound .ensures)
-    (c .if1 .left)
+    let followed = c .before .before in
+    let asked = followed .before in
+    passed-more _ _ _ _ (asked .before .before .loop .inv) _ _ (omega arith) (says-yes (asked .range-follows .ensures) (followed .if1 .left))
+    (c .before .mark-flaw .ensures)
+    (c .range-end .ensures)
 
 returns-2 : tie.Need-returns-2 Inv-loop μ-loop
-returns-2 c = so-far-end (c .before .loop .inv) (omega arith)
+returns-2 c = says-false (λ s. omega (arith, sound-within _ _ _ _ (c .before .before .loop .inv) s))
+
+returns-3 : tie.Need-returns-3 Inv-loop μ-loop
+returns-3 c =
+    let left = c .before .before in
+    passed-says _ _ _ _ (left .loop .inv) (omega arith) (λ at. omega (arith, left .before .before .shared-slice-known .given at))
+    (omega arith)
 
 pub ranges-sound-spec : {M : Type 1} → statement M
 ranges-sound-spec =
@@ -47,9 +62,12 @@ ranges-sound-spec =
     μ-loop
     byte-requires
     loop-holds
-    range-sound-requires
+    range-follows-requires
     returns
+    mark-flaw-requires
+    range-end-requires
     add-i
     loop-less
     loop-again
-    returns-2)
+    returns-2
+    returns-3)

@@ -1,0 +1,94 @@
+-- What the bytes say of the ports at a named base: whether they are managed, and what is in their way. Assumes nothing.
+use mathlib.Core.Path.{_≡_, sym, _∙_, subst}
+use mathlib.Core.Logic.{_⊎_, inl, inr}
+use mathlib.Core.List.{List}
+use mathlib.Core.Bool.{Bool, true, not}
+use Prim.Native.Nat.{ℕ, _+_, _<_}
+use native.Mathlib.Omega.{arith}
+use borrow.Author.Tests.{eq-eqb, eqb-true}
+use Rattle.facts.specs.Table
+use Rattle.facts.specs.Table.{Ports, IoGrant}
+use Rattle.facts.specs.Says.{Says}
+use Rattle.facts.specs.Packets.{byte}
+use Rattle.facts.specs.Ports.{Within, Meet, AllManaged}
+use Rattle.facts.specs.Io.{baseAsked, countAsked, linesAsked, portsAt, IoShared, IoFirstShared, NotAllManaged, InTheWay}
+use Rattle.facts.proofs.Says.{says-as, says-not}
+use Rattle.layout.specs.Reading.{ioPlace, ioIn}
+use Rattle.layout.specs.Sound.{Accepted, ManagedIn}
+use Rattle.layout.proofs.Of
+use Rattle.layout.proofs.Ios.{shared-is}
+use Rattle.reading.proofs.Some.{Some}
+use Rattle.meeting.specs.Meeting.{MeetsOn}
+use Rattle.bases.specs.Bases.{Stands}
+
+-- all the ports lie in listed ranges
+abbrev pub Covered : List ℕ → ℕ → ℕ → Type 0
+Covered b base count = (q : ℕ) → Within q base count → ManagedIn b q
+
+-- whether the ports that a packet names are managed; base and count are what is read there
+module _ (b p : List ℕ) {base count : ℕ} (base-is : base ≡ baseAsked p) (count-is : count ≡ countAsked p) (a : Accepted b) where
+  pub past-ports : Table.allPorts < base + count → NotAllManaged (a .facts) p
+  past-ports l = inl (omega (arith, base-is, count-is))
+
+  covered-said : Covered b base count → AllManaged (a .facts) (baseAsked p) (countAsked p)
+  covered-said f q w =
+      Of.managed-said b a q (f q (record { from = omega (arith, base-is, w .from); below = omega (arith, base-is, count-is, w .below) }))
+
+  said-covered : AllManaged (a .facts) (baseAsked p) (countAsked p) → Covered b base count
+  said-covered f q w =
+      Of.said-managed b a q (f q (record { from = omega (arith, base-is, w .from); below = omega (arith, base-is, count-is, w .below) }))
+
+  pub uncovered : (Covered b base count → ⊥) → NotAllManaged (a .facts) p
+  uncovered n = inr (λ f. n (said-covered f))
+
+  pub all-covered : (Table.allPorts < base + count → ⊥) → Covered b base count → NotAllManaged (a .facts) p → ⊥
+  all-covered within f (inl l) = within (omega (arith, base-is, count-is))
+  all-covered within f (inr n) = n (covered-said f)
+
+-- a grant shares exactly if its record is marked
+pub share-says : (b p : List ℕ) (s : ℕ) {r : Bool} → IoShared p → Says r (byte b (ioPlace s + 6) ≡ 1)
+    → Says r (IoShared p × (ioIn b s .shared ≡ true))
+share-says b p s shared x =
+    says-as x (λ e. (shared, shared-is b s ∙ eq-eqb (byte b (ioPlace s + 6)) 1 e))
+    (λ y. eqb-true (byte b (ioPlace s + 6)) 1 (sym (shared-is b s) ∙ y .1))
+
+-- the ports that a packet names, read one by one
+module _ (b p : List ℕ) (s : ℕ) {base count lines : ℕ} (base-is : base ≡ baseAsked p) (count-is : count ≡ countAsked p)
+    (lines-is : lines ≡ linesAsked p) {r : Bool} (x : Says r (MeetsOn b (record { base = base; count = count; lines = lines }) s)) where
+  pub meets-asked : Says r (MeetsOn b (portsAt p (baseAsked p)) s)
+  meets-asked =
+      subst (λ (q : Ports). Says r (MeetsOn b q s)) (λ i. record { base = base-is i; count = count-is i; lines = lines-is i }) x
+
+-- a grant that is met, without First Shared, stands in the way where the two don't both share
+pub stands-by : (b p : List ℕ) (s : ℕ) {r : Bool} → MeetsOn b (portsAt p (baseAsked p)) s → (IoFirstShared p → ⊥)
+    → Says r (IoShared p × (ioIn b s .shared ≡ true))
+    → Says (not r) (Stands b p s)
+stands-by b p s m n x = says-as (says-not x) (λ d. record { meets = m; unshared = inr d }) (λ y. go (y .unshared))
+  where
+    go : IoFirstShared p ⊎ (IoShared p × (ioIn b s .shared ≡ true) → ⊥) → IoShared p × (ioIn b s .shared ≡ true) → ⊥
+    go (inl f) = absurd (n f)
+    go (inr d) = d
+
+-- a live grant is in the way exactly if that of some socket's record is
+module _ (b p : List ℕ) (a : Accepted b) where
+  pub way-said : Some Table.mostSockets (Stands b p) → InTheWay (a .facts) p
+  way-said (s, l, x) =
+      record {
+        socket = s;
+        grant = ioIn b s;
+        live = Of.io-said b a s l (x .meets .used);
+        meets = x .meets .meets;
+        unshared = x .unshared;
+      }
+
+  pub said-way : InTheWay (a .facts) p → Some Table.mostSockets (Stands b p)
+  said-way w =
+      let x = Of.said-io b a (w .socket) (w .grant) (w .live) in
+      let e = sym (x .2) in (
+        w .socket,
+        x .0,
+        record {
+          meets = record { used = x .1; meets = subst (λ (g : IoGrant). Meet (portsAt p (baseAsked p)) (g .ports)) e (w .meets) };
+          unshared = subst (λ (g : IoGrant). IoFirstShared p ⊎ (IoShared p × (g .shared ≡ true) → ⊥)) e (w .unshared);
+        },
+      )

@@ -1,0 +1,44 @@
+-- `bases::chosen` meets its contract: the first candidate, or there is none.
+-- Assumes nothing.
+use mathlib.Core.Path.{subst}
+use denote.Ref.{now}
+use Rattle.candidates.specs.Candidates.{TakenIs}
+use Rattle.bases.proofs.Ends.{none, first, low}
+use borrow.Author.Needs.{needs}
+use Rattle.bases.proofs.chosen.Statement.{statement}
+use Rattle.bases.proofs.chosen.Tie as tie
+
+-- where the call began
+abbrev start : tie.After-choose → tie.Start
+start c = c .before .before .before
+
+choose-requires : tie.Need-choose-requires
+choose-requires c κs = search needs
+
+enum-known-base : tie.Need-enum-known-base
+enum-known-base c = search needs
+
+enum-told : tie.Need-enum-told
+enum-told c = search needs
+
+returns : tie.Need-returns
+returns c =
+    let made = c .before .before in
+    let s = start made in
+    let b = now (s .args .t) in
+    let p = now (s .args .p) in
+    λ a. none (a .facts) p (s .pre .1 .1) (subst (TakenIs b p) (c .enum-told .given .1) (made .choose .ensures) a)
+
+returns-2 : tie.Need-returns-2
+returns-2 c =
+    let found = c .before in
+    let made = found .before .before in
+    let s = start made in
+    let b = now (s .args .t) in
+    let p = now (s .args .p) in
+    let taken = subst (TakenIs b p) (found .base .given .1) (made .choose .ensures) in
+    let x = found .base .given .0 .0 in
+    (low (s .pre .0 .0 .facts) p (s .pre .1 .1) x (s .pre .1 .0) (taken (s .pre .0 .0)), λ a. first (a .facts) p (s .pre .1 .1) x (taken a))
+
+pub chosen-spec : {M : Type 1} → statement M
+chosen-spec = tie.close (tie.spec choose-requires enum-known-base enum-told returns returns-2)

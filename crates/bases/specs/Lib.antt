@@ -1,0 +1,2 @@
+-- What the contracts of `bases` cite. Assumes nothing.
+pub mod Bases

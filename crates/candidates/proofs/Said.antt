@@ -1,0 +1,176 @@
+-- The bytes say which bases are candidates, and which of these lie wholly in unreserved ranges; so the two searches give the candidate that is
+-- taken. Assumes nothing.
+use mathlib.Core.Path.{_≡_, refl, ap, sym, _∙_, subst}
+use mathlib.Core.List.{List}
+use mathlib.Core.Bool.{false}
+use Prim.Native.Nat.{ℕ, _+_, _-_, _*_, _≤_, _<_}
+use native.Mathlib.Decide.{decLe, map-dec}
+use native.Mathlib.Omega.{arith}
+use borrow.Author.Tests.{eqb-false, ne-eqb}
+use Rattle.facts.specs.Table.{Facts, Range, IoGrant}
+use Rattle.facts.specs.Choice.{Lowest}
+use Rattle.facts.specs.Ports.{Meet, Has, Managed, WhollyUnreserved}
+use Rattle.facts.specs.Io.{countAsked, linesAsked, portsAt, SmallestPower, Candidate, CandidateTaken}
+use Rattle.facts.proofs.Choices.{chosen-first, chosen-then, smallest-power-unique}
+use Rattle.layout.specs.Reading.{rangesIn, rangeIn, ioIn, marked}
+use Rattle.layout.specs.Sound.{Accepted, RangesSound}
+use Rattle.layout.proofs.Of
+use Rattle.reading.proofs.All.{All}
+use Rattle.candidates.specs.declared.Taken.{Taken}
+use Rattle.candidates.specs.declared.Taken.the-variants.{Base, Nothing}
+use Rattle.candidates.specs.Candidates.{reserveMark, Counts, Free, CandidateIn, LowestIs, TakenIs}
+use Rattle.candidates.proofs.Choosing.{lowest-as, dec-all}
+use Rattle.candidates.proofs.Runs.{HasPort, same-range, counts-below}
+
+-- an unreserved range that has the port
+abbrev Unreserved : Facts → ℕ → Type 0
+Unreserved F q = (m : Managed F q) × (m .range .reserved ≡ false)
+
+module _ (b : List ℕ) (a : Accepted b) where
+  ordered : RangesSound b
+  ordered = Of.sound-in b a .ranges
+
+  -- what a range's record says
+  reserved-is : (i : ℕ) → rangeIn b i .reserved ≡ marked (reserveMark b i)
+  unfolding rangeIn
+  reserved-is i = refl
+
+  has-said : (i q : ℕ) → HasPort b i q → Has (rangeIn b i) q
+  unfolding rangeIn
+  has-said i q w = w
+
+  said-has : (i q : ℕ) → Has (rangeIn b i) q → HasPort b i q
+  unfolding rangeIn
+  said-has i q w = w
+
+  -- a port that counts is managed, by the range that has it
+  abbrev managed-by : (most q : ℕ) → Counts b most q → Managed (a .facts) q
+  managed-by most q c =
+      record { range = rangeIn b (c .range); listed = Of.range-listed b a (c .range) (c .listed); has = has-said (c .range) q (c .has) }
+
+  -- among all ranges a port counts exactly if it is managed
+  managed-counts : (q : ℕ) → Managed (a .facts) q → Counts b 1 q
+  managed-counts q m =
+      let x = Of.said-managed b a q m in
+      record { range = x .0; listed = x .1; mark = ordered (x .0) (x .1) .mark; has = x .2 }
+
+  -- among the unreserved ranges alone exactly if one of them has it
+  counts-unreserved : (q : ℕ) → Counts b 0 q → Unreserved (a .facts) q
+  counts-unreserved q c = (
+    managed-by 0 q c,
+    reserved-is (c .range) ∙ ne-eqb (reserveMark b (c .range)) 1 (λ e. omega (arith, e, c .mark)),
+  )
+
+  unreserved-counts : (q : ℕ) → Unreserved (a .facts) q → Counts b 0 q
+  unreserved-counts q u = go (Of.listed-range b a (u .0 .range) (u .0 .listed))
+    where
+      go : (i : ℕ) × (i < rangesIn b) × (u .0 .range ≡ rangeIn b i) → Counts b 0 q
+      go x =
+          let unmarked : marked (reserveMark b (x .0)) ≡ false =
+          sym (reserved-is (x .0)) ∙ sym (ap (λ (r : Range). r .reserved) (x .2)) ∙ u .1 in
+          record {
+            range = x .0;
+            listed = x .1;
+            mark = omega (arith, ordered (x .0) (x .1) .mark, eqb-false (reserveMark b (x .0)) 1 unmarked);
+            has = said-has (x .0) q (subst (λ (r : Range). Has r q) (x .2) (u .0 .has));
+          }
+
+  -- of a port that counts it is decided whether it does among the unreserved ranges alone, since it lies in one range
+  counts-decided : (q : ℕ) → Counts b 1 q → Dec (Counts b 0 q)
+  counts-decided q c = go (decLe (reserveMark b (c .range)) 0)
+    where
+      go : Dec (reserveMark b (c .range) ≤ 0) → Dec (Counts b 0 q)
+      go (yes l) = yes (record { range = c .range; listed = c .listed; mark = l; has = c .has })
+      go (no n) =
+          no (λ d. n (subst (λ (k : ℕ). reserveMark b k ≤ 0) (same-range b ordered q (d .range) (c .range) (d .listed) (c .listed) (d .has) (c .has))
+          (d .mark)))
+
+  module _ (p : List ℕ) (step : ℕ) (align : SmallestPower (countAsked p) step) (one : 1 ≤ countAsked p) where
+    abbrev Found : ℕ → ℕ → Type 0
+    Found most = CandidateIn b most (countAsked p) (linesAsked p) step
+
+    abbrev Early : ℕ → Type 0
+    Early x = WhollyUnreserved (a .facts) x (countAsked p)
+
+    -- a candidate by the bytes is a candidate, whichever ranges count
+    found-candidate : (most x : ℕ) → Found most x → Candidate (a .facts) p x
+    found-candidate most x c =
+        record {
+          step = step;
+          times = c .free .multiple .times;
+          align = align;
+          multiple = c .free .multiple .is;
+          positive = c .positive;
+          managed = λ q w. managed-by most q (c .counted q w);
+          within =
+              let last = c .counted (x + countAsked p - 1) (record { from = omega arith; below = omega arith }) in
+              omega (arith, counts-below b ordered most (x + countAsked p - 1) last);
+          meets-none = λ s g e m.
+              let said = Of.said-io b a s g e in
+              c .free .meets-none (
+                s,
+                said .0,
+                record { used = said .1; meets = subst (λ (h : IoGrant). Meet (portsAt p x) (h .ports)) (sym (said .2)) m },
+              );
+        }
+
+    -- and a candidate is one by the bytes, where all ranges count
+    candidate-free : (x : ℕ) → Candidate (a .facts) p x → Free b (countAsked p) (linesAsked p) step x
+    candidate-free x c =
+        record {
+          multiple = record {
+            times = c .times;
+            is =
+                subst (λ (n : ℕ). x ≡ c .times * n) (smallest-power-unique (countAsked p) (c .step) step (c .align) align) (c .multiple);
+          };
+          meets-none = λ m. c .meets-none (m .0) (ioIn b (m .0)) (Of.io-said b a (m .0) (m .1) (m .2 .used)) (m .2 .meets);
+        }
+
+    candidate-found : (x : ℕ) → Candidate (a .facts) p x → Found 1 x
+    candidate-found x c =
+        record { free = candidate-free x c; positive = c .positive; counted = λ q w. managed-counts q (c .managed q w) }
+
+    -- where unreserved ranges alone count, it is one that lies wholly in them
+    found-early : (x : ℕ) → Found 0 x → Candidate (a .facts) p x × Early x
+    found-early x c = (found-candidate 0 x c, λ q w. counts-unreserved q (c .counted q w))
+
+    early-found : (x : ℕ) → Candidate (a .facts) p x × Early x → Found 0 x
+    early-found x c =
+        record { free = candidate-free x (c .0); positive = c .0 .positive; counted = λ q w. unreserved-counts q (c .1 q w) }
+
+    -- of a candidate it is decided whether it does
+    early-decided : (x : ℕ) → Candidate (a .facts) p x → Dec (Early x)
+    early-decided x c = map-dec wholly each (dec-all (countAsked p) one-decided)
+      where
+        One : ℕ → Type 0
+        One i = Counts b 0 (x + i)
+
+        one-decided : (i : ℕ) → i < countAsked p → Dec (One i)
+        one-decided i l = counts-decided (x + i) (candidate-found x c .counted (x + i) (record { from = omega arith; below = omega arith }))
+
+        wholly : All (countAsked p) One → Early x
+        wholly f q w =
+            let e : x + (q - x) ≡ q = omega (arith, w .from) in
+            counts-unreserved q (subst (Counts b 0) e (f (q - x) (omega (arith, w .below, w .from))))
+
+        each : Early x → All (countAsked p) One
+        each f i l = unreserved-counts (x + i) (f (x + i) (record { from = omega arith; below = omega arith }))
+
+    -- the lowest of these is taken, or else the lowest of all
+    taken-early : (x : ℕ) → Lowest (Found 0) x → CandidateTaken (a .facts) p x
+    taken-early x low = chosen-first early-decided (lowest-as found-early early-found (Base x) low)
+
+    taken-late : ((x : ℕ) → Found 0 x → ⊥) → (x : ℕ) → Lowest (Found 1) x → CandidateTaken (a .facts) p x
+    taken-late none x low = chosen-then (λ y c e. none y (early-found y (c, e))) (lowest-as (found-candidate 1) candidate-found (Base x) low)
+
+-- what the first search finds is taken; where it finds none, what the second finds
+module _ (b p : List ℕ) (step : ℕ) (align : SmallestPower (countAsked p) step) (one : 1 ≤ countAsked p) where
+  abbrev Search : ℕ → ℕ → Type 0
+  Search most = CandidateIn b most (countAsked p) (linesAsked p) step
+
+  pub first-taken : (x : ℕ) → Lowest (Search 0) x → TakenIs b p (Base x)
+  first-taken x low a = taken-early b a p step align one x low
+
+  pub then-taken : ((x : ℕ) → Search 0 x → ⊥) → (r : Taken) → LowestIs (Search 1) r → TakenIs b p r
+  then-taken none (Base x) low = λ a. taken-late b a p step align one none x low
+  then-taken none Nothing n = λ a x c. n x (candidate-found b a p step align one x c)

@@ -1,0 +1,119 @@
+-- `candidates::first_in` meets its contract: those that start in the range are those between its first multiple and where the ports that count end.
+-- Assumes nothing.
+use mathlib.Core.Path.{ap, _∙_, subst}
+use mathlib.Core.List.{List}
+use Prim.Native.Nat.{ℕ, _+_, _-_, _<_, max}
+use native.Mathlib.Omega.{arith}
+use denote.Ref.{now}
+use borrow.Author.Needs.{needs}
+use Rattle.facts.specs.Table
+use Rattle.layout.specs.Sound.{Sound, RangeSound, rangeBase, endBefore}
+use Rattle.layout.proofs.Of.{sound-in}
+use Rattle.layout.proofs.Managed.{rangeEnd}
+use Rattle.candidates.specs.Candidates.{FirstMultiple, ReachIs}
+use Rattle.candidates.proofs.Runs.{range-placed}
+use Rattle.candidates.proofs.Searching.{lowest-in}
+use Rattle.candidates.proofs.first_in.Statement.{statement}
+use Rattle.candidates.proofs.first_in.Tie as tie
+
+-- the call's table, which is sound, and its range, which has one of the table's places
+abbrev table : tie.Start → List ℕ
+table s = now (s .args .t)
+
+sound : (s : tie.Start) → Sound (table s)
+sound s = sound-in (table s) (s .pre .0 .0)
+
+placed : (s : tie.Start) → s .args .i < Table.mostRanges
+placed s = range-placed (table s) (s .pre .0 .0) (s .args .i) (s .pre .0 .1)
+
+range : (s : tie.Start) → RangeSound (table s) (endBefore (table s) (s .args .i)) (s .args .i)
+range s = sound s .ranges (s .args .i) (s .pre .0 .1)
+
+-- where the call began, its base was read, and its first multiple found
+abbrev start : tie.After-word → tie.Start
+start c = c .before .before
+
+abbrev based : tie.After-up → tie.After-word
+based c = c .before .before
+
+abbrev gone : tie.After-reach → tie.After-up
+gone c = c .before .before
+
+-- the first multiple that is positive and not before the range
+first : (c : tie.After-up)
+    → let s = start (based c) in FirstMultiple (max (rangeBase (table s) (s .args .i)) 1) (s .args .step) (c .up .result)
+first c =
+    let s = start (based c) in
+    subst (λ (n : ℕ). FirstMultiple n (s .args .step) (c .up .result))
+    (c .before .larger .ensures ∙ ap (λ (n : ℕ). max n 1) (based c .word .ensures .0)) (c .up .ensures)
+
+-- how far the ports that count go on: no further than a candidate that starts in the range needs
+reached : (c : tie.After-reach)
+    → let s = start (based (gone c)) in
+    ReachIs (table s) (s .args .i) (s .args .most) (rangeEnd (table s) (s .args .i) + s .args .count - 1) (c .reach .result)
+reached c =
+    let s = start (based (gone c)) in
+    subst (λ (n : ℕ). ReachIs (table s) (s .args .i) (s .args .most) (n + s .args .count - 1) (c .reach .result)) (c .before .range-end .ensures)
+    (c .reach .ensures)
+
+mul-word : tie.Need-mul-word
+mul-word c = omega (arith, placed (c .before))
+
+add-word : tie.Need-add-word
+add-word c = omega (arith, placed (c .before))
+
+word-requires : tie.Need-word-requires
+word-requires c κs = omega (arith, placed (c .before), sound (c .before) .size)
+
+larger-requires : tie.Need-larger-requires
+larger-requires c κs = search needs
+
+up-requires : tie.Need-up-requires
+up-requires c κs = search needs
+
+range-end-requires : tie.Need-range-end-requires
+range-end-requires c κs = let s = start (based c) in (sound s .size, placed s)
+
+add-reach : tie.Need-add-reach
+add-reach c =
+    let s = start (based (c .before)) in
+    omega (arith, c .range-end .ensures, range s .within, s .pre .0 .3)
+
+sub-reach : tie.Need-sub-reach
+sub-reach c = let s = start (based (c .before)) in omega (arith, s .pre .0 .2)
+
+reach-requires : tie.Need-reach-requires
+reach-requires c κs =
+    let s = start (based (c .before)) in
+    (s .pre .0 .0, s .pre .0 .1, omega (arith, c .range-end .ensures, s .pre .0 .2))
+
+lowest-requires : tie.Need-lowest-requires
+lowest-requires c κs =
+    let s = start (based (gone c)) in
+    let up = first (gone c) in (
+      (s .pre .0 .0, s .pre .0 .2, s .pre .0 .3, s .pre .0 .4),
+      (s .pre .1 .0, s .pre .1 .1, up .multiple, omega (arith, up .near, range s .within, range s .port, s .pre .1 .1), c .reach .ensures .within),
+    )
+
+returns : tie.Need-returns
+returns c =
+    let k = c .before in
+    let s = start (based (gone k)) in
+    lowest-in (table s) (sound s .ranges) (s .args .most) (s .args .count) (s .args .lines) (s .args .step) (s .pre .0 .2) (s .args .i)
+    (gone k .up .result) (k .reach .result) (s .pre .0 .1) (first (gone k)) (reached k) (c .lowest .result) (c .lowest .ensures)
+
+pub first-in-spec : {M : Type 1} → statement M
+first-in-spec =
+    tie.close
+    (tie.spec
+    mul-word
+    add-word
+    word-requires
+    larger-requires
+    up-requires
+    range-end-requires
+    add-reach
+    sub-reach
+    reach-requires
+    lowest-requires
+    returns)

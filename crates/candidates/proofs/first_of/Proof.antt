@@ -1,0 +1,109 @@
+-- `candidates::first_of` meets its contract: none of the ranges passed has a candidate that starts in it.
+-- Assumes nothing.
+use mathlib.Core.Path.{subst}
+use mathlib.Core.List.{List}
+use Prim.Native.Nat.{ℕ, _-_, _<_}
+use native.Mathlib.Omega.{arith}
+use denote.Ref.{now}
+use borrow.Author.Needs.{needs}
+use Rattle.layout.specs.Reading.{rangesIn}
+use Rattle.layout.specs.Sound.{Sound}
+use Rattle.layout.proofs.Of.{size-in, sound-in}
+use Rattle.reading.proofs.All.{SoFar, so-far-none, so-far-more}
+use Rattle.candidates.specs.Candidates.{StartsIn, LowestIs}
+use Rattle.candidates.proofs.Searching.{NoneIn, lowest-of, none-of}
+use Rattle.candidates.proofs.first_of.Statement.{statement}
+use Rattle.candidates.proofs.first_of.Tie as tie
+
+abbrev Inv-loop : tie.InvT-loop
+Inv-loop t most count lines step ranges i₀ i = SoFar ranges (NoneIn t most count lines step) i
+
+abbrev μ-loop : tie.MeasureT-loop
+μ-loop t most count lines step ranges i₀ i = ranges - i
+
+-- where the call began, its table, and that it is sound
+abbrev start : tie.At-loop Inv-loop μ-loop → tie.Start Inv-loop μ-loop
+start c = c .before .before .before
+
+abbrev table : tie.At-loop Inv-loop μ-loop → List ℕ
+table c = now (start c .args .t)
+
+sound : (c : tie.At-loop Inv-loop μ-loop) → Sound (table c)
+sound c = sound-in (table c) (start c .pre .0 .0)
+
+-- the turn in which a range was searched; the range is listed
+abbrev turn : tie.After-first-in Inv-loop μ-loop → tie.At-loop Inv-loop μ-loop
+turn c = c .before .before
+
+listed : (c : tie.In-loop Inv-loop μ-loop) → c .before .loop .i < rangesIn (table (c .before))
+listed c = omega (arith, c .before .before .byte .ensures .0, c .loop-test .taken)
+
+-- what the search in it found
+abbrev found : tie.After-known-told Inv-loop μ-loop → tie.After-first-in Inv-loop μ-loop
+found c = c .before .before .before
+
+abbrev missed : tie.After-enum-told Inv-loop μ-loop → tie.After-first-in Inv-loop μ-loop
+missed c = c .before .before
+
+abbrev Starts : (c : tie.At-loop Inv-loop μ-loop) → ℕ → Type 0
+Starts c = let s = start c .args in StartsIn (table c) (c .loop .i) (s .most) (s .count) (s .lines) (s .step)
+
+byte-requires : tie.Need-byte-requires Inv-loop μ-loop
+byte-requires c κs = let s = c .before in omega (arith, size-in (now (s .args .t)) (s .pre .0 .0))
+
+loop-holds : tie.Need-loop-holds Inv-loop μ-loop
+loop-holds c = so-far-none
+
+first-in-requires : tie.Need-first-in-requires Inv-loop μ-loop
+first-in-requires c κs =
+    let s = start (c .before) in
+    ((s .pre .0 .0, listed c, s .pre .0 .1, s .pre .0 .2, s .pre .0 .3), s .pre .1)
+
+enum-known-base : tie.Need-enum-known-base Inv-loop μ-loop
+enum-known-base c = search needs
+
+returns : tie.Need-returns Inv-loop μ-loop
+returns c =
+    let k = turn (found c) in
+    let s = start k .args in
+    lowest-of (table k) (sound k .ranges) (s .most) (s .count) (s .lines) (s .step) (start k .pre .0 .1) (k .loop .i) _ (listed (found c .before))
+    (k .loop .inv .each) (subst (LowestIs (Starts k)) (c .before .base .given .1) (found c .first-in .ensures))
+
+enum-told : tie.Need-enum-told Inv-loop μ-loop
+enum-told c = search needs
+
+add-i : tie.Need-add-i Inv-loop μ-loop
+add-i c = let k = turn (missed c) in omega (arith, k .before .byte .ensures .1)
+
+loop-less : tie.Need-loop-less Inv-loop μ-loop
+loop-less c = omega arith
+
+loop-again : tie.Need-loop-again Inv-loop μ-loop
+loop-again c =
+    let k = turn (missed c) in
+    so-far-more (k .loop .inv) (missed c .before .loop-test .taken)
+    (subst (LowestIs (Starts k)) (c .enum-told .given .1) (missed c .first-in .ensures))
+
+returns-2 : tie.Need-returns-2 Inv-loop μ-loop
+returns-2 c =
+    let k = c .before in
+    let s = start k .args in
+    none-of (table k) (sound k .ranges) (s .most) (s .count) (s .lines) (s .step) (start k .pre .0 .1) (k .loop .i)
+    (omega (arith, k .before .byte .ensures .0, c .loop-test .left)) (k .loop .inv .each)
+
+pub first-of-spec : {M : Type 1} → statement M
+first-of-spec =
+    tie.close
+    (tie.spec
+    Inv-loop
+    μ-loop
+    byte-requires
+    loop-holds
+    first-in-requires
+    enum-known-base
+    returns
+    enum-told
+    add-i
+    loop-less
+    loop-again
+    returns-2)

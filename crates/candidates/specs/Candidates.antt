@@ -1,0 +1,83 @@
+-- The candidates for a request without a base, said of the bytes, and what the choice among them answers. Assumes nothing.
+use mathlib.Core.Path.{_≡_}
+use mathlib.Core.List.{List}
+use Prim.Native.Nat.{ℕ, _+_, _*_, _≤_, _<_}
+use Rattle.facts.specs.Table
+use Rattle.facts.specs.Choice.{Lowest}
+use Rattle.facts.specs.Packets.{byte}
+use Rattle.facts.specs.Ports.{Within}
+use Rattle.facts.specs.Io.{CandidateTaken, NoCandidate}
+use Rattle.layout.specs.Reading.{rangesIn, rangePlace}
+use Rattle.layout.specs.Sound.{Accepted, rangeBase, rangeCount}
+use Rattle.meeting.specs.Meeting.{MeetsSome}
+use Rattle.candidates.specs.declared.Taken.{Taken}
+use Rattle.candidates.specs.declared.Taken.the-variants.{Base, Nothing}
+
+-- the reserve mark of the range i
+abbrev pub reserveMark : List ℕ → ℕ → ℕ
+reserveMark b i = byte b (rangePlace i + 6)
+
+-- a port counts where some range has it whose reserve mark is at most `most`: 0 for unreserved ranges alone, 1 for all
+pub record Counts (b : List ℕ) (most p : ℕ) : Type 0 where
+  pub range : ℕ
+  pub listed : range < rangesIn b
+  pub mark : reserveMark b range ≤ most
+  pub has : Within p (rangeBase b range) (rangeCount b range)
+
+-- x is a multiple of the step
+pub record Multiple (step x : ℕ) : Type 0 where
+  pub times : ℕ
+  pub is : x ≡ times * step
+
+-- the first multiple of the step at or past a number
+pub record FirstMultiple (from step r : ℕ) : Type 0 where
+  pub multiple : Multiple step r
+  pub past : from ≤ r
+  pub near : r < from + step
+  pub first : (y : ℕ) → Multiple step y → from ≤ y → r ≤ y
+
+-- the range j starts where others end, and its ports count
+pub record Follows (b : List ℕ) (j end most : ℕ) : Type 0 where
+  pub listed : j < rangesIn b
+  pub starts : rangeBase b j ≡ end
+  pub mark : reserveMark b j ≤ most
+
+-- from the base of the range i on, the ports before r count; r itself does not, unless it is as far as is wanted
+pub record ReachIs (b : List ℕ) (i most want r : ℕ) : Type 0 where
+  pub from : rangeBase b i ≤ r
+  pub wanted : r ≤ want
+  pub within : r ≤ Table.allPorts
+  pub counts : (p : ℕ) → rangeBase b i ≤ p → p < r → Counts b most p
+  pub ends : r < want → Counts b most r → ⊥
+
+-- x is a multiple of the step, and so many ports from there on, decoded by so many lines, meet no live grant
+pub record Free (b : List ℕ) (count lines step x : ℕ) : Type 0 where
+  pub multiple : Multiple step x
+  pub meets-none : MeetsSome b (record { base = x; count = count; lines = lines }) → ⊥
+
+-- such an x at or past one number, whose ports end at or before another
+pub record FreeBetween (b : List ℕ) (count lines step from end x : ℕ) : Type 0 where
+  pub free : Free b count lines step x
+  pub past : from ≤ x
+  pub before : x + count ≤ end
+
+-- a candidate: such an x that is positive and whose ports all count
+pub record CandidateIn (b : List ℕ) (most count lines step x : ℕ) : Type 0 where
+  pub free : Free b count lines step x
+  pub positive : 1 ≤ x
+  pub counted : (p : ℕ) → Within p x count → Counts b most p
+
+-- a candidate whose first port the range i has
+pub record StartsIn (b : List ℕ) (i most count lines step x : ℕ) : Type 0 where
+  pub candidate : CandidateIn b most count lines step x
+  pub has : Within x (rangeBase b i) (rangeCount b i)
+
+-- the lowest of those that fit, or none does
+abbrev pub LowestIs : (ℕ → Type 0) → Taken → Type 0
+LowestIs Fit (Base x) = Lowest Fit x
+LowestIs Fit Nothing = (x : ℕ) → Fit x → ⊥
+
+-- the candidate that is taken, or there is none
+abbrev pub TakenIs : List ℕ → List ℕ → Taken → Type 0
+TakenIs b p (Base x) = (a : Accepted b) → CandidateTaken (a .facts) p x
+TakenIs b p Nothing = (a : Accepted b) → NoCandidate (a .facts) p

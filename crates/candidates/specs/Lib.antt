@@ -1,0 +1,2 @@
+-- What the contracts of `candidates` cite. Assumes nothing.
+pub mod Candidates

@@ -1,0 +1,2 @@
+-- The clauses of the checks, and the mark of a bit. Assumes nothing.
+pub mod Clauses

@@ -1,0 +1,2 @@
+-- What the contracts of `io_packets` cite. Assumes nothing.
+pub mod Asking

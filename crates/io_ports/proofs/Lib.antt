@@ -1,0 +1,2 @@
+-- Each end of RequestIO and ReleaseIO. Assumes nothing.
+pub mod Ends

@@ -1,0 +1,2 @@
+-- What the contracts of `io_ports` cite. Assumes nothing.
+pub mod Granting

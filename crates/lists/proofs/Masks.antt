@@ -1,0 +1,52 @@
+-- A client's masks are sound exactly if each is formed and none is there for a socket from the count on. Assumes nothing.
+use mathlib.Core.Path.{_≡_, ap, _∙_}
+use mathlib.Core.Logic.{_⊎_, inl, inr, ⊎-elim}
+use mathlib.Core.List.{List}
+use Prim.Native.Nat.{ℕ, _+_, _-_, _/_, _≤_, _<_}
+use native.Mathlib.Nat.{eq-or-lt-of-le}
+use native.Mathlib.Decide.{decLt}
+use native.Mathlib.Omega.{arith}
+use Rattle.facts.specs.Table.{mostSockets}
+use Rattle.facts.specs.Packets.{byte, word}
+use Rattle.layout.specs.Reading.{socketsIn, maskPlace}
+use Rattle.layout.specs.Sound.{Zero, MaskSound}
+use Rattle.lists.specs.Parts.{MaskFormed, MasksFormed, MasksEnd, MasksSound}
+
+module _ (b : List ℕ) (i : ℕ) where
+  pub sound-formed : MasksSound b i → MasksFormed b i
+  sound-formed m s l = ⊎-elim inl (λ p. inr (p .0, p .1)) (m s l)
+
+  pub sound-end : MasksSound b i → MasksEnd b i
+  sound-end m s h l = ⊎-elim (λ e. e) (λ p. absurd (omega arith)) (m s l)
+
+  pub formed-sound : MasksFormed b i → MasksEnd b i → MasksSound b i
+  formed-sound m e s l = go (decLt s (socketsIn b)) (m s l)
+    where
+      go : Dec (s < socketsIn b) → MaskFormed (word b (maskPlace i s)) → MaskSound b i s
+      go (yes h) = ⊎-elim inl (λ p. inr (p .0, p .1, h))
+      go (no h) = λ p. inl (e s (omega arith) l)
+
+  -- the masks from the nth on are 0 exactly if their bytes are
+  module _ (n : ℕ) where
+    pub bytes-masks : Zero b (maskPlace i n) (maskPlace i mostSockets) → (s : ℕ) → n ≤ s → s < mostSockets → word b (maskPlace i s) ≡ 0
+    bytes-masks z s h l =
+        omega (arith, z (maskPlace i s) (omega arith) (omega arith), z (maskPlace i s + 1) (omega arith) (omega arith))
+
+    pub masks-bytes : ((s : ℕ) → n ≤ s → s < mostSockets → word b (maskPlace i s) ≡ 0) → Zero b (maskPlace i n) (maskPlace i mostSockets)
+    masks-bytes m k f l = go (eq-or-lt-of-le (omega arith))
+      where
+        s : ℕ
+        s = (k - maskPlace i 0) / 2
+
+        mask : word b (maskPlace i s) ≡ 0
+        mask = m s (omega arith) (omega arith)
+
+        go : (maskPlace i s ≡ k) ⊎ (maskPlace i s < k) → byte b k ≡ 0
+        go (inl e) = ap (byte b) (omega arith) ∙ low
+          where
+            low : byte b (maskPlace i s) ≡ 0
+            low = omega (arith, mask)
+        go (inr h) = ap (byte b) (omega arith) ∙ high
+          where
+            high : byte b (maskPlace i s + 1) ≡ 0
+            high = omega (arith, mask)

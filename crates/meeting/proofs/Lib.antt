@@ -1,0 +1,2 @@
+-- The ports of a socket's grant. Assumes nothing.
+pub mod Held

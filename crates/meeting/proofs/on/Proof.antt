@@ -1,0 +1,84 @@
+-- `meeting::on` meets its contract: the socket has a grant, and its ports meet those asked for.
+-- Assumes nothing.
+use mathlib.Core.Path.{sym, _∙_}
+use native.Mathlib.Omega.{arith}
+use denote.Ref.{now}
+use Rattle.facts.proofs.Says.{says-false}
+use Rattle.layout.specs.Sound.{IoUsed}
+use Rattle.meeting.proofs.Held.{lines-most, meets-held}
+use borrow.Author.Needs.{needs}
+use Rattle.meeting.proofs.on.Statement.{statement}
+use Rattle.meeting.proofs.on.Tie as tie
+
+-- where the call began
+abbrev start : tie.After-word → tie.Start
+start c = c .before .before
+
+-- there is a grant: its base is read, then its ports, then its lines
+abbrev based : tie.After-byte2 → tie.After-word2
+based c = c .before .before
+
+abbrev granted : tie.After-byte2 → tie.Else1
+granted c = based c .before
+
+used : (c : tie.Else1) → IoUsed (now (start (c .before) .args .t)) (start (c .before) .args .s .0)
+used c e = c .if1 .left (c .before .word .ensures .0 ∙ e)
+
+mul-at : tie.Need-mul-at
+mul-at c = search needs
+
+add-at : tie.Need-add-at
+add-at c = search needs
+
+word-requires : tie.Need-word-requires
+word-requires c κs = search needs
+
+returns : tie.Need-returns
+returns c = says-false (λ x. x .used (sym (c .before .word .ensures .0) ∙ c .if1 .taken))
+
+add-word : tie.Need-add-word
+add-word c = search needs
+
+word-requires-2 : tie.Need-word-requires-2
+word-requires-2 c κs = search needs
+
+add-byte : tie.Need-add-byte
+add-byte c = search needs
+
+byte-requires : tie.Need-byte-requires
+byte-requires c κs = search needs
+
+add-byte-2 : tie.Need-add-byte-2
+add-byte-2 c = search needs
+
+byte-requires-2 : tie.Need-byte-requires-2
+byte-requires-2 c κs = search needs
+
+meets-requires : tie.Need-meets-requires
+meets-requires c κs =
+    let s = start (granted c .before) in
+    (s .pre .1 .0, s .pre .1 .1, s .pre .1 .2, based c .word2 .ensures .1, omega (arith, c .byte2 .ensures .0, lines-most (now (s .args .t)) (s .args .s .0) (s .pre .0 .2)))
+
+returns-2 : tie.Need-returns-2
+returns-2 c =
+    let k = c .before in
+    let s = start (granted k .before) in
+    meets-held (now (s .args .t)) (s .args .s .0) (based k .word2 .ensures .0) (k .before .byte .ensures .0) (k .byte2 .ensures .0)
+    (record { base = s .args .base; count = s .args .count; lines = s .args .lines }) (used (granted k)) (c .meets .ensures)
+
+pub on-spec : {M : Type 1} → statement M
+on-spec =
+    tie.close
+    (tie.spec
+    mul-at
+    add-at
+    word-requires
+    returns
+    add-word
+    word-requires-2
+    add-byte
+    byte-requires
+    add-byte-2
+    byte-requires-2
+    meets-requires
+    returns-2)

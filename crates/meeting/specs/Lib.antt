@@ -1,0 +1,2 @@
+-- What the contracts of `meeting` cite. Assumes nothing.
+pub mod Meeting

@@ -1,0 +1,184 @@
+#include <string.h>
+
+#include "check.h"
+#include "compare.h"
+#include "sets.h"
+#include "sockets.h"
+
+/* RequestIO and ReleaseIO by chance. In a small world, of few ports and few lines,
+   most ranges are near each other or each other's images; in a large one counts
+   and lines are any. Grants are made by the calls themselves. */
+
+/* How many worlds, and how many questions in each: a search for a base that finds
+   none looks at up to 65,535 candidates. */
+enum { SMALL_WORLDS = 1600, IN_SMALL = 40, LARGE_WORLDS = 60, IN_LARGE = 60 };
+
+struct world {
+    uint32_t low, ports; /* the ports that are spoken of: so many from low on */
+    uint32_t most;       /* NumPorts1 is mostly not over it */
+    uint8_t few, many;   /* IOAddrLines is mostly from few to many, or 16 */
+};
+
+/* A world in low ports, or up to FFFF. */
+static struct world small_world(struct chance *c)
+{
+    uint32_t ports = 16u << pick(c, 3);
+    return (struct world){one_in(c, 12) ? CS_PORTS - ports : 0, ports, 9, 2, 6};
+}
+
+static const struct world large_world = {0, CS_PORTS, 255, 1, 16};
+
+/* Up to so many ranges, which may adjoin, none larger than this. */
+static void manage_some(struct chance *c, const struct world *w, unsigned ranges, uint32_t largest)
+{
+    struct model m;
+    ready_set(&m, 0, 0);
+    if (one_in(c, 4))
+        manage(&m, w->low, w->ports, one_in(c, 4));
+    for (unsigned i = 0; i < ranges && m.ranges < ranges; i++) {
+        uint32_t base = w->low + pick(c, w->ports), count = 1 + pick(c, largest);
+        bool adjoins = m.ranges > 0 && one_in(c, 2);
+        if (adjoins)
+            base = m.range[m.ranges - 1].base + m.range[m.ranges - 1].count;
+        manage(&m, base, count, one_in(c, 3));
+        if (!well_formed(&m))
+            m.ranges--;
+    }
+    lend_set(&m);
+}
+
+/* ---- Questions ---- */
+
+/* How often what was asked for came about. */
+static struct {
+    unsigned long named, chosen; /* granted */
+    unsigned long joined;        /* granted, meeting a grant that shares */
+    unsigned long met;           /* IN_USE: named ports meet a grant */
+    unsigned long by_lines;      /* the same, and no grant has one of these ports */
+    unsigned long none;          /* IN_USE: no candidate */
+} seen;
+
+static bool meets_one(const struct model *m, const struct io_grant *wish)
+{
+    for (unsigned s = 0; s < CS_SOCKETS; s++)
+        if (m->io[s].live && meet(&m->io[s], wish))
+            return true;
+    return false;
+}
+
+static bool holds_one(const struct model *m, const struct io_grant *wish)
+{
+    for (unsigned s = 0; s < CS_SOCKETS; s++)
+        if (m->io[s].live && m->io[s].base < wish->base + wish->count &&
+            wish->base < m->io[s].base + m->io[s].count)
+            return true;
+    return false;
+}
+
+/* Of a request at a socket without a grant. */
+static void count_request(const struct model *before, const struct io_grant *wish, uint32_t code)
+{
+    if (wish->base == 0) {
+        seen.chosen += code == CS_SUCCESS;
+        seen.none += code == CS_IN_USE;
+        return;
+    }
+    seen.named += code == CS_SUCCESS;
+    seen.joined += code == CS_SUCCESS && meets_one(before, wish);
+    seen.met += code == CS_IN_USE;
+    seen.by_lines += code == CS_IN_USE && !holds_one(before, wish);
+}
+
+/* Near a grant's base or an image of it, where there is a grant; else any port. */
+static uint32_t some_base(struct chance *c, const struct model *m, const struct world *w)
+{
+    const struct io_grant *g = &m->io[pick(c, CS_SOCKETS)];
+    if (!g->live || one_in(c, 3))
+        return w->low + pick(c, w->ports + 2);
+    uint32_t image = g->base + (pick(c, 4) << g->lines);
+    return image + pick(c, 5) - 2;
+}
+
+static uint8_t some_lines(struct chance *c, const struct world *w)
+{
+    if (one_in(c, 3))
+        return 16;
+    if (one_in(c, 24))
+        return (uint8_t)pick(c, 256);
+    return (uint8_t)(w->few + pick(c, w->many - w->few + 1u));
+}
+
+static void ask_request(struct chance *c, const struct world *w, uint8_t socket)
+{
+    static const uint8_t known[] = {ALONE, ALONE, SHARED, SHARED, SHARED, FIRST_SHARED, 13, 15};
+    struct model before = *lent_facts();
+    uint8_t count = (uint8_t)(one_in(c, 24) ? pick(c, 256) : 1 + pick(c, w->most));
+    uint8_t attributes = one_in(c, 24) ? (uint8_t)pick(c, 256) : known[pick(c, sizeof known)];
+    uint16_t base = (uint16_t)(one_in(c, 3) ? 0 : some_base(c, &before, w));
+    uint16_t client = (uint16_t)(1 + pick(c, CS_CLIENTS + one_in(c, 24)));
+    struct io_grant wish = {.base = base, .count = count, .lines = some_lines(c, w)};
+    uint32_t answer = request_io(client, socket, base, count, attributes, wish.lines);
+    if (!before.io[socket].live)
+        count_request(&before, &wish, CS_CODE(answer));
+}
+
+/* Mostly what is held, by its client. */
+static void ask_release(struct chance *c, uint8_t socket)
+{
+    struct io_grant g = lent_facts()->io[socket];
+    if (one_in(c, 12))
+        g.client = (uint16_t)(1 + pick(c, CS_CLIENTS));
+    if (one_in(c, 12))
+        g.base = (uint16_t)(g.base + pick(c, 3) - 1);
+    if (one_in(c, 12))
+        g.count = (uint8_t)(g.count + pick(c, 3) - 1);
+    release_io(g.client, socket, g.base, g.count);
+}
+
+static void ask_some(struct chance *c, const struct world *w, unsigned questions)
+{
+    for (unsigned i = 0; i < questions; i++) {
+        uint8_t socket = (uint8_t)pick(c, CS_SOCKETS);
+        if (lent_facts()->io[socket].live && !one_in(c, 6))
+            ask_release(c, socket);
+        else
+            ask_request(c, w, socket);
+    }
+}
+
+static void each_came_about(unsigned long least)
+{
+    must_hold("named ports were granted", seen.named >= least);
+    must_hold("ports were chosen", seen.chosen >= least);
+    must_hold("a request joined a grant that shares", seen.joined >= least);
+    must_hold("named ports met a grant", seen.met >= least);
+    must_hold("they met it by its lines alone", seen.by_lines >= least);
+    must_hold("there was no candidate", seen.none >= least);
+    must_hold("ports were past FFFF or unmanaged",
+              answered_to(CS_REQUEST_IO, CS_BAD_BASE) >= least);
+    must_hold("grants were given back", answered_to(CS_RELEASE_IO, CS_SUCCESS) >= least);
+    must_hold("releases were refused", answered_to(CS_RELEASE_IO, CS_BAD_BASE) >= least);
+}
+
+void io_small_worlds(void)
+{
+    struct chance c = {41};
+    memset(&seen, 0, sizeof seen);
+    for (unsigned i = 0; i < SMALL_WORLDS; i++) {
+        struct world w = small_world(&c);
+        manage_some(&c, &w, 6, w.ports / 2);
+        ask_some(&c, &w, IN_SMALL);
+    }
+    each_came_about(1500);
+}
+
+void io_large_worlds(void)
+{
+    struct chance c = {42};
+    memset(&seen, 0, sizeof seen);
+    for (unsigned i = 0; i < LARGE_WORLDS; i++) {
+        manage_some(&c, &large_world, 1 + pick(&c, CS_RANGES), 4096);
+        ask_some(&c, &large_world, IN_LARGE);
+    }
+    each_came_about(60);
+}
