@@ -5,6 +5,7 @@
 #include <string.h>
 
 #include "layout.h"
+#include "log.h"
 #include "names.h"
 
 /* ---- Counting and reporting ---- */
@@ -237,6 +238,46 @@ const uint8_t *lent_table(void)
     return table.is + GUARD;
 }
 
+/* ---- The log of a run ---- */
+
+static bool judged_after_each;
+
+static void take_verdict(const struct verdict *v)
+{
+    checks += v->compared;
+    for (unsigned long i = 0; i < v->wrong; i++)
+        if (reports() && i < MOST_TOLD) {
+            printf("compare: %s: the log: ", running);
+            print_wrong(&v->told[i]);
+        }
+}
+
+/* What the archive left is read, and not what the model works with. */
+static void facts_by_log(void)
+{
+    static struct model said;
+    struct verdict v = {0};
+    must_hold("a run's table is well formed", model_read(lent_table(), table.len, &said));
+    judge_facts(&v, &said);
+    take_verdict(&v);
+}
+
+void begin_log(enum judged when)
+{
+    judged_after_each = when == AFTER_EACH;
+    open_log(&facts);
+}
+
+void end_log(void)
+{
+    struct verdict v = {0};
+    facts_by_log();
+    judge_answers(&v);
+    take_verdict(&v);
+    judged_after_each = false;
+    close_log();
+}
+
 /* ---- Questions ---- */
 
 struct question {
@@ -317,6 +358,8 @@ static void compare_all(const struct question *q, struct answer expected, struct
 {
     checks++;
     count_answer(q, got.code % CODES);
+    if (judged_after_each)
+        facts_by_log();
     if (all_as_expected(expected, got))
         return;
     if (reports()) {
@@ -358,21 +401,27 @@ uint32_t ask_card_in(uint32_t socket)
 {
     struct question q = question("cs_card_in", "socket", socket);
     uint32_t expected = accepted ? image_after(model_card_in(&facts, socket)) : CS_GENERAL_FAILURE;
-    return compare(&q, expected, cs_card_in(table.is + GUARD, table.len, socket));
+    uint32_t got = cs_card_in(table.is + GUARD, table.len, socket);
+    log_card_in(socket, got);
+    return compare(&q, expected, got);
 }
 
 uint32_t ask_card_out(uint32_t socket)
 {
     struct question q = question("cs_card_out", "socket", socket);
     uint32_t expected = accepted ? image_after(model_card_out(&facts, socket)) : CS_GENERAL_FAILURE;
-    return compare(&q, expected, cs_card_out(table.is + GUARD, table.len, socket));
+    uint32_t got = cs_card_out(table.is + GUARD, table.len, socket);
+    log_card_out(socket, got);
+    return compare(&q, expected, got);
 }
 
 uint32_t ask_sharers(uint32_t level)
 {
     struct question q = question("cs_sharers", "level", level);
     uint32_t expected = accepted ? model_sharers(&facts, level) : CS_GENERAL_FAILURE;
-    return compare(&q, expected, cs_sharers(table.is + GUARD, table.len, level));
+    uint32_t got = cs_sharers(table.is + GUARD, table.len, level);
+    log_sharers(level, got);
+    return compare(&q, expected, got);
 }
 
 static uint32_t expected_of_call(uint16_t service, uint16_t handle, size_t len)
@@ -390,6 +439,7 @@ uint32_t ask_call(uint16_t service, uint16_t handle, const uint8_t *bytes, size_
     uint32_t expected = expected_of_call(service, handle, len);
     uint8_t *passed = bytes == NULL ? NULL : packet.is + GUARD;
     uint32_t got = cs_call(table.is + GUARD, table.len, service, handle, passed, len);
+    log_call(service, handle, bytes, packet.is + GUARD, len, got);
     return compare(&q, expected, got);
 }
 
@@ -423,6 +473,7 @@ uint64_t ask_boot(const uint8_t *records, size_t len)
     uint64_t expected = expected_of_boot(len);
     const uint8_t *passed = records == NULL ? NULL : packet.is + GUARD;
     uint64_t got = cs_boot(table.is + GUARD, table.len, passed, len);
+    log_boot(records, len, got);
     compare_all(&q, boot_taken_apart(expected), boot_taken_apart(got));
     return got;
 }

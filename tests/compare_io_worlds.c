@@ -167,7 +167,9 @@ void io_small_worlds(void)
     for (unsigned i = 0; i < SMALL_WORLDS; i++) {
         struct world w = small_world(&c);
         manage_some(&c, &w, 6, w.ports / 2);
+        begin_log(i % 100 == 0 ? AFTER_EACH : AT_THE_END);
         ask_some(&c, &w, IN_SMALL);
+        end_log();
     }
     each_came_about(1500);
 }
@@ -178,7 +180,9 @@ void io_large_worlds(void)
     memset(&seen, 0, sizeof seen);
     for (unsigned i = 0; i < LARGE_WORLDS; i++) {
         manage_some(&c, &large_world, 1 + pick(&c, CS_RANGES), 4096);
+        begin_log(i % 20 == 0 ? AFTER_EACH : AT_THE_END);
         ask_some(&c, &large_world, IN_LARGE);
+        end_log();
     }
     each_came_about(60);
 }

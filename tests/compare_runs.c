@@ -148,7 +148,9 @@ void runs_from_fresh(void)
     for (uint64_t seed = 1; seed <= 100; seed++) {
         struct chance c = {seed};
         lend_fresh((uint32_t)(1 + seed % CS_SOCKETS));
+        begin_log(seed == 50 ? AFTER_EACH : AT_THE_END);
         run_on(&c, 1000);
+        end_log();
         ask_fresh(some_number(&c, CS_SOCKETS));
     }
     saw_all(10);
@@ -166,7 +168,9 @@ void runs_from_sets(void)
         else
             random_set(&c, &m);
         lend_set(&m);
+        begin_log(seed % 150 == 0 ? AFTER_EACH : AT_THE_END);
         run_on(&c, 100);
+        end_log();
     }
     saw_all(50);
     must_hold("a run did enough", answered(CS_SUCCESS) >= 15000);
@@ -183,8 +187,10 @@ void runs_of_sockets(void)
             random_set(&c, &m);
         while (m.clients == 0);
         lend_set(&m);
+        begin_log(seed % 150 == 0 ? AFTER_EACH : AT_THE_END);
         for (unsigned i = 0; i < 320; i++)
             random_question(&c, OF_SOCKETS);
+        end_log();
     }
     for (unsigned i = 0; i < SERVICES; i++)
         if (of_sockets(gives[i].service))

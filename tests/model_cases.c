@@ -772,6 +772,7 @@ int main(void)
     boot_places();
     range_limit();
     io_cases();
+    log_cases();
     runs();
     printf("model_cases: %lu checks, %lu differ\n", checks, failed);
     return failed == 0 ? 0 : 1;

@@ -28,4 +28,7 @@ uint32_t request_io_code(struct model *m, uint8_t socket, uint16_t base, uint8_t
 /* model_io_cases.c: ports, RequestIO and ReleaseIO */
 void io_cases(void);
 
+/* log_cases.c: what stands after a log, which log.c works out */
+void log_cases(void);
+
 #endif

@@ -1,7 +1,7 @@
 #!/bin/sh
 # run.sh: builds the archive and the C side, tries what types must refuse, looks
 # at what the archive needs, and runs the header's example, the model's own
-# cases, the comparison and the demo. Ends at the first failure.
+# cases, the comparison and the demo. Ends at the first failure; types come last.
 set -eu
 # shellcheck source=tests/toolchain.sh
 . "$(dirname "$0")/toolchain.sh"
@@ -15,7 +15,11 @@ quoted_example() {
 install_compilers
 build_archive
 
-sh tests/types.sh
+# What types must refuse is tried beside the C side, which leaves a processor free.
+mkdir -p "$programs"
+sh tests/types.sh >"$programs/types.printed" 2>&1 &
+types=$!
+trap 'kill "$types" 2>/dev/null || true' EXIT
 
 echo "run: the header as C99 and as C++"
 compile_c -fsyntax-only tests/header.c
@@ -36,7 +40,7 @@ if grep -vE ' U mem(cpy|move|set|cmp)$' "$programs/undefined"; then exit 1; fi
 
 model='tests/model.c tests/layout.c tests/sets.c tests/names.c'
 # shellcheck disable=SC2086
-build model_cases tests/model_cases.c tests/model_io_cases.c $model
+build model_cases tests/model_cases.c tests/model_io_cases.c tests/log_cases.c tests/log.c $model
 run model_cases
 
 # shellcheck disable=SC2086
@@ -44,12 +48,19 @@ build compare tests/compare.c tests/compare_calls.c tests/compare_resources.c \
     tests/compare_holders.c tests/compare_boot.c tests/compare_sockets.c tests/compare_irq.c \
     tests/compare_io.c tests/compare_io_choice.c tests/compare_io_held.c \
     tests/compare_io_worlds.c tests/compare_masks.c tests/compare_runs.c tests/compare_tables.c \
-    tests/resources.c tests/sockets.c tests/clauses.c tests/check.c $model "$archive"
+    tests/resources.c tests/sockets.c tests/clauses.c tests/check.c tests/log.c $model "$archive"
 run compare
 
 echo "run: the demo"
 build demo tests/demo.c tests/names.c "$archive"
 run demo >"$programs/demo.printed"
 diff tests/demo.expected "$programs/demo.printed"
+
+echo "run: what types must refuse"
+tried=0
+wait "$types" || tried=$?
+trap - EXIT
+cat "$programs/types.printed"
+[ "$tried" -eq 0 ] || exit 1
 
 echo "run: all passed"

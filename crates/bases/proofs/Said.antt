@@ -1,11 +1,10 @@
 -- What the bytes say of the ports at a named base: whether they are managed, and what is in their way. Assumes nothing.
-use mathlib.Core.Path.{_≡_, sym, _∙_, subst}
+use mathlib.Core.Path.{_≡_, sym, subst}
 use mathlib.Core.Logic.{_⊎_, inl, inr}
 use mathlib.Core.List.{List}
 use mathlib.Core.Bool.{Bool, true, not}
 use Prim.Native.Nat.{ℕ, _+_, _<_}
 use native.Mathlib.Omega.{arith}
-use borrow.Author.Tests.{eq-eqb, eqb-true}
 use Rattle.facts.specs.Table
 use Rattle.facts.specs.Table.{Ports, IoGrant}
 use Rattle.facts.specs.Says.{Says}
@@ -16,7 +15,7 @@ use Rattle.facts.proofs.Says.{says-as, says-not}
 use Rattle.layout.specs.Reading.{ioPlace, ioIn}
 use Rattle.layout.specs.Sound.{Accepted, ManagedIn}
 use Rattle.layout.proofs.Of
-use Rattle.layout.proofs.Ios.{shared-is}
+use Rattle.layout.proofs.Ios.{marked-shared, shared-marked}
 use Rattle.reading.proofs.Some.{Some}
 use Rattle.meeting.specs.Meeting.{MeetsOn}
 use Rattle.bases.specs.Bases.{Stands}
@@ -48,9 +47,7 @@ module _ (b p : List ℕ) {base count : ℕ} (base-is : base ≡ baseAsked p) (c
 -- a grant shares exactly if its record is marked
 pub share-says : (b p : List ℕ) (s : ℕ) {r : Bool} → IoShared p → Says r (byte b (ioPlace s + 6) ≡ 1)
     → Says r (IoShared p × (ioIn b s .shared ≡ true))
-share-says b p s shared x =
-    says-as x (λ e. (shared, shared-is b s ∙ eq-eqb (byte b (ioPlace s + 6)) 1 e))
-    (λ y. eqb-true (byte b (ioPlace s + 6)) 1 (sym (shared-is b s) ∙ y .1))
+share-says b p s shared x = says-as x (λ e. (shared, marked-shared b s e)) (λ y. shared-marked b s (y .1))
 
 -- the ports that a packet names, read one by one
 module _ (b p : List ℕ) (s : ℕ) {base count lines : ℕ} (base-is : base ≡ baseAsked p) (count-is : count ≡ countAsked p)

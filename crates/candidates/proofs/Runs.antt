@@ -8,20 +8,10 @@ use native.Mathlib.Nat.{eq-or-lt-of-le}
 use native.Mathlib.Decide.{decLt}
 use native.Mathlib.Omega.{arith}
 use Rattle.facts.specs.Table
-use Rattle.facts.specs.Ports.{Within}
 use Rattle.layout.specs.Reading.{rangesIn}
-use Rattle.layout.specs.Sound.{Accepted, RangesSound, rangeBase, rangeCount}
-use Rattle.layout.proofs.Of.{sound-in}
-use Rattle.layout.proofs.Managed.{rangeEnd, ends-before, bases-rise}
+use Rattle.layout.specs.Sound.{RangesSound, rangeBase}
+use Rattle.layout.proofs.Managed.{rangeEnd, ends-before, bases-rise, HasPort, same-range}
 use Rattle.candidates.specs.Candidates.{reserveMark, Counts, Follows, ReachIs}
-
--- a range that is listed has one of the table's places
-pub range-placed : (b : List ℕ) → Accepted b → (i : ℕ) → i < rangesIn b → i < Table.mostRanges
-range-placed b a i l = omega (arith, sound-in b a .ranges-most)
-
--- the range i has the port p
-abbrev pub HasPort : List ℕ → ℕ → ℕ → Type 0
-HasPort b i p = Within p (rangeBase b i) (rangeCount b i)
 
 -- a walk that has come to the range j: from the base of the range i on, the ports before `end` count; the ranges before j end there or before, and
 -- no later one starts before it
@@ -34,22 +24,13 @@ pub record Run (b : List ℕ) (i most j end : ℕ) : Type 0 where
   pub ahead : (k : ℕ) → j ≤ k → k < rangesIn b → end ≤ rangeBase b k
 
 module _ (b : List ℕ) (s : RangesSound b) where
-  -- a port lies in one range
-  pub same-range : (p i j : ℕ) → i < rangesIn b → j < rangesIn b → HasPort b i p → HasPort b j p → i ≡ j
-  same-range p i j l m v w = go (decLt i j) (decLt j i)
-    where
-      go : Dec (i < j) → Dec (j < i) → i ≡ j
-      go (yes k) d = absurd (omega (arith, ends-before b s i j k m, v .below, w .from))
-      go (no n) (yes k) = absurd (omega (arith, ends-before b s j i k l, w .below, v .from))
-      go (no n) (no k) = omega arith
-
-  -- the ports of a range count together
+  -- the ports of a range count together, since a port lies in one range
   pub counts-alike : (most i p q : ℕ) → i < rangesIn b → HasPort b i p → HasPort b i q → Counts b most p → Counts b most q
   counts-alike most i p q l v w c =
       record {
         range = i;
         listed = l;
-        mark = subst (λ (k : ℕ). reserveMark b k ≤ most) (same-range p (c .range) i (c .listed) l (c .has) v) (c .mark);
+        mark = subst (λ (k : ℕ). reserveMark b k ≤ most) (same-range b s p (c .range) i (c .listed) l (c .has) v) (c .mark);
         has = w;
       }
 

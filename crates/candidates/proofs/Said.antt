@@ -4,27 +4,23 @@ use mathlib.Core.Path.{_≡_, refl, ap, sym, _∙_, subst}
 use mathlib.Core.List.{List}
 use mathlib.Core.Bool.{false}
 use Prim.Native.Nat.{ℕ, _+_, _-_, _*_, _≤_, _<_}
-use native.Mathlib.Decide.{decLe, map-dec}
 use native.Mathlib.Omega.{arith}
 use borrow.Author.Tests.{eqb-false, ne-eqb}
-use Rattle.facts.specs.Table.{Facts, Range, IoGrant}
+use Rattle.facts.specs.Table.{Range, IoGrant}
 use Rattle.facts.specs.Choice.{Lowest}
 use Rattle.facts.specs.Ports.{Meet, Has, Managed, WhollyUnreserved}
 use Rattle.facts.specs.Io.{countAsked, linesAsked, portsAt, SmallestPower, Candidate, CandidateTaken}
+use Rattle.facts.proofs.Told.{Unreserved, wholly-unreserved-told}
 use Rattle.facts.proofs.Choices.{chosen-first, chosen-then, smallest-power-unique}
 use Rattle.layout.specs.Reading.{rangesIn, rangeIn, ioIn, marked}
 use Rattle.layout.specs.Sound.{Accepted, RangesSound}
 use Rattle.layout.proofs.Of
-use Rattle.reading.proofs.All.{All}
+use Rattle.layout.proofs.Managed.{HasPort}
 use Rattle.candidates.specs.declared.Taken.{Taken}
 use Rattle.candidates.specs.declared.Taken.the-variants.{Base, Nothing}
 use Rattle.candidates.specs.Candidates.{reserveMark, Counts, Free, CandidateIn, LowestIs, TakenIs}
-use Rattle.candidates.proofs.Choosing.{lowest-as, dec-all}
-use Rattle.candidates.proofs.Runs.{HasPort, same-range, counts-below}
-
--- an unreserved range that has the port
-abbrev Unreserved : Facts → ℕ → Type 0
-Unreserved F q = (m : Managed F q) × (m .range .reserved ≡ false)
+use Rattle.candidates.proofs.Choosing.{lowest-as}
+use Rattle.candidates.proofs.Runs.{counts-below}
 
 module _ (b : List ℕ) (a : Accepted b) where
   ordered : RangesSound b
@@ -74,16 +70,6 @@ module _ (b : List ℕ) (a : Accepted b) where
             mark = omega (arith, ordered (x .0) (x .1) .mark, eqb-false (reserveMark b (x .0)) 1 unmarked);
             has = said-has (x .0) q (subst (λ (r : Range). Has r q) (x .2) (u .0 .has));
           }
-
-  -- of a port that counts it is decided whether it does among the unreserved ranges alone, since it lies in one range
-  counts-decided : (q : ℕ) → Counts b 1 q → Dec (Counts b 0 q)
-  counts-decided q c = go (decLe (reserveMark b (c .range)) 0)
-    where
-      go : Dec (reserveMark b (c .range) ≤ 0) → Dec (Counts b 0 q)
-      go (yes l) = yes (record { range = c .range; listed = c .listed; mark = l; has = c .has })
-      go (no n) =
-          no (λ d. n (subst (λ (k : ℕ). reserveMark b k ≤ 0) (same-range b ordered q (d .range) (c .range) (d .listed) (c .listed) (d .has) (c .has))
-          (d .mark)))
 
   module _ (p : List ℕ) (step : ℕ) (align : SmallestPower (countAsked p) step) (one : 1 ≤ countAsked p) where
     abbrev Found : ℕ → ℕ → Type 0
@@ -138,27 +124,10 @@ module _ (b : List ℕ) (a : Accepted b) where
     early-found x c =
         record { free = candidate-free x (c .0); positive = c .0 .positive; counted = λ q w. unreserved-counts q (c .1 q w) }
 
-    -- of a candidate it is decided whether it does
-    early-decided : (x : ℕ) → Candidate (a .facts) p x → Dec (Early x)
-    early-decided x c = map-dec wholly each (dec-all (countAsked p) one-decided)
-      where
-        One : ℕ → Type 0
-        One i = Counts b 0 (x + i)
-
-        one-decided : (i : ℕ) → i < countAsked p → Dec (One i)
-        one-decided i l = counts-decided (x + i) (candidate-found x c .counted (x + i) (record { from = omega arith; below = omega arith }))
-
-        wholly : All (countAsked p) One → Early x
-        wholly f q w =
-            let e : x + (q - x) ≡ q = omega (arith, w .from) in
-            counts-unreserved q (subst (Counts b 0) e (f (q - x) (omega (arith, w .below, w .from))))
-
-        each : Early x → All (countAsked p) One
-        each f i l = unreserved-counts (x + i) (f (x + i) (record { from = omega arith; below = omega arith }))
-
     -- the lowest of these is taken, or else the lowest of all
     taken-early : (x : ℕ) → Lowest (Found 0) x → CandidateTaken (a .facts) p x
-    taken-early x low = chosen-first early-decided (lowest-as found-early early-found (Base x) low)
+    taken-early x low =
+        chosen-first (λ y _. wholly-unreserved-told (a .facts) y (countAsked p)) (lowest-as found-early early-found (Base x) low)
 
     taken-late : ((x : ℕ) → Found 0 x → ⊥) → (x : ℕ) → Lowest (Found 1) x → CandidateTaken (a .facts) p x
     taken-late none x low = chosen-then (λ y c e. none y (early-found y (c, e))) (lowest-as (found-candidate 1) candidate-found (Base x) low)

@@ -86,11 +86,11 @@ sharers-refusal-zero F l o (inl r) ne = r .1
 sharers-refusal-zero F l o (inr r) ne = absurd (ne (r .1 .0))
 
 -- no check gives Success: a computed test
-abbrev noSuccess : List Check → Bool
+abbrev pub noSuccess : List Check → Bool
 noSuccess [] = true
 noSuccess (c ∷ cs) = cond (eqb (numberOf (c .code)) 0) false (noSuccess cs)
 
-none-succeeds : (cs : List Check) → T (noSuccess cs) → NoSuccess cs
+pub none-succeeds : (cs : List Check) → T (noSuccess cs) → NoSuccess cs
 none-succeeds [] t = tt
 none-succeeds (c ∷ cs) t = ((λ e. rw e at t), none-succeeds cs (rest (eqb (numberOf (c .code)) 0) t))
   where

@@ -52,16 +52,20 @@ pub inserted-more : (r : Range) (xs : List Range) → length (inserted r xs) ≡
 inserted-more r [] = refl
 inserted-more r (x ∷ xs) = inserted-cases (λ (l : List Range). length l ≡ suc (suc (length xs))) r x xs (λ b. refl) (λ b. ap suc (inserted-more r xs))
 
-inserted-in : (r y : Range) (xs : List Range) → y ∈ inserted r xs → (y ≡ r) ⊎ (y ∈ xs)
+pub inserted-in : (r y : Range) (xs : List Range) → y ∈ inserted r xs → (y ≡ r) ⊎ (y ∈ xs)
 inserted-in r y [] m = m
 inserted-in r y (x ∷ xs) m =
     inserted-cases (λ (l : List Range). y ∈ l → (y ≡ r) ⊎ (y ∈ (x ∷ xs))) r x xs (λ b k. k)
     (λ b. ⊎-elim (λ e. inr (inl e)) (λ k. ⊎-elim inl (λ n. inr (inr n)) (inserted-in r y xs k))) m
 
-in-inserted : (r y : Range) (xs : List Range) → y ∈ xs → y ∈ inserted r xs
+pub in-inserted : (r y : Range) (xs : List Range) → y ∈ xs → y ∈ inserted r xs
 in-inserted r y [] m = absurd m
 in-inserted r y (x ∷ xs) m =
     inserted-cases (λ (l : List Range). y ∈ l) r x xs (λ b. inr m) (λ b. ⊎-elim inl (λ k. inr (in-inserted r y xs k)) m)
+
+pub new-inserted : (r : Range) (xs : List Range) → r ∈ inserted r xs
+new-inserted r [] = inl refl
+new-inserted r (x ∷ xs) = inserted-cases (λ (l : List Range). r ∈ l) r x xs (λ b. inl refl) (λ b. inr (new-inserted r xs))
 
 -- ranges that have no port of another
 abbrev Clear : Range → List Range → Type 0

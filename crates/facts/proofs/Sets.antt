@@ -140,6 +140,13 @@ rising-without lo h (x ∷ cs) r =
     by-number (λ (c : Client). c .handle) h (Rising lo) x cs (λ e. rising-down lo (x .handle) cs (omega (arith, r .0)) (r .1))
     (λ d. (r .0, rising-without (x .handle) h cs (r .1)))
 
+-- one left out is no longer there
+pub rising-left-out : (lo h : ℕ) (cs : List Client) → Rising lo cs → (c : Client) → c ∈ without (λ (c : Client). c .handle) h cs → c .handle ≢ h
+rising-left-out lo h [] r c = absurd
+rising-left-out lo h (x ∷ cs) r c =
+    by-number (λ (c : Client). c .handle) h (λ l. c ∈ l → c .handle ≢ h) x cs (λ e m q. omega (arith, e, q, rising-over (x .handle) cs (r .1) c m))
+    (λ d. ⊎-elim (λ e q. d (sym (ap (λ (c : Client). c .handle) e) ∙ q)) (rising-left-out (x .handle) h cs (r .1) c))
+
 pub rising-map : (f : Client → Client) → ((c : Client) → f c .handle ≡ c .handle) → (lo : ℕ) (cs : List Client) → Rising lo cs → Rising lo (map f cs)
 rising-map f same lo [] r = tt
 rising-map f same lo (x ∷ cs) r =
@@ -160,3 +167,15 @@ apart-without lo base [] a = tt
 apart-without lo base (x ∷ rs) a =
     by-number (λ (r : Range). r .base) base (Apart lo) x rs (λ e. apart-down lo (x .base + x .count) rs (omega (arith, a .0)) (a .2))
     (λ d. (a .0, a .1, apart-without (x .base + x .count) base rs (a .2)))
+
+pub apart-over : (lo : ℕ) (rs : List Range) → Apart lo rs → (r : Range) → r ∈ rs → lo ≤ r .base
+apart-over lo [] a r m = absurd m
+apart-over lo (x ∷ rs) a r (inl e) = subst (λ (y : Range). lo ≤ y .base) (sym e) (a .0)
+apart-over lo (x ∷ rs) a r (inr m) = omega (arith, a .0, apart-over (x .base + x .count) rs (a .2) r m)
+
+pub apart-left-out : (lo base : ℕ) (rs : List Range) → Apart lo rs → (r : Range) → r ∈ without (λ (r : Range). r .base) base rs → r .base ≢ base
+apart-left-out lo base [] a r = absurd
+apart-left-out lo base (x ∷ rs) a r =
+    by-number (λ (r : Range). r .base) base (λ l. r ∈ l → r .base ≢ base) x rs
+    (λ e m q. omega (arith, e, q, a .1, apart-over (x .base + x .count) rs (a .2) r m))
+    (λ d. ⊎-elim (λ e q. d (sym (ap (λ (r : Range). r .base) e) ∙ q)) (apart-left-out (x .base + x .count) base rs (a .2) r))

@@ -8,7 +8,7 @@ use native.Mathlib.Decide.{ℕ-discrete, decLe, decLt}
 use native.Mathlib.Omega.{arith}
 use Rattle.facts.specs.Table.{Facts, Client, Range}
 use Rattle.facts.specs.Sets.{_∈_}
-use Rattle.facts.specs.Ports.{Within, Has, Managed, AllManaged}
+use Rattle.facts.specs.Ports.{Within, Has, Managed, AllManaged, WhollyUnreserved}
 use Rattle.facts.specs.WellFormed.{Live, AttributesAllowed}
 
 pub told : {A : Type 0} → Dec A → ((A → ⊥) → ⊥) → A
@@ -29,6 +29,10 @@ either-told (no a) (no b) = no (⊎-elim a b)
 pub true-told : (t : Bool) → Dec (t ≡ true)
 true-told true = yes refl
 true-told false = no false≢true
+
+false-told : (t : Bool) → Dec (t ≡ false)
+false-told true = no (λ e. false≢true (sym e))
+false-told false = yes refl
 
 -- one of those listed
 pub listed-told : {A : Type 0} (P : A → Type 0) → ((x : A) → Dec (P x)) → (xs : List A) → Dec ((x : A) × (x ∈ xs) × P x)
@@ -57,7 +61,7 @@ run-told P d base (suc n) = go (run-told P d base n) (d (base + n))
     go (yes a) (no f) = no (λ h. f (h (base + n) (record { from = omega arith; below = omega arith })))
     go (no f) p = no (λ h. f (λ x w. h x (record { from = w .from; below = omega (arith, w .below) })))
 
--- a live client, managed ports, attributes
+-- a live client, managed ports, those of unreserved ranges, attributes
 pub live-told : (F : Facts) (h : ℕ) → Dec (Live F h)
 live-told F h = go (listed-told (λ (c : Client). c .handle ≡ h) (λ c. ℕ-discrete (c .handle) h) (F .clients))
   where
@@ -82,6 +86,21 @@ managed-told F p = go (listed-told (λ (r : Range). Has r p) (λ r. has-told r p
 
 pub all-managed-told : (F : Facts) (base count : ℕ) → Dec (AllManaged F base count)
 all-managed-told F = run-told (Managed F) (managed-told F)
+
+-- an unreserved range that has the port
+abbrev pub Unreserved : Facts → ℕ → Type 0
+Unreserved F p = (m : Managed F p) × (m .range .reserved ≡ false)
+
+unreserved-told : (F : Facts) (p : ℕ) → Dec (Unreserved F p)
+unreserved-told F p =
+    go (listed-told (λ (r : Range). Has r p × (r .reserved ≡ false)) (λ r. both-told (has-told r p) (false-told (r .reserved))) (F .ranges))
+  where
+    go : Dec ((r : Range) × (r ∈ F .ranges) × (Has r p × (r .reserved ≡ false))) → Dec (Unreserved F p)
+    go (yes r) = yes (record { range = r .0; listed = r .1; has = r .2 .0 }, r .2 .1)
+    go (no n) = no (λ u. n (u .0 .range, u .0 .listed, (u .0 .has, u .1)))
+
+pub wholly-unreserved-told : (F : Facts) (base count : ℕ) → Dec (WhollyUnreserved F base count)
+wholly-unreserved-told F = run-told (Unreserved F) (unreserved-told F)
 
 pub attributes-told : (a : ℕ) → Dec (AttributesAllowed a)
 attributes-told a =

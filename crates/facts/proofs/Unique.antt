@@ -4,7 +4,7 @@ use mathlib.Core.Logic.{_⊎_, inl, inr, ⊎-elim}
 use mathlib.Core.List.{List, [], _∷_}
 use mathlib.Core.Bool.{Bool, false}
 use mathlib.Core.Option.{some}
-use Prim.Native.Nat.{ℕ, _+_, _≤_, _<_}
+use Prim.Native.Nat.{ℕ, _+_, _<_}
 use native.Mathlib.Omega.{arith}
 use lib.ListN.{length}
 use Rattle.facts.specs.declared.Code.{Code}
@@ -33,7 +33,7 @@ use Rattle.facts.specs.Io.{RequestIo, ReleaseIo, BaseTaken, ioRequestChe
 use Rattle.facts.specs.Boot.{Boot, Booted, done, broken, refused, added, stopped, recordOf, recordChecks}
 use Rattle.facts.specs.Services.{Service, registerClient, deregisterClient, adjustResourceInfo, requestIrq, releaseIrq, requestIo, releaseIo}
 use Rattle.facts.specs.Services.{requestSocketMask, releaseSocketMask, serviceNumber, ruleOf, Call}
-use Rattle.facts.proofs.Sets.{found}
+use Rattle.facts.proofs.Sets.{apart-over, found}
 
 -- the first check that applies is one, and where one applies they don't all pass
 pub first-unique : (cs : List Check) (k k′ : Code) → FirstGiven cs k → FirstGiven cs k′ → k ≡ k′
@@ -120,16 +120,11 @@ base-taken-unique F p x y (inr b) (inl b′) = absurd (b′ .0 (b .0))
 base-taken-unique F p x y (inr b) (inr b′) = chosen-unique (b .1) (b′ .1)
 
 -- of ranges apart from each other there is one at a base
-above : (lo : ℕ) (rs : List Range) (r : Range) → Apart lo rs → r ∈ rs → lo ≤ r .base
-above lo [] r a i = absurd i
-above lo (x ∷ xs) r a (inl e) = rw e (a .0)
-above lo (x ∷ xs) r a (inr i) = omega (arith, above (x .base + x .count) xs r (a .2) i)
-
 pub range-unique : (lo : ℕ) (rs : List Range) (r r′ : Range) → Apart lo rs → r ∈ rs → r′ ∈ rs → r .base ≡ r′ .base → r ≡ r′
 range-unique lo [] r r′ a i i′ e = absurd i
 range-unique lo (x ∷ xs) r r′ a (inl i) (inl i′) e = cc
-range-unique lo (x ∷ xs) r r′ a (inl i) (inr i′) e = absurd (omega (arith, above (x .base + x .count) xs r′ (a .2) i′, ap (λ (z : Range). z .base) i))
-range-unique lo (x ∷ xs) r r′ a (inr i) (inl i′) e = absurd (omega (arith, above (x .base + x .count) xs r (a .2) i, ap (λ (z : Range). z .base) i′))
+range-unique lo (x ∷ xs) r r′ a (inl i) (inr i′) e = absurd (omega (arith, apart-over (x .base + x .count) xs (a .2) r′ i′, ap (λ (z : Range). z .base) i))
+range-unique lo (x ∷ xs) r r′ a (inr i) (inl i′) e = absurd (omega (arith, apart-over (x .base + x .count) xs (a .2) r i, ap (λ (z : Range). z .base) i′))
 range-unique lo (x ∷ xs) r r′ a (inr i) (inr i′) e = range-unique (x .base + x .count) xs r r′ (a .2) i i′ e
 
 -- what First and Next show of a range or of a level is one

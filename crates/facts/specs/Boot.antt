@@ -1,5 +1,5 @@
 -- The boot list: "a lent slice of resource records, added in order". Assumes nothing.
-use mathlib.Core.List.{List, []}
+use mathlib.Core.List.{List, [], _∷_}
 use mathlib.Core.Bool.{cond}
 use Prim.Native.Nat.{ℕ, zero, suc, _+_, _≤_, _<_}
 use lib.ListN.{length, drop}
@@ -19,6 +19,11 @@ recordSize = 10
 
 abbrev pub recordOf : List ℕ → Record
 recordOf b = record { resource = byte b 0; attributes = byte b 1; base = long b 2; count = long b 6 }
+
+-- the first n records of the bytes
+abbrev pub recordsIn : ℕ → List ℕ → List Record
+recordsIn zero b = []
+recordsIn (suc n) b = recordOf b ∷ recordsIn n (drop recordSize b)
 
 -- "it gets the code that Add's rules give those values, I/O in the long form with lines 16, IRQ without the count"
 abbrev pub recordChecks : Facts → Record → List Check

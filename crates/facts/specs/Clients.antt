@@ -25,6 +25,12 @@ nextHandle F = F .issued + 1
 abbrev pub registerLength : ℕ
 registerLength = 14
 
+abbrev pub clientAttributes : List ℕ → ℕ
+clientAttributes p = word p 0
+
+abbrev pub clientEvents : List ℕ → ℕ
+clientEvents p = word p 2
+
 -- the new client: its handle is the next one, and it holds no socket mask yet
 abbrev pub newClient : Facts → ℕ → ℕ → Client
 newClient F attributes events = record { handle = nextHandle F; attributes = attributes; events = events; mask = λ s. none }
@@ -49,13 +55,13 @@ registered F attributes events =
 abbrev pub registerChecks : Facts → List ℕ → List Check
 registerChecks F p =
     ((length p ≢ registerLength) gives BadArgLength)
-    ∷ ((AttributesAllowed (word p 0) → ⊥) gives BadAttribute)
-    ∷ ((EventsAllowed (word p 2) → ⊥) gives BadAttribute)
+    ∷ ((AttributesAllowed (clientAttributes p) → ⊥) gives BadAttribute)
+    ∷ ((EventsAllowed (clientEvents p) → ⊥) gives BadAttribute)
     ∷ (((Table.mostClients ≤ length (F .clients)) ⊎ (Table.mostIssued ≤ F .issued)) gives OutOfResource)
     ∷ []
 
 abbrev pub Register : Rule
-Register F h p = Ruled (registerChecks F p) (Leaves (nextHandle F) p (registered F (word p 0) (word p 2))) F p
+Register F h p = Ruled (registerChecks F p) (Leaves (nextHandle F) p (registered F (clientAttributes p) (clientEvents p))) F p
 
 -- the clients but the one whose handle is h
 abbrev pub withoutClient : ℕ → List Client → List Client

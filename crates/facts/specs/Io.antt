@@ -2,7 +2,7 @@
 use mathlib.Core.Path.{_≡_}
 use mathlib.Core.Logic.{_⊎_, _≢_}
 use mathlib.Core.List.{List, [], _∷_}
-use mathlib.Core.Bool.{true}
+use mathlib.Core.Bool.{Bool, true}
 use mathlib.Core.Option.{Option, none, some}
 use Prim.Native.Nat.{ℕ, _+_, _*_, _^_, _≤_, _<_}
 use lib.Dec.{eqb}
@@ -41,6 +41,9 @@ IoShared p = bit (ioAttributes p) 0 ≡ 1
 
 abbrev pub IoFirstShared : List ℕ → Type 0
 IoFirstShared p = bit (ioAttributes p) 1 ≡ 1
+
+abbrev pub sharedAsked : List ℕ → Bool
+sharedAsked p = eqb (bit (ioAttributes p) 0) 1
 
 -- the ports asked for, at the base b
 abbrev pub portsAt : List ℕ → ℕ → Ports
@@ -131,7 +134,7 @@ ioRequestChecks F h p = ioAheadChecks F h p (baseChecks F p)
 
 -- the client h is granted the ports at the base taken, on the packet's socket; "Success writes BasePort1."
 abbrev pub ioGrant : ℕ → List ℕ → ℕ → IoGrant
-ioGrant h p b = record { client = h; ports = portsAt p b; shared = eqb (bit (ioAttributes p) 0) 1 }
+ioGrant h p b = record { client = h; ports = portsAt p b; shared = sharedAsked p }
 
 pub record GrantsIo (F : Facts) (h : ℕ) (p : List ℕ) (o : Outcome) : Type 0 where
   pub base : ℕ

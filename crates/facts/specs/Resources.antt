@@ -129,6 +129,9 @@ adjustChecks p =
 abbrev pub reserveBit : ℕ
 reserveBit = 2 ^ 6
 
+abbrev pub reserves : ℕ → Bool
+reserves a = eqb a reserveBit
+
 abbrev pub AddBits : ℕ → Type 0
 AddBits a = (a ≡ 0) ⊎ (a ≡ reserveBit)
 
@@ -174,7 +177,7 @@ addLevelChecks F l attributes =
     ∷ []
 
 abbrev pub levelAdded : Facts → ℕ → ℕ → Facts
-levelAdded F l attributes = withLevel F l (record { managed = true; reserved = eqb attributes reserveBit })
+levelAdded F l attributes = withLevel F l (record { managed = true; reserved = reserves attributes })
 
 abbrev pub removeLevelChecks : Facts → ℕ → ℕ → List Check
 removeLevelChecks F l attributes =
@@ -212,7 +215,7 @@ inserted r (x ∷ xs) = cond (ltb (r .base) (x .base)) (r ∷ x ∷ xs) (x ∷ i
 
 abbrev pub rangeAdded : Facts → ℕ → ℕ → ℕ → Facts
 rangeAdded F base count attributes =
-    withRanges F (inserted (record { base = base; count = count; reserved = eqb attributes reserveBit }) (F .ranges))
+    withRanges F (inserted (record { base = base; count = count; reserved = reserves attributes }) (F .ranges))
 
 -- "Remove: no range with just that base and count BAD_BASE; a live grant holding a port of it IN_USE."
 abbrev pub JustThat : Facts → ℕ → ℕ → Range → Type 0

@@ -69,16 +69,19 @@ requestMaskLength = 4
 abbrev pub releaseMaskLength : ℕ
 releaseMaskLength = 2
 
+abbrev pub eventsAsked : List ℕ → ℕ
+eventsAsked p = word p 2
+
 -- "RequestSocketMask: bits 12 to 15 BAD_ATTRIBUTE; a second one for the same client and socket IN_USE."
 abbrev pub ownMaskChecks : Facts → ℕ → List ℕ → List Check
-ownMaskChecks F h p = ((EventsAllowed (word p 2) → ⊥) gives BadAttribute) ∷ (((m : ℕ) × Masks F h (socketOf p) m) gives InUse) ∷ []
+ownMaskChecks F h p = ((EventsAllowed (eventsAsked p) → ⊥) gives BadAttribute) ∷ (((m : ℕ) × Masks F h (socketOf p) m) gives InUse) ∷ []
 
 abbrev pub requestMaskChecks : Facts → ℕ → List ℕ → List Check
 requestMaskChecks F h p = requestChecks requestMaskLength F h p (ownMaskChecks F h p)
 
 abbrev pub RequestSocketMask : Rule
 RequestSocketMask F h p =
-    Ruled (requestMaskChecks F h p) (Leaves h p (withClients F (withMask h (socketOf p) (some (word p 2)) (F .clients)))) F p
+    Ruled (requestMaskChecks F h p) (Leaves h p (withClients F (withMask h (socketOf p) (some (eventsAsked p)) (F .clients)))) F p
 
 -- "ReleaseSocketMask needs no card; nothing held: BAD_SOCKET."
 abbrev pub releaseMaskChecks : Facts → ℕ → List ℕ → List Check

@@ -1,19 +1,17 @@
--- Four bytes are zero where the number that they say is; a grant read field by field is the grant that its record says; and two grants are held against each other where both are there. Assumes nothing.
+-- Four bytes are zero where the number that they say is; managed ports, a level and manners, read, are those that a record says; and two grants are held
+-- against each other where both are there. Assumes nothing.
 use mathlib.Core.Path.{_≡_, ap, _∙_}
-use mathlib.Core.Logic.{⊎-elim}
 use mathlib.Core.List.{List}
 use mathlib.Core.Bool.{Bool, true, false, not}
-use Prim.Native.Nat.{ℕ, _+_, _-_, _≤_}
+use Prim.Native.Nat.{ℕ, _+_, _-_}
 use native.Mathlib.Omega.{arith}
-use borrow.Author.Tests.{eq-eqb, eqb-true}
-use Rattle.facts.specs.Table
 use Rattle.facts.specs.Says.{Says}
 use Rattle.facts.specs.Packets.{byte, word, long}
 use Rattle.facts.specs.Ports.{Within}
 use Rattle.facts.specs.Levels.{Together}
 use Rattle.facts.proofs.Says.{says-true, says-as, says-yes, says-no}
-use Rattle.layout.specs.Reading.{ioPlace, irqPlace, ioIn, irqIn, mannerOf}
-use Rattle.layout.specs.Sound.{Zero, ManagedIn, IoPlaceSound}
+use Rattle.layout.specs.Reading.{irqPlace, irqIn, mannerOf}
+use Rattle.layout.specs.Sound.{Zero, ManagedIn}
 use Rattle.reading.proofs.All.{All, all-none, all-more}
 use Rattle.grants.specs.declared.ios.Ports.{Ports}
 use Rattle.grants.specs.Parts.{PortsAt}
@@ -53,27 +51,10 @@ pub managed-read : {b : List ℕ} {at : ℕ} {p : Ports} {r : Bool} → PortsAt 
     → Says r (Managed b (word b (at + 2)) (byte b (at + 4)))
 managed-read a s = rw (a .base, a .count) at s
 
-module _ (b : List ℕ) (s : ℕ) where
-  pub ports-read : {p : Ports} → PortsAt b (ioPlace s) p
-      → _≡_ {A = Table.Ports} (record { base = p .base; count = p .count; lines = p .lines }) (ioIn b s .ports)
-  unfolding ioIn
-  ports-read a = λ i. record { base = a .base i; count = a .count i; lines = a .lines i }
-
-  pub marked-shared : byte b (ioPlace s + 6) ≡ 1 → ioIn b s .shared ≡ true
-  unfolding ioIn
-  marked-shared e = eq-eqb (byte b (ioPlace s + 6)) 1 e
-
-  pub shared-marked : ioIn b s .shared ≡ true → byte b (ioPlace s + 6) ≡ 1
-  unfolding ioIn
-  shared-marked e = eqb-true (byte b (ioPlace s + 6)) 1 e
-
-  pub level-read : {n : ℕ} → n ≡ byte b (irqPlace s + 2) → n ≡ irqIn b s .level
-  unfolding irqIn
-  level-read e = e
-
-  pub lines-most : {p : Ports} → IoPlaceSound b s → PortsAt b (ioPlace s) p → p .lines ≤ Table.mostLines
-  lines-most i a =
-      ⊎-elim (λ z. omega (arith, z (ioPlace s + 5) (omega arith) (omega arith), a .lines)) (λ g. omega (arith, g .1 .lines, a .lines)) i
+-- the level that a record says
+pub level-read : (b : List ℕ) (s : ℕ) {n : ℕ} → n ≡ byte b (irqPlace s + 2) → n ≡ irqIn b s .level
+unfolding irqIn
+level-read b s e = e
 
 -- whether the manners that two records say go together
 pub manners-read : (b : List ℕ) (s t : ℕ) {r : Bool} → Says r (Together (mannerOf (byte b (irqPlace s + 3))) (mannerOf (byte b (irqPlace t + 3))))

@@ -2,10 +2,12 @@
 use mathlib.Core.Path.{_≡_, refl, ap, sym, _∙_}
 use mathlib.Core.Logic.{_⊎_, inl, inr, ⊎-elim, _≢_}
 use mathlib.Core.List.{List, [], _∷_, _++_}
+use mathlib.Core.Bool.{true}
 use mathlib.Core.Option.{Option, none, some}
 use Prim.Native.Nat.{ℕ, _+_, _-_, _≤_, _<_}
 use native.Mathlib.Decide.{decLt}
 use native.Mathlib.Omega.{arith}
+use borrow.Author.Tests.{eq-eqb, eqb-true}
 use lib.ListN.{length, getD, set, List·getD-append}
 use Rattle.facts.specs.Table
 use Rattle.facts.specs.Table.{Ports, IoGrant}
@@ -14,8 +16,8 @@ use Rattle.facts.specs.Packets.{byte, word, withWord}
 use Rattle.facts.specs.Io.{withIo}
 use Rattle.layout.specs.Layout
 use Rattle.layout.specs.Layout.{image, two, ioBytes, mark}
-use Rattle.layout.specs.Reading.{ioPlace, irqPlace, ioIn, marked}
-use Rattle.layout.specs.Sound.{Accepted}
+use Rattle.layout.specs.Reading.{ioPlace, irqPlace, ioIn}
+use Rattle.layout.specs.Sound.{Accepted, IoPlaceSound}
 use Rattle.layout.specs.Changed.{ioEntered}
 use Rattle.layout.proofs.Of
 use Rattle.layout.proofs.Parts.{below-at}
@@ -33,9 +35,23 @@ module _ (b : List ℕ) (s : ℕ) where
   unfolding ioIn
   ports-are = refl
 
-  pub shared-is : ioIn b s .shared ≡ marked (byte b (ioPlace s + 6))
+  -- its ports, read one by one
+  pub ports-read : {base count lines : ℕ} → base ≡ word b (ioPlace s + 2) → count ≡ byte b (ioPlace s + 4) → lines ≡ byte b (ioPlace s + 5)
+      → _≡_ {A = Ports} (record { base = base; count = count; lines = lines }) (ioIn b s .ports)
+  ports-read base-is count-is lines-is = (λ i. record { base = base-is i; count = count-is i; lines = lines-is i }) ∙ sym ports-are
+
+  -- it shares exactly if its mark is 1
+  pub marked-shared : byte b (ioPlace s + 6) ≡ 1 → ioIn b s .shared ≡ true
   unfolding ioIn
-  shared-is = refl
+  marked-shared e = eq-eqb (byte b (ioPlace s + 6)) 1 e
+
+  pub shared-marked : ioIn b s .shared ≡ true → byte b (ioPlace s + 6) ≡ 1
+  unfolding ioIn
+  shared-marked e = eqb-true (byte b (ioPlace s + 6)) 1 e
+
+  -- a sound record's lines are at most all, also where it is zero
+  pub lines-most : IoPlaceSound b s → byte b (ioPlace s + 5) ≤ Table.mostLines
+  lines-most = ⊎-elim (λ z. omega (arith, z (ioPlace s + 5) (omega arith) (omega arith))) (λ g. g .1 .lines)
 
 -- the bytes of a record: those that are written, and the spare ones
 abbrev bytesOf : ℕ → ℕ → ℕ → ℕ → ℕ → List ℕ

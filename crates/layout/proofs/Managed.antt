@@ -1,4 +1,5 @@
--- A table with a range more, a range less, or a level changed is the image of the facts with that change. Assumes nothing.
+-- A table's ranges stand in order, and no two have a port in common; and a table with a range more, a range less, or a level changed is the image
+-- of the facts with that change. Assumes nothing.
 use mathlib.Core.Path.{_≡_, refl, ap, sym, _∙_}
 use mathlib.Core.Logic.{_⊎_, inl, inr, _≢_}
 use mathlib.Core.List.{List}
@@ -11,6 +12,7 @@ use lib.ListN.{length, getD, getElem?, set, length-set}
 use Rattle.facts.specs.Table
 use Rattle.facts.specs.Table.{Level, Range}
 use Rattle.facts.specs.Packets.{byte}
+use Rattle.facts.specs.Ports.{Within}
 use Rattle.facts.specs.Resources.{withLevel, withRanges, inserted, withoutRange, rangeRemoved}
 use Rattle.facts.proofs.ResourcesStay.{inserted-more}
 use Rattle.layout.specs.Layout
@@ -51,6 +53,23 @@ ends-before b s j (suc k) l h = go (eq-or-lt-of-le (omega arith)) (ends-before b
 -- so the later of two has the greater base
 pub bases-rise : (b : List ℕ) → RangesSound b → (j i : ℕ) → j < i → i < rangesIn b → rangeBase b j < rangeBase b i
 bases-rise b s j i l h = omega (arith, ends-before b s j i l h, s j (omega arith) .port)
+
+-- the ith range has the port p
+abbrev pub HasPort : List ℕ → ℕ → ℕ → Type 0
+HasPort b i p = Within p (rangeBase b i) (rangeCount b i)
+
+-- a port lies in one range
+pub same-range : (b : List ℕ) → RangesSound b → (p i j : ℕ) → i < rangesIn b → j < rangesIn b → HasPort b i p → HasPort b j p → i ≡ j
+same-range b s p i j l m v w = go (decLt i j) (decLt j i)
+  where
+    go : Dec (i < j) → Dec (j < i) → i ≡ j
+    go (yes k) d = absurd (omega (arith, ends-before b s i j k m, v .below, w .from))
+    go (no n) (yes k) = absurd (omega (arith, ends-before b s j i k l, w .below, v .from))
+    go (no n) (no k) = omega arith
+
+-- a range that is listed has one of the table's places
+pub range-placed : (b : List ℕ) → Accepted b → (i : ℕ) → i < rangesIn b → i < Table.mostRanges
+range-placed b a i l = omega (arith, Of.sound-in b a .ranges-most)
 
 module _ (b b′ : List ℕ) (a : Accepted b) where
   abbrev ranges : List Range

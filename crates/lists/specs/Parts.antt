@@ -32,11 +32,12 @@ pub record HandleSound (b : List ℕ) (i : ℕ) : Type 0 where
   pub over : handleBefore b i < handleIn b i
   pub issued : handleIn b i ≤ issuedIn b
 
--- the ith range starts at or past low and has a port, and its mark is one
+-- the ith range starts at or past low and has a port
 pub record RangeFollows (b : List ℕ) (low i : ℕ) : Type 0 where
   pub from : low ≤ rangeBase b i
   pub port : 1 ≤ rangeCount b i
 
+-- its reserve mark is 0 or 1
 abbrev pub RangeMarked : List ℕ → ℕ → Type 0
 RangeMarked b i = byte b (rangePlace i + 6) ≤ 1
 

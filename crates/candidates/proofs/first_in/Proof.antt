@@ -9,9 +9,8 @@ use borrow.Author.Needs.{needs}
 use Rattle.facts.specs.Table
 use Rattle.layout.specs.Sound.{Sound, RangeSound, rangeBase, endBefore}
 use Rattle.layout.proofs.Of.{sound-in}
-use Rattle.layout.proofs.Managed.{rangeEnd}
+use Rattle.layout.proofs.Managed.{rangeEnd, range-placed}
 use Rattle.candidates.specs.Candidates.{FirstMultiple, ReachIs}
-use Rattle.candidates.proofs.Runs.{range-placed}
 use Rattle.candidates.proofs.Searching.{lowest-in}
 use Rattle.candidates.proofs.first_in.Statement.{statement}
 use Rattle.candidates.proofs.first_in.Tie as tie

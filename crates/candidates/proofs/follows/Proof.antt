@@ -11,7 +11,7 @@ use Rattle.facts.proofs.Says.{says-false}
 use Rattle.layout.specs.Reading.{rangesIn}
 use Rattle.layout.specs.Sound.{rangeBase}
 use Rattle.layout.proofs.Of.{size-in}
-use Rattle.candidates.proofs.Runs.{range-placed}
+use Rattle.layout.proofs.Managed.{range-placed}
 use Rattle.candidates.proofs.follows.Statement.{statement}
 use Rattle.candidates.proofs.follows.Tie as tie
 

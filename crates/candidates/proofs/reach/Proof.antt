@@ -10,8 +10,9 @@ use Rattle.facts.proofs.Says.{says-yes, says-no}
 use Rattle.layout.specs.Reading.{rangesIn}
 use Rattle.layout.specs.Sound.{RangesSound}
 use Rattle.layout.proofs.Of.{size-in, sound-in}
+use Rattle.layout.proofs.Managed.{range-placed}
 use Rattle.candidates.specs.Candidates.{Follows}
-use Rattle.candidates.proofs.Runs.{range-placed, Run, run-start, run-more, reach-stopped, reach-wanted}
+use Rattle.candidates.proofs.Runs.{Run, run-start, run-more, reach-stopped, reach-wanted}
 use Rattle.candidates.proofs.reach.Statement.{statement}
 use Rattle.candidates.proofs.reach.Tie as tie
 

@@ -5,7 +5,8 @@ use native.Mathlib.Omega.{arith}
 use denote.Ref.{now}
 use Rattle.facts.proofs.Says.{says-false}
 use Rattle.layout.specs.Sound.{IoUsed}
-use Rattle.meeting.proofs.Held.{lines-most, meets-held}
+use Rattle.layout.proofs.Ios.{lines-most}
+use Rattle.meeting.proofs.Held.{meets-held}
 use borrow.Author.Needs.{needs}
 use Rattle.meeting.proofs.on.Statement.{statement}
 use Rattle.meeting.proofs.on.Tie as tie

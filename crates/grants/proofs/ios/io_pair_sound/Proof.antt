@@ -3,7 +3,8 @@
 use borrow.Author.Needs.{needs}
 use denote.Ref.{now}
 use Rattle.facts.proofs.Says.{says-true, says-as, says-not}
-use Rattle.grants.proofs.Records.{marked-shared, shared-marked, apart-says, company-says}
+use Rattle.layout.proofs.Ios.{marked-shared, shared-marked}
+use Rattle.grants.proofs.Records.{apart-says, company-says}
 use Rattle.grants.proofs.ios.io_pair_sound.Statement.{statement}
 use Rattle.grants.proofs.ios.io_pair_sound.Tie as tie
 

@@ -1,8 +1,9 @@
 -- `grants::ios::ios_meet` meets its contract: the ports are those that the two records say.
 -- Assumes nothing.
 use borrow.Author.Needs.{needs}
+use native.Mathlib.Omega.{arith}
 use denote.Ref.{now}
-use Rattle.grants.proofs.Records.{ports-read, lines-most}
+use Rattle.layout.proofs.Ios.{ports-read, lines-most}
 use Rattle.grants.proofs.ios.ios_meet.Statement.{statement}
 use Rattle.grants.proofs.ios.ios_meet.Tie as tie
 
@@ -29,14 +30,21 @@ meets-requires c κs =
     let start = c .before .before .before in
     let b = now (start .args .t) in
     let one = c .before .ports-at .ensures in
-    let other = c .ports-at2 .ensures in
-    (one .base-most, one .count-most, lines-most b _ (start .pre .1 .0) one, other .base-most, lines-most b _ (start .pre .1 .1) other)
+    let other = c .ports-at2 .ensures in (
+      one .base-most,
+      one .count-most,
+      omega (arith, lines-most b _ (start .pre .1 .0), one .lines),
+      other .base-most,
+      omega (arith, lines-most b _ (start .pre .1 .1), other .lines),
+    )
 
 returns : tie.Need-returns
 returns c =
     let read = c .before .before in
     let b = now (read .before .before .args .t) in
-    rw (ports-read b _ (read .ports-at .ensures), ports-read b _ (c .before .ports-at2 .ensures)) at (c .meets .ensures)
+    let one = read .ports-at .ensures in
+    let other = c .before .ports-at2 .ensures in
+    rw (ports-read b _ (one .base) (one .count) (one .lines), ports-read b _ (other .base) (other .count) (other .lines)) at (c .meets .ensures)
 
 pub ios-meet-spec : {M : Type 1} → statement M
 ios-meet-spec =

@@ -1,0 +1,103 @@
+-- How an example of a code is told: what a rule permits on a well-formed table is given. Assumes nothing.
+use mathlib.Core.Path.{_≡_, refl, subst, sym}
+use mathlib.Core.Logic.{_⊎_, inl, inr}
+use mathlib.Core.List.{List, [], _∷_}
+use mathlib.Core.Bool.{Bool, true, false, cond}
+use Prim.Native.Nat.{ℕ, zero, suc, _<_}
+use native.Mathlib.Omega.{arith}
+use lib.Dec.{T, ltb}
+use borrow.Author.Tests.{ltb-true}
+use Rattle.facts.specs.declared.Code.{Code}
+use Rattle.facts.specs.declared.Code.the-variants.{GeneralFailure}
+use Rattle.facts.specs.Table.{Facts}
+use Rattle.facts.specs.Sets.{_∈_}
+use Rattle.facts.specs.WellFormed.{WellFormed}
+use Rattle.facts.specs.Packets.{Bytes}
+use Rattle.facts.specs.Checks.{Outcome, Kept}
+use Rattle.facts.specs.Services.{Service, serviceNumber, ruleOf, Call}
+use Rattle.facts.specs.Boot.{Boot, stopped}
+use Rattle.facts.proofs.Laws.{service-laws}
+use Rattle.layout.specs.Layout.{image}
+use Rattle.layout.specs.Sound.{Accepted}
+use Rattle.layout.specs.Served.{Served, TableRefused}
+use Rattle.layout.proofs.Accepts.{accepted-sound}
+use Rattle.answers.specs.Answers.{packed}
+use Rattle.promises.specs.Entries.{CallAnswers}
+use Rattle.cases.specs.Cases.{refused}
+use Rattle.cases.proofs.Permitted.{as-kept}
+use Rattle.history.specs.Events.{Ours}
+use Rattle.history.specs.Codes.{service, boot-list, CanGive}
+
+-- each of those listed
+module _ {A : Type 0} (P : A → Type 0) where
+  abbrev pub Each : List A → Type 0
+  Each [] = Unit {0}
+  Each (x ∷ xs) = P x × Each xs
+
+  pub each-in : (xs : List A) → Each xs → (x : A) → x ∈ xs → P x
+  each-in (y ∷ xs) e x (inl q) = subst P (sym q) (e .0)
+  each-in (y ∷ xs) e x (inr m) = each-in xs (e .1) x m
+
+-- a packet's numbers are bytes: a computed test
+abbrev pub allBytes : List ℕ → Bool
+allBytes [] = true
+allBytes (x ∷ p) = cond (ltb x 256) (allBytes p) false
+
+pub bytes : (p : List ℕ) → T (allBytes p) → Bytes p
+bytes [] t at = omega arith
+bytes (x ∷ p) t at = go (ltb x 256) (ltb-true x 256) (bytes p) t at
+  where
+    go : (below : Bool) → (below ≡ true → x < 256) → (T (allBytes p) → Bytes p) → T (cond below (allBytes p) false) → Bytes (x ∷ p)
+    go true e later t zero = e refl
+    go true e later t (suc at) = later t at
+
+-- no bytes at all are no table
+pub no-table : TableRefused [] [] GeneralFailure
+no-table = record { unformed = λ a. omega (arith, accepted-sound [] a .size); code-is = refl; table = refl }
+
+pub uncalled : (n : ℕ) → CallAnswers n 0 [] [] [] [] (packed GeneralFailure 0)
+uncalled n = record { code = GeneralFailure; answered = 0; packs = refl; bytes = bytes [] tt; permitted = inr (no-table, refl, refl) }
+
+pub general : (v : Service) → CanGive Ours (service v) GeneralFailure
+general v = (0, 0, [], [], [], [], uncalled (serviceNumber v))
+
+-- on a well-formed table
+module _ {F : Facts} (w : WellFormed F) where
+  abbrev pub accepted : Accepted (image F)
+  accepted = record { facts = F; formed = w; is = refl }
+
+  pub serving : {R : Facts → Facts → Type 0} (G : Facts) → R F G → Served R (image F) (image G)
+  serving G r = record { accepted = accepted; after = G; rule = r; table = refl }
+
+  pub calls : (n h : ℕ) (p : List ℕ) (o : Outcome) → T (allBytes p) → Call n F h p o
+      → CallAnswers n h (image F) (image (o .facts)) p (o .packet) (packed (o .code) (o .handle))
+  calls n h p o t r = record { code = o .code; answered = o .handle; packs = refl; bytes = bytes p t; permitted = inl (serving (o .facts) r) }
+
+  pub serves : (v : Service) (h : ℕ) (p : List ℕ) (o : Outcome) → T (allBytes p) → ruleOf v F h p o
+      → CallAnswers (serviceNumber v) h (image F) (image (o .facts)) p (o .packet) (packed (o .code) (o .handle))
+  serves v h p o t r = calls (serviceNumber v) h p o t (inl (record { service = v; number-is = refl }, r))
+
+  pub gives : (v : Service) (h : ℕ) (p : List ℕ) (o : Outcome) → T (allBytes p) → ruleOf v F h p o → CanGive Ours (service v) (o .code)
+  gives v h p o t r = (h, o .handle, p, o .packet, _, _, serves v h p o t r)
+
+  pub refuses : (v : Service) (h : ℕ) (p : List ℕ) (k : Code) → T (allBytes p) → ruleOf v F h p (refused k p F) → CanGive Ours (service v) k
+  refuses v h p k = gives v h p (refused k p F)
+
+  pub boots : (b : List ℕ) (i : ℕ) (k : Code) (G : Facts) → Boot F b 0 (stopped i k G) → CanGive Ours boot-list k
+  boots b i k G r = (b, _, _, i, record { code = k; place = i; packs = refl; permitted = inl (serving G r) })
+
+  -- what a rule leaves is well formed, too
+  pub left : (v : Service) (h : ℕ) (p : List ℕ) (o : Outcome) → T (allBytes p) → ruleOf v F h p o → WellFormed (o .facts)
+  left v h p o t = service-laws .stays-formed v F h p o w (bytes p t)
+
+-- the first check that applies: it stands here, or past one that doesn't apply
+pub here : {A B : Type 0} {k : Code} → A → (A × (k ≡ k)) ⊎ B
+here a = inl (a, refl)
+
+infixr 2 _past_
+pub _past_ : {A B C : Type 0} → (A → ⊥) → B → C ⊎ ((A → ⊥) × B)
+f past b = inr (f, b)
+
+-- a refusal keeps packet and facts
+pub first : {F : Facts} {p : List ℕ} {k : Code} {A B : Type 0} → A → (A × Kept F p (refused k p F)) ⊎ B
+first {F} {p} {k} a = inl (a, as-kept k p F)

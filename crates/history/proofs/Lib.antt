@@ -1,0 +1,25 @@
+-- After any run the table says what stands; and the laws over all entries. Assumes nothing.
+pub mod Answered
+pub mod Standing
+pub mod Turns
+pub mod Inverse
+pub mod Grants
+pub mod Clients
+pub mod Resources
+pub mod Steps
+pub mod Runs
+pub mod Pinned
+pub mod Frame
+pub mod Handles
+pub mod Sharing
+pub mod Listed
+pub mod Impossible
+pub mod Giving
+pub mod OnSockets
+pub mod ExampleTables
+pub mod Examples
+pub mod Codes
+pub mod Laws
+pub mod Demand
+pub mod SampleRuns
+pub mod Wrong

@@ -1,0 +1,159 @@
+-- How managed levels and ranges turn: Add and Remove, and the records of a boot list. Assumes nothing.
+use mathlib.Core.Path.{_≡_, refl, ap, sym, _∙_, subst}
+use mathlib.Core.Logic.{_⊎_, inl, inr, ⊎-elim, _≢_}
+use mathlib.Core.List.{List}
+use mathlib.Core.Bool.{Bool, cond, true, false, false≢true}
+use Prim.Native.Nat.{ℕ, zero, suc, _+_, _≤_}
+use native.Mathlib.Decide.{ℕ-discrete, decLe}
+use native.Mathlib.Omega.{arith}
+use lib.ListN.{drop}
+use lib.Dec.{eqb}
+use borrow.Author.Tests.{eqb-true, eqb-false}
+use Rattle.facts.specs.declared.Record.{Record}
+use Rattle.facts.specs.Table
+use Rattle.facts.specs.Table.{Facts, Level, Range}
+use Rattle.facts.specs.Sets.{_∈_}
+use Rattle.facts.specs.WellFormed.{WellFormed}
+use Rattle.facts.specs.Checks.{Passed}
+use Rattle.facts.specs.Resources.{withoutRange, levelAdded, levelRemoved, rangeAdded, rangeRemoved, reserves, ioRange, irqLevel, NotBuilt}
+use Rattle.facts.specs.Resources.{addLevelChecks, addRangeChecks, removeRangeChecks}
+use Rattle.facts.specs.Boot.{Boot, Booted, done, broken, refused, added, recordSize, recordOf, recordsIn, recordChecks, recordAdded}
+use Rattle.facts.proofs.Sets.{put-same, in-without, without-in, apart-left-out}
+use Rattle.facts.proofs.Told.{told}
+use Rattle.facts.proofs.Unique.{range-unique}
+use Rattle.facts.proofs.Resources.{three-or-four}
+use Rattle.facts.proofs.Refusals.{boot-place}
+use Rattle.facts.proofs.ResourcesStay.{inserted-in, in-inserted, new-inserted}
+use Rattle.history.specs.Stands.{Fact, level, range, Recorded, level-recorded, range-recorded}
+use Rattle.history.specs.Tables.{Tells}
+use Rattle.history.proofs.Turns.{Turned, Turns, unissued, by-kind, unturned}
+use Rattle.history.proofs.Grants.{level-turns}
+use Rattle.history.proofs.Inverse.{recorded-only}
+
+-- what is made, alone
+module _ (F : Facts) (Back New : Fact → Type 0) (keeps : (f : Fact) → Back f → ⊥) where
+  pub level-added-turns : (l attributes : ℕ) → Passed (addLevelChecks F l attributes) → New (level l (reserves attributes))
+      → ((f : Fact) → New f → f ≡ level l (reserves attributes)) → Turns Back New 0 F (levelAdded F l attributes)
+  level-added-turns l attributes passed new only =
+      level-turns F l Back New (record { managed = true; reserved = reserves attributes })
+      (λ f m. subst (Tells (levelAdded F l attributes)) (sym (only f m)) (put-same (F .level) l _)) (λ f b t. keeps f b)
+      (λ r e. absurd (passed .1 .1 .0 (ap (λ (v : Level). v .managed) e)))
+      (λ r e. inl (subst (λ (t : Bool). New (level l t)) (ap (λ (v : Level). v .reserved) e) new))
+
+  pub range-added-turns : (base count attributes : ℕ) → New (range (record { base = base; count = count; reserved = reserves attributes }))
+      → ((f : Fact) → New f → f ≡ range (record { base = base; count = count; reserved = reserves attributes }))
+      → Turns Back New 0 F (rangeAdded F base count attributes)
+  range-added-turns base count attributes new only =
+      unissued refl refl (λ f m. subst (Tells (rangeAdded F base count attributes)) (sym (only f m)) (new-inserted this (F .ranges))) (λ f b t. keeps f b)
+      (by-kind (Turned F (rangeAdded F base count attributes) Back New) (λ h a m. (inr, inr)) (λ h s m. (inr, inr)) (λ l r. (inr, inr))
+      (λ r. (
+        (λ i. inr (in-inserted this r (F .ranges) i)),
+        (λ i. ⊎-elim (λ e. inl (subst (λ (x : Range). New (range x)) (sym e) new)) inr (inserted-in this r (F .ranges) i)),
+      ))
+      (λ s. (inr, inr)) (λ s g. (inr, inr)) (λ s g. (inr, inr)))
+    where
+      this : Range
+      this = record { base = base; count = count; reserved = reserves attributes }
+
+-- what is given back, alone
+module _ (F : Facts) (Back New : Fact → Type 0) (none : (f : Fact) → New f → ⊥) where
+  pub level-removed-turns : (l : ℕ) → ((r : Bool) → Back (level l r)) → ((f : Fact) → Back f → (r : Bool) × (f ≡ level l r))
+      → Turns Back New 0 F (levelRemoved F l)
+  level-removed-turns l back only =
+      level-turns F l Back New (record { managed = false; reserved = false }) (λ f m. absurd (none f m))
+      (λ f b t. unmanaged (only f b .0) (subst (Tells (levelRemoved F l)) (only f b .1) t)) (λ r e. inl (back r))
+      (λ r e. absurd (false≢true (ap (λ (v : Level). v .managed) e)))
+    where
+      unmanaged : (r : Bool) → Tells (levelRemoved F l) (level l r) → ⊥
+      unmanaged r e = false≢true (ap (λ (v : Level). v .managed) (sym (put-same (F .level) l _) ∙ e))
+
+  pub range-removed-turns : (base count attributes lines : ℕ) → WellFormed F → Passed (removeRangeChecks F base count attributes lines)
+      → ((r : Bool) → Back (range (record { base = base; count = count; reserved = r })))
+      → ((f : Fact) → Back f → (r : Bool) × (f ≡ range (record { base = base; count = count; reserved = r })))
+      → Turns Back New 0 F (rangeRemoved F base)
+  range-removed-turns base count attributes lines w passed back only =
+      unissued refl refl (λ f m. absurd (none f m)) (λ f b t. gone (only f b .0) (subst (Tells (rangeRemoved F base)) (only f b .1) t))
+      (by-kind (Turned F (rangeRemoved F base) Back New) (λ h a m. (inr, inr)) (λ h s m. (inr, inr)) (λ l r. (inr, inr))
+      (λ r. ((λ i. kept r i (ℕ-discrete (r .base) base)), (λ i. inr (without-in number base r (F .ranges) i)))) (λ s. (inr, inr)) (λ s g. (inr, inr))
+      (λ s g. (inr, inr)))
+    where
+      number : Range → ℕ
+      number r = r .base
+
+      gone : (r : Bool) → Tells (rangeRemoved F base) (range (record { base = base; count = count; reserved = r })) → ⊥
+      gone r i = apart-left-out 0 base (F .ranges) (w .apart) (record { base = base; count = count; reserved = r }) i refl
+
+      -- the range at the base has the count, for there is one with both
+      counted : (r : Range) → r ∈ F .ranges → r .base ≡ base → r .count ≡ count
+      counted r i e =
+          told (ℕ-discrete (r .count) count)
+          (λ d. passed .1 .1 .1 .0
+          (λ x just. d (ap (λ (y : Range). y .count) (range-unique 0 (F .ranges) r x (w .apart) i (just .0) (e ∙ sym (just .1))) ∙ just .2)))
+
+      kept : (r : Range) → r ∈ F .ranges → Dec (r .base ≡ base) → Back (range r) ⊎ (r ∈ withoutRange base (F .ranges))
+      kept r i (yes e) =
+          inl (subst Back (λ k. range (record { base = sym e k; count = sym (counted r i e) k; reserved = r .reserved })) (back (r .reserved)))
+      kept r i (no d) = inr (in-without number base r (F .ranges) i d)
+
+-- one record of a boot list
+pub record-turns : (F : Facts) (r : Record) → Passed (recordChecks F r) → Turns (λ (f : Fact). ⊥) (Recorded r) 0 F (recordAdded F r)
+record-turns F r passed =
+    go (eqb (r .resource) ioRange) (eqb-true (r .resource) ioRange) (eqb-false (r .resource) ioRange) (passed .1 .1)
+  where
+    -- a resource that is built and isn't I/O is a level
+    is-level : r .resource ≢ ioRange → r .resource ≡ irqLevel
+    is-level d = told (ℕ-discrete (r .resource) irqLevel) (λ n. passed .0 (other n (decLe 3 (r .resource))))
+      where
+        most : r .resource ≤ 4
+        most = told (decLe (r .resource) 4) (λ n. passed .1 .0 (omega arith))
+
+        other : r .resource ≢ irqLevel → Dec (3 ≤ r .resource) → NotBuilt (r .resource)
+        other n (yes l) = three-or-four (r .resource) l most
+        other n (no l) = inl (omega (arith, d, n, l))
+
+    go : (t : Bool) → (t ≡ true → r .resource ≡ ioRange) → (t ≡ false → r .resource ≡ ioRange → ⊥)
+        → Passed (cond t (addRangeChecks F (r .base) (r .count) (r .attributes) Table.mostLines) (addLevelChecks F (r .base) (r .attributes)))
+        → Turns (λ (f : Fact). ⊥) (Recorded r) 0 F (cond t (rangeAdded F (r .base) (r .count) (r .attributes)) (levelAdded F (r .base) (r .attributes)))
+    go true io not passed =
+        range-added-turns F _ (Recorded r) (λ f b. b) (r .base) (r .count) (r .attributes) (range-recorded (io refl))
+        (recorded-only (λ (f : Fact). f ≡ range (record { base = r .base; count = r .count; reserved = reserves (r .attributes) }))
+        (λ e. absurd (omega (arith, e, io refl))) (λ e. refl))
+    go false io not passed =
+        level-added-turns F _ (Recorded r) (λ f b. b) (r .base) (r .attributes) passed (level-recorded (is-level (not refl)))
+        (recorded-only (λ (f : Fact). f ≡ level (r .base) (reserves (r .attributes))) (λ e. refl) (λ e. absurd (not refl e)))
+
+-- the first n records of a boot list
+abbrev pub RecordsMake : ℕ → List ℕ → Fact → Type 0
+RecordsMake n b f = (r : Record) × (r ∈ recordsIn n b) × Recorded r f
+
+none-turns : (F : Facts) (b : List ℕ) (i n : ℕ) → i ≡ i + n → Turns (λ (f : Fact). ⊥) (RecordsMake n b) 0 F F
+none-turns F b i zero e = unturned F (λ f b. b) (λ f m. m .1)
+none-turns F b i (suc n) e = absurd (omega arith)
+
+-- one record, and then others
+more-turns : {F G H : Facts} (b : List ℕ) (n : ℕ) → Turns (λ (f : Fact). ⊥) (Recorded (recordOf b)) 0 F G
+    → Turns (λ (f : Fact). ⊥) (RecordsMake n (drop recordSize b)) 0 G H → Turns (λ (f : Fact). ⊥) (RecordsMake (suc n) b) 0 F H
+more-turns {F} {G} {H} b n t u =
+    record {
+      made = λ f m. ⊎-elim (λ e. stays f (t .made f (subst (λ (r : Record). Recorded r f) e (m .2)))) (λ i. u .made f (m .0, i, m .2)) (m .1);
+      gone = λ f b _. b;
+      each = λ f. (
+        (λ x. inr (stays f (⊎-elim absurd (λ y. y) (t .each f .0 x)))),
+        (λ x. ⊎-elim (λ m. inl (m .0, inr (m .1), m .2))
+            (λ y. ⊎-elim (λ m. inl (recordOf b, inl refl, m)) inr (t .each f .1 y)) (u .each f .1 x)),
+      );
+      issued = omega (arith, t .issued, u .issued);
+      sockets = u .sockets ∙ t .sockets;
+    }
+  where
+    stays : (f : Fact) → Tells G f → Tells H f
+    stays f x = ⊎-elim absurd (λ y. y) (u .each f .0 x)
+
+pub boot-turns : (F : Facts) (b : List ℕ) (i : ℕ) (o : Booted) (n : ℕ) → Boot F b i o → o .place ≡ i + n
+    → Turns (λ (f : Fact). ⊥) (RecordsMake n b) 0 F (o .facts)
+boot-turns F b i o n done e = none-turns F b i n e
+boot-turns F b i o n (broken one few) e = none-turns F b i n e
+boot-turns F b i o n (refused full r) e = none-turns F b i n e
+boot-turns F b i o zero (added full passed r) e = absurd (omega (arith, boot-place _ _ _ o r))
+boot-turns F b i o (suc n) (added full passed r) e =
+    more-turns b n (record-turns F (recordOf b) passed) (boot-turns (recordAdded F (recordOf b)) (drop recordSize b) (i + 1) o n r (omega arith))

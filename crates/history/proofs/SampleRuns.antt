@@ -1,0 +1,126 @@
+-- Runs for the wrong keepers: what happens before a first grant, on tables of the examples. Assumes nothing.
+use mathlib.Core.Path.{_≡_, refl}
+use mathlib.Core.Logic.{inl, inr}
+use mathlib.Core.List.{List, [], _∷_, _++_}
+use mathlib.Core.Bool.{true, false≢true}
+use mathlib.Core.Option.{some, Option·none-ne-some}
+use Prim.Native.Nat.{ℕ}
+use native.Mathlib.Omega.{arith}
+use Rattle.facts.specs.declared.Code.{Code}
+use Rattle.facts.specs.declared.Code.the-variants.{Success}
+use Rattle.facts.specs.Table.{Facts, IrqGrant, fresh}
+use Rattle.facts.specs.WellFormed.{WellFormed}
+use Rattle.facts.specs.Sockets.{withCard}
+use Rattle.facts.specs.Checks.{Passed}
+use Rattle.facts.specs.Resources.{levelAdded, addLevelChecks, addRangeChecks}
+use Rattle.facts.specs.Services.{registerClient, adjustResourceInfo, serviceNumber}
+use Rattle.facts.specs.declared.Width.the-variants.{Short}
+use Rattle.facts.proofs.Formed.{card-formed}
+use Rattle.facts.proofs.ResourcesStay.{level-added-formed}
+use Rattle.layout.specs.Layout.{image}
+use Rattle.layout.specs.Sound.{Accepted}
+use Rattle.layout.proofs.Image.{image-length}
+use Rattle.cases.specs.Cases.{done, oneClient, clientPacket}
+use Rattle.cases.proofs.Cases.{cases}
+use Rattle.cases.proofs.Permitted.{as-left, _then_, _nor_}
+use Rattle.history.specs.Events.{Event, call, cardIn, Keeper, Ours, Runs, FromFresh}
+use Rattle.history.proofs.Answered.{accepted-one}
+use Rattle.history.proofs.Giving.{accepted, serving, serves}
+use Rattle.history.proofs.OnSockets.{two-sockets, one-client}
+use Rattle.history.proofs.ExampleTables.{idle}
+
+-- from a fresh table of two sockets
+pub from-two : {K : Keeper} (es : List Event) (b : List ℕ) → Runs K (image (fresh 2)) es b → FromFresh K 2 es b
+from-two es b runs =
+    record {
+      old = image (fresh 2);
+      start = image (fresh 2);
+      made = inl (record { size = image-length (fresh 2); least = omega arith; most = omega arith }, refl, refl);
+      runs = runs;
+    }
+
+-- what a table says is its set of facts
+pub says : {F : Facts} → WellFormed F → (a : Accepted (image F)) → a .facts ≡ F
+says w a = accepted-one a (accepted w)
+
+-- a client registers, a card comes in, and the level 3 and the ports 300 to 30F are added
+abbrev pub registers : ℕ → Event
+registers h = call (serviceNumber registerClient) 0 clientPacket Success h clientPacket
+
+abbrev addLevel : List ℕ
+addLevel = 1 ∷ 2 ∷ 0 ∷ 3 ∷ []
+
+abbrev addRange : List ℕ
+addRange = 1 ∷ 1 ∷ 0x00 ∷ 0x03 ∷ 16 ∷ 0 ∷ 16 ∷ []
+
+abbrev adjusts : List ℕ → Event
+adjusts p = call (serviceNumber adjustResourceInfo) 1 p Success 1 p
+
+abbrev pub before : List Event
+before = registers 1 ∷ cardIn 0 Success ∷ adjusts addLevel ∷ adjusts addRange ∷ []
+
+-- no socket has an IRQ grant
+abbrev pub Ungranted : Facts → Type 0
+Ungranted F = (s : ℕ) (g : IrqGrant) → F .irq s ≡ some g → ⊥
+
+ungranted : (s : ℕ) (g : IrqGrant) → fresh 2 .irq s ≡ some g → ⊥
+ungranted s g e = Option·none-ne-some g e
+
+-- the tables between, and the steps
+abbrev carded : Facts
+carded = withCard oneClient 0 true
+
+abbrev levelled : Facts
+levelled = levelAdded carded 3 0
+
+carded-formed : WellFormed carded
+carded-formed = card-formed oneClient (one-client .formed) 0 true (omega arith)
+
+level-free : Passed (addLevelChecks carded 3 0)
+level-free = (λ e. e (inl refl)) then (omega arith) then false≢true then tt
+
+levelled-formed : WellFormed levelled
+levelled-formed = level-added-formed carded carded-formed 3 0 level-free
+
+pub registered : Ours (registers 1) (image (fresh 2)) (image oneClient)
+registered = serves two-sockets registerClient 0 clientPacket (done 1 clientPacket oneClient) tt (cases .n10 .0 .permitted)
+
+card-in : Ours (cardIn 0 Success) (image oneClient) (image carded)
+card-in = record { code = Success; is = refl; permitted = inl (serving (one-client .formed) carded (inr ((omega arith) then tt, (refl, refl)))) }
+
+level-in : Ours (adjusts addLevel) (image carded) (image levelled)
+level-in =
+    serves carded-formed adjustResourceInfo 1 addLevel (done 1 addLevel levelled) tt
+    (inr (
+      (omega arith) then (omega arith) then (omega arith nor omega arith nor omega arith) then (omega arith) then (omega arith nor omega arith)
+          then tt,
+      inl (refl, inl (refl, inr (level-free, (refl, as-left _)))),
+    ))
+
+range-in : Ours (adjusts addRange) (image levelled) (image idle)
+range-in =
+    serves levelled-formed adjustResourceInfo 1 addRange (done 1 addRange idle) tt
+    (inr (
+      (omega arith) then (omega arith) then (omega arith nor omega arith nor omega arith) then (omega arith) then (omega arith nor omega arith)
+          then tt,
+      inr (refl, Short, refl, inl (refl, inr (range-free, (refl, as-left _)))),
+    ))
+  where
+    range-free : Passed (addRangeChecks levelled 0x300 16 0 16)
+    range-free =
+        ((λ e. e (inl refl)) nor omega arith) then (omega arith nor omega arith) then (omega arith) then (λ e. e .2 .listed) then (omega arith) then tt
+
+-- a keeper that does the same at calls and card in, where there is no IRQ grant
+abbrev Same : Keeper → Event → Type 0
+Same K e = (F G : Facts) → WellFormed F → Ungranted F → Ours e (image F) (image G) → K e (image F) (image G)
+
+-- comes to the table of the examples
+pub set-up : (K : Keeper) → ((n h : ℕ) (p : List ℕ) (k : Code) (a : ℕ) (q : List ℕ) → Same K (call n h p k a q)) → ((s : ℕ) (k : Code) → Same K (cardIn s k))
+    → (es : List Event) (b : List ℕ) → Runs K (image idle) es b → FromFresh K 2 (before ++ es) b
+set-up K calls cards es b rest =
+    let range-step : Runs K (image levelled) (adjusts addRange ∷ es) b = (image idle, calls _ _ _ _ _ _ levelled idle levelled-formed ungranted range-in, rest) in
+    let level-step : Runs K (image carded) (adjusts addLevel ∷ adjusts addRange ∷ es) b =
+    (image levelled, calls _ _ _ _ _ _ carded levelled carded-formed ungranted level-in, range-step) in
+    let card-step : Runs K (image oneClient) (cardIn 0 Success ∷ adjusts addLevel ∷ adjusts addRange ∷ es) b =
+    (image carded, cards _ _ oneClient carded (one-client .formed) ungranted card-in, level-step) in
+    from-two (before ++ es) b (image oneClient, calls _ _ _ _ _ _ (fresh 2) oneClient two-sockets ungranted registered, card-step)

@@ -1,0 +1,135 @@
+-- Sharers are the standing grants, and standing grants meet only as both asked for it. Assumes nothing.
+use mathlib.Core.Path.{_≡_, refl, ap, sym, _∙_, subst}
+use mathlib.Core.Logic.{inl, inr, ⊎-elim, _↔_}
+use mathlib.Core.List.{List, [], _∷_}
+use mathlib.Core.Bool.{Bool, cond}
+use mathlib.Core.Option.{Option, none, some, Option·none-ne-some, Option·some-injective}
+use Prim.Native.Nat.{ℕ, zero, suc, _+_, _≤_, _<_}
+use native.Mathlib.Decide.{ℕ-discrete}
+use native.Mathlib.Omega.{arith}
+use lib.Dec.{eqb}
+use borrow.Author.Tests.{eqb-true, eq-eqb, ne-eqb}
+use Rattle.facts.specs.declared.Code.the-variants.{Success}
+use Rattle.facts.specs.Table
+use Rattle.facts.specs.Table.{Facts, IrqGrant}
+use Rattle.facts.specs.Sets.{_∈_}
+use Rattle.facts.specs.Packets.{bit}
+use Rattle.facts.specs.WellFormed.{WellFormed}
+use Rattle.facts.specs.Sockets.{socketOf}
+use Rattle.facts.specs.Irq.{sharer, sharersBelow, sharersChecks, Sharers, assignedIrq, mannerAsked}
+use Rattle.facts.specs.Io.{ioAttributes, baseAsked, portsAt, sharedAsked}
+use Rattle.facts.specs.Services.{requestIrq, requestIo}
+use Rattle.facts.proofs.Refusals.{none-succeeds, first-not-success}
+use Rattle.facts.proofs.Sharing.{sharers-most}
+use Rattle.history.specs.Events.{Event, sharers, Ours}
+use Rattle.history.specs.Stands.{Fact, io, irq, Stands}
+use Rattle.history.specs.Demand.{Number, SharersCounted, StandsOf, PortsApart, LevelsApart}
+use Rattle.history.proofs.Answered.{stepped}
+use Rattle.history.proofs.Inverse.{io-only, irq-only}
+use Rattle.history.proofs.Runs.{exact}
+
+-- the number is the same of what is the same
+number-as : {P Q : ℕ → Type 0} {n : ℕ} → ((x : ℕ) → P x ↔ Q x) → Number P n → Number Q n
+number-as same c =
+    record {
+      those = c .those;
+      each = λ x. ((λ m. same x .0 (c .each x .0 m)), (λ q. c .each x .1 (same x .1 q)));
+      once = c .once;
+      count = c .count;
+    }
+
+module _ (F : Facts) (l : ℕ) where
+  -- the socket s has a grant on the level l
+  abbrev Shares : ℕ → Type 0
+  Shares s = (g : IrqGrant) × (F .irq s ≡ some g) × (g .level ≡ l)
+
+  -- one socket more, that shares or doesn't
+  one-more : (n m : ℕ) → Shares n → Number (λ (s : ℕ). (s < n) × Shares s) m → Number (λ (s : ℕ). (s < suc n) × Shares s) (m + 1)
+  one-more n m shares c =
+      record {
+        those = n ∷ c .those;
+        each = λ s. (
+          ⊎-elim (λ e. subst (λ (x : ℕ). (x < suc n) × Shares x) (sym e) (omega arith, shares))
+              (λ i. let y = c .each s .0 i in (omega (arith, y .0), y .1)),
+          (λ y. go s y (ℕ-discrete s n)),
+        );
+        once = ((λ i. let y = c .each n .0 i in omega (arith, y .0)), c .once);
+        count = omega (arith, c .count);
+      }
+    where
+      go : (s : ℕ) → (s < suc n) × Shares s → Dec (s ≡ n) → s ∈ (n ∷ c .those)
+      go s y (yes e) = inl e
+      go s y (no d) = inr (c .each s .1 (omega (arith, y .0, d), y .1))
+
+  no-more : (n m : ℕ) → (Shares n → ⊥) → Number (λ (s : ℕ). (s < n) × Shares s) m → Number (λ (s : ℕ). (s < suc n) × Shares s) (m + 0)
+  no-more n m alone c =
+      record {
+        those = c .those;
+        each = λ s. ((λ i. let y = c .each s .0 i in (omega (arith, y .0), y .1)), (λ y. go s y (ℕ-discrete s n)));
+        once = c .once;
+        count = omega (arith, c .count);
+      }
+    where
+      go : (s : ℕ) → (s < suc n) × Shares s → Dec (s ≡ n) → s ∈ c .those
+      go s y (yes e) = absurd (alone (subst Shares e (y .1)))
+      go s y (no d) = c .each s .1 (omega (arith, y .0, d), y .1)
+
+  -- the next socket
+  next-counted : (n m : ℕ) (o : Option IrqGrant) → F .irq n ≡ o → Number (λ (s : ℕ). (s < n) × Shares s) m
+      → Number (λ (s : ℕ). (s < suc n) × Shares s) (m + sharer l o)
+  next-counted n m none e rest = no-more n m (λ y. Option·none-ne-some (y .0) (sym e ∙ y .1)) rest
+  next-counted n m (some g) e rest = go (ℕ-discrete (g .level) l)
+    where
+      go : Dec (g .level ≡ l) → Number (λ (s : ℕ). (s < suc n) × Shares s) (m + cond (eqb (g .level) l) 1 0)
+      go (yes i) =
+          subst (λ (t : Bool). Number (λ (s : ℕ). (s < suc n) × Shares s) (m + cond t 1 0)) (sym (eq-eqb (g .level) l i)) (one-more n m (g, e, i) rest)
+      go (no d) =
+          subst (λ (t : Bool). Number (λ (s : ℕ). (s < suc n) × Shares s) (m + cond t 1 0)) (sym (ne-eqb (g .level) l d))
+          (no-more n m (λ y. d (ap (λ (x : IrqGrant). x .level) (Option·some-injective g (y .0) (sym e ∙ y .1)) ∙ y .2)) rest)
+
+  below-counted : (n : ℕ) → Number (λ (s : ℕ). (s < n) × Shares s) (sharersBelow F l n)
+  below-counted zero = record { those = []; each = λ s. (absurd, (λ y. absurd (omega (arith, y .0)))); once = tt; count = refl }
+  below-counted (suc n) = next-counted n (sharersBelow F l n) (F .irq n) refl (below-counted n)
+
+  shares-counted : (c : ℕ) → WellFormed F → Sharers F l (record { code = Success; count = c }) → Number Shares c × (c ≤ Table.mostSockets)
+  shares-counted c w (inl r) = absurd (first-not-success (sharersChecks l) Success (none-succeeds (sharersChecks l) tt) (r .0) refl)
+  shares-counted c w (inr r) = (
+    number-as (λ s. ((λ y. y .1), (λ y. (w .irqs s (y .0) (y .1) .socket, y))))
+        (subst (Number (λ (s : ℕ). (s < F .sockets) × Shares s)) (sym (r .1 .1)) (below-counted (F .sockets))),
+    omega (arith, r .1 .1, sharers-most F l w),
+  )
+
+pub sharers-counted : SharersCounted Ours
+sharers-counted n es b b′ l c from x =
+    let t = exact n es b from in
+    let s = stepped (t .accepted) (sharers l Success c) x in
+    let y = shares-counted (t .accepted .facts) l c (t .accepted .formed) (s .rule .0) in (
+      number-as
+          (λ s. (
+            (λ z. (z .0, t .tells (irq s (z .0)) .0 (z .1), z .2)),
+            (λ z. (z .0, t .tells (irq s (z .0)) .1 (z .1), z .2)),
+          )) (y .0),
+      y .1,
+    )
+
+-- the grant that a request made stands
+standing-io : (es : List Event) (h : ℕ) (p : List ℕ) (a : ℕ) (q : List ℕ) → StandsOf es requestIo h p a q
+    → Stands es (io (socketOf p) (record { client = h; ports = portsAt p (baseAsked q); shared = sharedAsked p }))
+standing-io es h p a q x = io-only (λ (f : Fact). Stands es f → Stands es (io (socketOf p) _)) (λ s. s) (x .fact) (x .made) (x .stands)
+
+standing-irq : (es : List Event) (h : ℕ) (p : List ℕ) (a : ℕ) (q : List ℕ) → StandsOf es requestIrq h p a q
+    → Stands es (irq (socketOf p) (record { client = h; level = assignedIrq q; manner = mannerAsked p }))
+standing-irq es h p a q x = irq-only (λ (f : Fact). Stands es f → Stands es (irq (socketOf p) _)) (λ s. s) (x .fact) (x .made) (x .stands)
+
+pub ports-apart : PortsApart Ours
+ports-apart n es b h h′ a a′ p p′ q q′ from x x′ d meet =
+    let t = exact n es b from in
+    let both = t .accepted .formed .io-company (socketOf p) (socketOf p′) _ _ d (t .tells _ .1 (standing-io es h p a q x))
+    (t .tells _ .1 (standing-io es h′ p′ a′ q′ x′)) meet in
+    (eqb-true (bit (ioAttributes p) 0) 1 (both .0), eqb-true (bit (ioAttributes p′) 0) 1 (both .1))
+
+pub levels-apart : LevelsApart Ours
+levels-apart n es b h h′ a a′ p p′ q q′ from x x′ d same =
+    let t = exact n es b from in
+    t .accepted .formed .irq-company (socketOf p) (socketOf p′) _ _ d (t .tells _ .1 (standing-irq es h p a q x))
+    (t .tells _ .1 (standing-irq es h′ p′ a′ q′ x′)) same

@@ -1,0 +1,46 @@
+-- What stands, from the first event on. Assumes nothing.
+use mathlib.Core.Path.{_≡_, refl, ap, sym, subst}
+use mathlib.Core.Logic.{_⊎_, inl, inr, ⊎-elim, _↔_}
+use mathlib.Core.List.{List, [], _∷_, _++_, nil≢cons, head-eq-of-cons-eq, tail-eq-of-cons-eq}
+use Rattle.history.specs.Events.{Event}
+use Rattle.history.specs.Stands.{Fact, Makes, GivesBack, Lasts, Stands, StandsSince}
+
+module _ (f : Fact) where
+  lasts-more : (e : Event) (es : List Event) → (GivesBack e f → ⊥) → Lasts es f → Lasts (e ∷ es) f
+  lasts-more e es kept lasts x = ⊎-elim (λ i back. kept (subst (λ (y : Event). GivesBack y f) i back)) (lasts x)
+
+  stands-here : (e : Event) (es : List Event) → Makes e f → Lasts es f → Stands (e ∷ es) f
+  stands-here e es made lasts = record { earlier = []; maker = e; later = es; are = refl; made = made; lasts = lasts }
+
+  stands-later : (e : Event) {es : List Event} → Stands es f → Stands (e ∷ es) f
+  stands-later e s =
+      record { earlier = e ∷ s .earlier; maker = s .maker; later = s .later; are = ap (λ (x : List Event). e ∷ x) (s .are); made = s .made; lasts = s .lasts }
+
+  pub stands-never : Stands [] f → ⊥
+  stands-never s = go (s .earlier) (s .are)
+    where
+      go : (xs : List Event) → [] ≡ xs ++ (s .maker ∷ s .later) → ⊥
+      go [] e = nil≢cons e
+      go (x ∷ xs) e = nil≢cons e
+
+  stands-first : (e : Event) (es : List Event) → Stands (e ∷ es) f → (Makes e f × Lasts es f) ⊎ Stands es f
+  stands-first e es s = go (s .earlier) (s .are)
+    where
+      go : (xs : List Event) → (e ∷ es) ≡ xs ++ (s .maker ∷ s .later) → (Makes e f × Lasts es f) ⊎ Stands es f
+      go [] i =
+          inl (
+            subst (λ (x : Event). Makes x f) (sym (head-eq-of-cons-eq i)) (s .made),
+            subst (λ (xs : List Event). Lasts xs f) (sym (tail-eq-of-cons-eq i)) (s .lasts),
+          )
+      go (x ∷ xs) i =
+          inr (record { earlier = xs; maker = s .maker; later = s .later; are = tail-eq-of-cons-eq i; made = s .made; lasts = s .lasts })
+
+-- the first event of a run, where P holds before it and Q after it
+module _ (P Q : Fact → Type 0) (e : Event) (f : Fact) (turned : Q f ↔ (Makes e f ⊎ (P f × (GivesBack e f → ⊥)))) (es : List Event) where
+  pub since-first : StandsSince Q es f → StandsSince P (e ∷ es) f
+  since-first (inl s) = inl (stands-later f e s)
+  since-first (inr (q, lasts)) = ⊎-elim (λ m. inl (stands-here f e es m lasts)) (λ p. inr (p .0, lasts-more f e es (p .1) lasts)) (turned .0 q)
+
+  pub first-since : StandsSince P (e ∷ es) f → StandsSince Q es f
+  first-since (inl s) = ⊎-elim (λ m. inr (turned .1 (inl (m .0)), m .1)) inl (stands-first f e es s)
+  first-since (inr (p, lasts)) = inr (turned .1 (inr (p, lasts e (inl refl))), λ x m. lasts x (inr m))

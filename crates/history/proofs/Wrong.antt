@@ -1,0 +1,487 @@
+-- Wrong keepers, and of each the clause that it breaks. Assumes nothing.
+use mathlib.Core.Path.{_≡_, refl, ap, sym, _∙_, subst}
+use mathlib.Core.Logic.{_⊎_, inl, inr, ⊎-elim, _≢_}
+use mathlib.Core.List.{List, [], _∷_, _++_}
+use mathlib.Core.Bool.{true, false, false≢true}
+use mathlib.Core.Option.{none, some, Option·none-ne-some, Option·some-injective}
+use Prim.Native.Nat.{ℕ, _+_}
+use native.Mathlib.Omega.{arith}
+use lib.ListN.{length}
+use Rattle.facts.specs.declared.Code.{Code}
+use Rattle.facts.specs.declared.Code.the-variants.{Success, GeneralFailure, BadSocket, BadHandle, InUse}
+use Rattle.facts.specs.declared.Manner.the-variants.{Exclusive}
+use Rattle.facts.specs.Codes.{numberOf}
+use Rattle.facts.specs.Table.{Facts, Client, Level, IoGrant, IrqGrant, fresh}
+use Rattle.facts.specs.Sets.{_∈_}
+use Rattle.facts.specs.WellFormed.{WellFormed}
+use Rattle.facts.specs.Packets.{byte}
+use Rattle.facts.specs.Ports.{Meet, Overlap}
+use Rattle.facts.specs.Levels.{Together, Holds, typeOf}
+use Rattle.facts.specs.Clients.{clientAttributes, clientEvents, withClients, registered as entered}
+use Rattle.facts.specs.Sockets.{socketOf, withCard, withMask}
+use Rattle.facts.specs.Irq.{withIrq, irqGrant, levelAsked, mannerAsked, assigning, assignedIrq}
+use Rattle.facts.specs.Io.{IoShared, withIo, ioGrant, baseAsked, countAsked, portsAt, sharedAsked}
+use Rattle.facts.specs.Services.{Service, registerClient, deregisterClient, requestIrq, requestIo, serviceNumber}
+use Rattle.facts.proofs.Sets.{put-is}
+use Rattle.facts.proofs.Unique.{number-injective}
+use Rattle.facts.proofs.Formed.{card-formed, irq-formed}
+use Rattle.facts.proofs.ClientsStay.{mask-formed}
+use Rattle.layout.specs.Layout.{image}
+use Rattle.layout.specs.Sound.{Accepted}
+use Rattle.cases.specs.Cases.{done, refused, ports, oneClient, noClient, clientPacket, irqPacket, dynamic, timeMultiplexed}
+use Rattle.cases.proofs.Cases.{cases}
+use Rattle.cases.proofs.Permitted.{as-kept, _then_, listed-alone}
+use Rattle.history.specs.Events.{Event, call, cardIn, cardOut, boot, sharers, Keeper, Ours}
+use Rattle.history.specs.Stands.{Fact, card, level, mask, io, irq, Made, GivenBack, GivesBack, Stands, client-made, io-made, irq-made}
+use Rattle.history.specs.Tables.{Tells}
+use Rattle.history.specs.Names.{the-card, the-mask}
+use Rattle.history.specs.Demand.{Exact, ExactSince, Frame, CardOutKeeps, NeverAgain, Number, SharersCounted, StandsOf, PortsApart, LevelsApart}
+use Rattle.history.specs.Codes.{service}
+use Rattle.history.specs.Laws.{OneOutcome, RefusalKeeps, ExactCodes}
+use Rattle.history.proofs.Turns.{kind}
+use Rattle.history.proofs.Standing.{stands-never}
+use Rattle.history.proofs.Inverse.{request-io-keeps, request-irq-keeps}
+use Rattle.history.proofs.Runs.{exact, fresh-exact}
+use Rattle.history.proofs.Giving.{serving, serves, accepted, here, _past_}
+use Rattle.history.proofs.OnSockets.{two-sockets, one-client, for}
+use Rattle.history.proofs.ExampleTables.{idle, irqHeld, ioHeld, busy, idle-ready, irq-ready, busy-ready, irqAsked, ioAsked, irqNaming}
+use Rattle.history.proofs.ExampleTables.{irq-granted, io-granted}
+use Rattle.history.proofs.SampleRuns.{from-two, says, registers, before, Ungranted, registered, set-up}
+
+-- wrong at the calls of one service, at card out, or at the question for sharers; else as this keeper
+abbrev At : Service → (ℕ → List ℕ → Code → ℕ → List ℕ → List ℕ → List ℕ → Type 0) → Keeper
+At v W (call n h p k a q) b b′ = ((n ≡ serviceNumber v) × W h p k a q b b′) ⊎ ((n ≢ serviceNumber v) × Ours (call n h p k a q) b b′)
+At v W (cardIn s k) b b′ = Ours (cardIn s k) b b′
+At v W (cardOut s k) b b′ = Ours (cardOut s k) b b′
+At v W (boot r k i) b b′ = Ours (boot r k i) b b′
+At v W (sharers l k c) b b′ = Ours (sharers l k c) b b′
+
+abbrev AtCardOut : (ℕ → Code → List ℕ → List ℕ → Type 0) → Keeper
+AtCardOut W (call n h p k a q) b b′ = Ours (call n h p k a q) b b′
+AtCardOut W (cardIn s k) b b′ = Ours (cardIn s k) b b′
+AtCardOut W (cardOut s k) b b′ = W s k b b′
+AtCardOut W (boot r k i) b b′ = Ours (boot r k i) b b′
+AtCardOut W (sharers l k c) b b′ = Ours (sharers l k c) b b′
+
+abbrev AtSharers : (ℕ → Code → ℕ → List ℕ → List ℕ → Type 0) → Keeper
+AtSharers W (call n h p k a q) b b′ = Ours (call n h p k a q) b b′
+AtSharers W (cardIn s k) b b′ = Ours (cardIn s k) b b′
+AtSharers W (cardOut s k) b b′ = Ours (cardOut s k) b b′
+AtSharers W (boot r k i) b b′ = Ours (boot r k i) b b′
+AtSharers W (sharers l k c) b b′ = W l k c b b′
+
+-- "One that changes nothing": it answers, and leaves every byte of the table
+abbrev Idle : Keeper
+Idle e b b′ = (m : List ℕ) × Ours e b m × (b′ ≡ b)
+
+pub idle-wrong : Exact Idle → ⊥
+idle-wrong x =
+    let t = x 2 (registers 1 ∷ []) (image (fresh 2)) (from-two (registers 1 ∷ []) _ (image (fresh 2), (image oneClient, registered, refl), refl)) in
+    omega (arith, t .issued-are, ap (λ (F : Facts). F .issued) (says two-sockets (t .accepted)))
+
+-- "One that grants once and then only says so": where there is an IRQ grant, it answers and leaves the table
+abbrev Held : List ℕ → Type 0
+Held b = (a : Accepted b) × (s : ℕ) × (g : IrqGrant) × (a .facts .irq s ≡ some g)
+
+abbrev Once : Keeper
+Once e b b′ = (m : List ℕ) × Ours e b m × (((Held b → ⊥) × (b′ ≡ m)) ⊎ (Held b × (b′ ≡ b)))
+
+-- what is asked for: the level 3, and the ports 300 to 307
+abbrev asksIrq : Event
+asksIrq = call (serviceNumber requestIrq) 1 (for 0 irqAsked) Success 1 (for 0 (irqNaming 3 3))
+
+abbrev asksIo : Event
+asksIo = call (serviceNumber requestIo) 1 (for 0 ioAsked) Success 1 (for 0 ioAsked)
+
+irq-step : Ours asksIrq (image idle) (image irqHeld)
+irq-step = serves (idle-ready .formed) requestIrq 1 (for 0 irqAsked) (done 1 (for 0 (irqNaming 3 3)) irqHeld) tt irq-granted
+
+io-step : Ours asksIo (image irqHeld) (image ioHeld)
+io-step = serves (irq-ready .formed) requestIo 1 (for 0 ioAsked) (done 1 (for 0 ioAsked) ioHeld) tt io-granted
+
+unheld : {F : Facts} → WellFormed F → Ungranted F → Held (image F) → ⊥
+unheld {F} w free held = free (held .1) (held .2) (subst (λ (G : Facts). G .irq (held .1) ≡ some (held .2)) (says w (held .0)) (held .3))
+
+pub once-wrong : Exact Once → ⊥
+once-wrong x =
+    let t = x 2 (before ++ (asksIrq ∷ asksIo ∷ [])) (image irqHeld)
+    (set-up Once (λ n h p k a q F G w free s. (image G, s, inl (unheld w free, refl))) (λ t k F G w free s. (image G, s, inl (unheld w free, refl)))
+    (asksIrq ∷ asksIo ∷ []) (image irqHeld) (
+      image irqHeld,
+      (image irqHeld, irq-step, inl (unheld (idle-ready .formed) (λ s g. Option·none-ne-some g), refl)),
+      (image irqHeld, (image ioHeld, io-step, inr ((accepted (irq-ready .formed), 0, _, refl), refl)), refl),
+    )) in
+    let stands : Stands (before ++ (asksIrq ∷ asksIo ∷ [])) (io 0 (ioGrant 1 (for 0 ioAsked) 0x300)) =
+    record { earlier = before ++ (asksIrq ∷ []); maker = asksIo; later = []; are = refl; made = (refl, requestIo, refl, io-made); lasts = λ e m. absurd m } in
+    Option·none-ne-some _ (subst (λ (F : Facts). F .io 0 ≡ some (ioGrant 1 (for 0 ioAsked) 0x300)) (says (irq-ready .formed) (t .accepted)) (t .tells _ .1 stands))
+
+-- neither holds from any table, then
+pub idle-wrong-since : ExactSince Idle → ⊥
+idle-wrong-since x = idle-wrong (fresh-exact Idle x)
+
+pub once-wrong-since : ExactSince Once → ⊥
+once-wrong-since x = once-wrong (fresh-exact Once x)
+
+-- "Taking grants away at card out"
+abbrev TakesAway : Keeper
+TakesAway = AtCardOut λ s k b b′. (F : Facts) × Ours (cardOut s k) b (image F) × (b′ ≡ image (withIrq F s none))
+
+card-left : {F : Facts} (w : WellFormed F) → Ours (cardOut 0 Success) (image F) (image (withCard F 0 false))
+card-left {F} w =
+    record { code = Success; is = refl; permitted = inl (serving w (withCard F 0 false) (inr ((λ l. omega (arith, l, w .sockets-least)) then tt, (refl, refl)))) }
+
+pub takes-away-wrong : CardOutKeeps TakesAway → ⊥
+takes-away-wrong x =
+    let w = card-formed irqHeld (irq-ready .formed) 0 false (omega arith) in
+    let v = irq-formed (withCard irqHeld 0 false) w 0 none (λ g e. absurd (Option·none-ne-some g e)) (λ t g g′ d e. absurd (Option·none-ne-some g e)) in
+    let y = x 0 Success (image irqHeld) (image (withIrq (withCard irqHeld 0 false) 0 none)) (accepted (irq-ready .formed)) (
+      withCard irqHeld 0 false,
+      card-left (irq-ready .formed),
+      refl,
+    ) in
+    let g : IrqGrant = irqGrant 1 (for 0 irqAsked) 3 in
+    Option·none-ne-some g (subst (λ (F : Facts). F .irq 0 ≡ some g) (says v (y .after))
+    (y .holds (irq 0 g) (λ e. omega (arith, ap kind e)) .0 (subst (λ (F : Facts). F .irq 0 ≡ some g) (sym (says (irq-ready .formed) (y .before))) refl)))
+
+-- card out that begins anew
+abbrev BeginsAnew : Keeper
+BeginsAnew = AtCardOut λ s k b b′. b′ ≡ image (fresh 2)
+
+pub begins-anew-wrong : CardOutKeeps BeginsAnew → ⊥
+begins-anew-wrong x =
+    let y = x 0 Success (image idle) (image (fresh 2)) (accepted (idle-ready .formed)) refl in
+    let v : Level = record { managed = true; reserved = false } in
+    false≢true (ap (λ (z : Level). z .managed) (subst (λ (F : Facts). F .level 3 ≡ v) (says two-sockets (y .after))
+    (y .holds (level 3 false) (λ e. omega (arith, ap kind e)) .0 (subst (λ (F : Facts). F .level 3 ≡ v) (sym (says (idle-ready .formed) (y .before))) refl))))
+
+-- a question that takes the card out
+abbrev Meddles : Keeper
+Meddles = AtSharers λ l k c b b′. (F : Facts) × Ours (sharers l k c) b (image F) × (b′ ≡ image (withCard F 0 false))
+
+pub meddles-wrong : Frame Meddles → ⊥
+meddles-wrong x =
+    let w = card-formed idle (idle-ready .formed) 0 false (omega arith) in
+    let question : Ours (sharers 3 Success 0) (image idle) (image idle) =
+    (record { code = Success; count = 0; packs = refl; permitted = inl (accepted (idle-ready .formed), inr ((omega arith) then tt, (refl, refl))) }, refl) in
+    let y = x (sharers 3 Success 0) (image idle) (image (withCard idle 0 false)) (accepted (idle-ready .formed)) (idle, question, refl) in
+    false≢true (subst (λ (F : Facts). F .card 0 ≡ true) (says w (y .after))
+    (y .holds .names (the-card 0) (λ n. n) .facts (card 0) refl .0 (subst (λ (F : Facts). F .card 0 ≡ true) (sym (says (idle-ready .formed) (y .before))) refl)))
+
+-- a refusal that tidies: a client that is refused to leave loses its masks
+abbrev Tidies : Keeper
+Tidies = At deregisterClient λ h p k a q b b′.
+    (F : Facts) × Ours (call (serviceNumber deregisterClient) h p k a q) b (image F) × (b′ ≡ image (withClients F (withMask h 0 none (F .clients))))
+
+abbrev tidied : Facts
+tidied = withClients busy (withMask 1 0 none (busy .clients))
+
+tidied-formed : WellFormed tidied
+tidied-formed = mask-formed busy 1 0 none (busy-ready .formed) (λ e q. absurd (Option·none-ne-some e q))
+
+abbrev leaving : Event
+leaving = call (serviceNumber deregisterClient) 1 [] InUse 0 []
+
+tidied-step : Tidies leaving (image busy) (image tidied)
+tidied-step =
+    inl (
+      refl,
+      (
+        busy,
+        serves (busy-ready .formed) deregisterClient 1 [] (refused InUse [] busy) tt
+            (inl (
+              (omega arith) past (λ e. e (busy-ready .live)) past here (inl (record { socket = 0; grant = _; live = refl; holder = refl })),
+              as-kept InUse [] busy,
+            )),
+        refl,
+      ),
+    )
+
+-- the client had its mask, and has it no more
+had : Tells busy (mask 1 0 1)
+had = (_, inl refl, refl, refl)
+
+has-not : Tells tidied (mask 1 0 1) → ⊥
+has-not t = Option·none-ne-some 1 (sym (ap (λ (c : Client). c .mask 0) (listed-alone (t .1))) ∙ t .3)
+
+pub tidies-wrong : Frame Tidies → ⊥
+tidies-wrong x =
+    let y = x leaving (image busy) (image tidied) (accepted (busy-ready .formed)) tidied-step in
+    has-not (subst (λ (F : Facts). Tells F (mask 1 0 1)) (says tidied-formed (y .after))
+    (y .holds .names (the-mask 1 0) (λ n. omega (arith, ap numberOf (n .0))) .facts (mask 1 0 1) refl .0
+    (subst (λ (F : Facts). Tells F (mask 1 0 1)) (sym (says (busy-ready .formed) (y .before))) had)))
+
+pub tidies-breaks-bytes : RefusalKeeps Tidies → ⊥
+tidies-breaks-bytes x =
+    let kept = x leaving (image busy) (image tidied) tidied-step (λ e. omega (arith, ap numberOf e)) in
+    has-not (subst (λ (F : Facts). Tells F (mask 1 0 1))
+    (says tidied-formed (record { facts = busy; formed = busy-ready .formed; is = sym (kept .2) })) had)
+
+-- "Writing AssignedIRQ before the last check": it is written, whatever the answer
+abbrev WritesFirst : Keeper
+WritesFirst = At requestIrq λ h p k a q b b′. (r : List ℕ) × Ours (call (serviceNumber requestIrq) h p k a r) b b′ × (q ≡ assigning p (levelAsked p))
+
+pub writes-first-wrong : RefusalKeeps WritesFirst → ⊥
+writes-first-wrong x =
+    let step = serves two-sockets requestIrq 1 (for 0 irqAsked) (refused BadHandle (for 0 irqAsked) (fresh 2)) tt
+    (inl ((λ e. e refl) past here (λ l. l .listed), as-kept BadHandle (for 0 irqAsked) (fresh 2))) in
+    let kept = x (call (serviceNumber requestIrq) 1 (for 0 irqAsked) BadHandle 0 (for 0 (irqNaming 3 3))) (image (fresh 2)) (image (fresh 2))
+    (inl (refl, (for 0 irqAsked, step, refl))) (λ e. omega (arith, ap numberOf e)) in
+    omega (arith, ap (λ (q : List ℕ). byte q 4) (kept .1))
+
+-- a handle taken for a slot: the table is ours, and the handle answered is the first free place
+abbrev Slots : Keeper
+Slots = At registerClient λ h p k a q b b′.
+    (F : Facts) × (b ≡ image F) × (k ≡ Success) × (a ≡ length (F .clients) + 1) × (b′ ≡ image (entered F (clientAttributes p) (clientEvents p)))
+
+-- register, deregister, register
+pub slots-wrong : NeverAgain Slots → ⊥
+slots-wrong x =
+    let gone = serves (one-client .formed) deregisterClient 1 [] (done 1 [] noClient) tt (cases .n10 .1 .permitted) in
+    x 2 [] (call (serviceNumber deregisterClient) 1 [] Success 1 [] ∷ registers 1 ∷ []) (registers 1) 1 (image (entered noClient 4 0))
+    (from-two _ _ (
+      image oneClient,
+      inl (refl, (fresh 2, refl, refl, refl, refl)),
+      (image noClient, inr (omega arith, gone), (image (entered noClient 4 0), inl (refl, (noClient, refl, refl, refl, refl)), refl)),
+    ))
+    (4, 0, (refl, registerClient, refl, client-made)) .1 (registers 1) (inr (inl refl)) (4, 0, (refl, registerClient, refl, client-made))
+
+-- handles from 0 on
+abbrev FromZero : Keeper
+FromZero = At registerClient λ h p k a q b b′.
+    (F : Facts) × (b ≡ image F) × (k ≡ Success) × (a ≡ F .issued) × (b′ ≡ image (entered F (clientAttributes p) (clientEvents p)))
+
+pub from-zero-wrong : NeverAgain FromZero → ⊥
+from-zero-wrong x =
+    x 2 [] [] (registers 0) 0 (image oneClient) (from-two _ _ (image oneClient, inl (refl, (fresh 2, refl, refl, refl, refl)), refl))
+    (4, 0, (refl, registerClient, refl, client-made)) .0 refl
+
+-- "A made-up sharer count": always 1
+abbrev MadeUp : Keeper
+MadeUp = AtSharers λ l k c b b′. (k ≡ Success) × (c ≡ 1) × (b′ ≡ b)
+
+-- where one is counted, there is one
+one-there : {P : ℕ → Type 0} → Number P 1 → (s : ℕ) × P s
+one-there {P} n = go (n .those) (λ s i. n .each s .0 i) (n .count)
+  where
+    go : (xs : List ℕ) → ((s : ℕ) → s ∈ xs → P s) → length xs ≡ 1 → (s : ℕ) × P s
+    go [] each e = absurd (omega (arith, e))
+    go (x ∷ xs) each e = (x, each x (inl refl))
+
+pub made-up-wrong : SharersCounted MadeUp → ⊥
+made-up-wrong x =
+    let y = one-there (x 2 [] (image (fresh 2)) (image (fresh 2)) 3 1 (from-two [] _ refl) (refl, refl, refl) .0) in
+    stands-never _ (y .1 .1)
+
+-- the sharers of another level
+abbrev OtherLevel : Keeper
+OtherLevel = AtSharers λ l k c b b′. Ours (sharers 3 k c) b b′
+
+pub other-level-wrong : SharersCounted OtherLevel → ⊥
+other-level-wrong x =
+    let question : Ours (sharers 3 Success 1) (image irqHeld) (image irqHeld) =
+    (record { code = Success; count = 1; packs = refl; permitted = inl (accepted (irq-ready .formed), inr ((omega arith) then tt, (refl, refl))) }, refl) in
+    let y = one-there (x 2 (before ++ (asksIrq ∷ [])) (image irqHeld) (image irqHeld) 5 1
+    (set-up OtherLevel (λ n h p k a q F G w free s. s) (λ t k F G w free s. s) (asksIrq ∷ []) (image irqHeld) (image irqHeld, irq-step, refl)) question .0) in
+    let t = exact 2 (before ++ (asksIrq ∷ [])) (image irqHeld)
+    (set-up Ours (λ n h p k a q F G w free s. s) (λ t k F G w free s. s) (asksIrq ∷ []) (image irqHeld) (image irqHeld, irq-step, refl)) in
+    let told = subst (λ (F : Facts). F .irq (y .0) ≡ some (y .1 .0)) (says (irq-ready .formed) (t .accepted)) (t .tells (irq (y .0) (y .1 .0)) .1 (y .1 .1)) in
+    ⊎-elim
+    (λ k. omega (arith, ap (λ (g : IrqGrant). g .level) (Option·some-injective _ _ (sym (k .1) ∙ told)), y .1 .2))
+    (λ k. Option·none-ne-some _ (sym (k .1) ∙ told))
+    (put-is (idle .irq) 0 (some (irqGrant 1 (for 0 irqAsked) 3)) (y .0))
+
+-- the client 1 asks twice for a service that gives nothing back: what each made stands
+module _ (v : Service) (keeps : (p : List ℕ) (f : Fact) → GivenBack 1 p v f → ⊥) where
+  abbrev asks : List ℕ → List ℕ → Event
+  asks p q = call (serviceNumber v) 1 p Success 1 q
+
+  first-stands : (p q p′ q′ : List ℕ) (f : Fact) → Made 1 p 1 q v f → StandsOf (asks p q ∷ asks p′ q′ ∷ []) v 1 p 1 q
+  first-stands p q p′ q′ f m =
+      record {
+        fact = f;
+        made = m;
+        stands = record {
+          earlier = [];
+          maker = asks p q;
+          later = asks p′ q′ ∷ [];
+          are = refl;
+          made = (refl, v, refl, m);
+          lasts = λ e i back. ⊎-elim (λ same. kept (subst (λ (x : Event). GivesBack x f) same back)) absurd i;
+        };
+      }
+    where
+      kept : GivesBack (asks p′ q′) f → ⊥
+      kept b = keeps p′ f (subst (λ (x : Service). GivenBack 1 p′ x f) (number-injective (b .1) v (b .2)) (b .3))
+
+  second-stands : (p q p′ q′ : List ℕ) (f : Fact) → Made 1 p′ 1 q′ v f → StandsOf (asks p q ∷ asks p′ q′ ∷ []) v 1 p′ 1 q′
+  second-stands p q p′ q′ f m =
+      record {
+        fact = f;
+        made = m;
+        stands = record {
+          earlier = asks p q ∷ [];
+          maker = asks p′ q′;
+          later = [];
+          are = refl;
+          made = (refl, v, refl, m);
+          lasts = λ e i. absurd i;
+        };
+      }
+
+-- a keeper that grants ports where Joins holds of what is asked for and each live grant
+abbrev GrantsIo : (List ℕ → IoGrant → Type 0) → Keeper
+GrantsIo Joins = At requestIo λ h p k a q b b′.
+    (F : Facts) × (b ≡ image F) × (k ≡ Success) × (q ≡ p) × ((s : ℕ) (g : IoGrant) → F .io s ≡ some g → Joins p g)
+    × (b′ ≡ image (withIo F (socketOf p) (some (ioGrant h p (baseAsked p)))))
+
+-- "Comparing ports without the decoded lines"
+abbrev NoLines : Keeper
+NoLines = GrantsIo λ p g. Overlap (baseAsked p) (countAsked p) (g .ports .base) (g .ports .count) → ⊥
+
+-- ports are shared that only one of two asked to share
+abbrev OneShares : Keeper
+OneShares = GrantsIo λ p g. (sharedAsked p ≡ true) ⊎ (g .shared ≡ true)
+
+-- eight ports, at a base, with attributes and lines
+abbrev ioPacket : ℕ → ℕ → ℕ → ℕ → ℕ → List ℕ
+ioPacket s low high attributes lines = s ∷ 0 ∷ low ∷ high ∷ 8 ∷ attributes ∷ 0 ∷ 0 ∷ 0 ∷ 0 ∷ lines ∷ []
+
+-- two sockets ask for ports, and the second is granted them beside the first
+two-ports : (Joins : List ℕ → IoGrant → Type 0) (p p′ : List ℕ) → socketOf p ≢ socketOf p′
+    → Meet (portsAt p (baseAsked p)) (portsAt p′ (baseAsked p′)) → Joins p′ (ioGrant 1 p (baseAsked p)) → PortsApart (GrantsIo Joins) → IoShared p
+two-ports Joins p p′ sockets meet joins x =
+    x 2 _ (image both) 1 1 1 1 p p′ p p′
+    (from-two (asks requestIo keeps p p ∷ asks requestIo keeps p′ p′ ∷ []) (image both) (
+      image one,
+      inl (refl, (fresh 2, refl, refl, refl, (λ s g e. absurd (Option·none-ne-some g e)), refl)),
+      (image both, inl (refl, (one, refl, refl, refl, held, refl)), refl),
+    ))
+    (first-stands requestIo keeps p p p′ p′ _ io-made) (second-stands requestIo keeps p p p′ p′ _ io-made) sockets meet .0
+  where
+    one : Facts
+    one = withIo (fresh 2) (socketOf p) (some (ioGrant 1 p (baseAsked p)))
+
+    both : Facts
+    both = withIo one (socketOf p′) (some (ioGrant 1 p′ (baseAsked p′)))
+
+    keeps : (p : List ℕ) (f : Fact) → GivenBack 1 p requestIo f → ⊥
+    keeps p = request-io-keeps (λ (f : Fact). ⊥)
+
+    held : (s : ℕ) (g : IoGrant) → one .io s ≡ some g → Joins p′ g
+    held s g e =
+        ⊎-elim (λ k. subst (Joins p′) (Option·some-injective _ g (sym (k .1) ∙ e)) joins) (λ k. absurd (Option·none-ne-some g (sym (k .1) ∙ e)))
+        (put-is (fresh 2 .io) (socketOf p) (some (ioGrant 1 p (baseAsked p))) s)
+
+-- 2F8 at ten lines, and then 6F8 at sixteen
+pub no-lines-wrong : PortsApart NoLines → ⊥
+no-lines-wrong x =
+    omega (arith, two-ports _ (ioPacket 0 0xF8 0x02 0 10) (ioPacket 1 0xF8 0x06 0 16) (omega arith) (cases .n1) (λ o. omega (arith, o .one, o .other)) x)
+
+-- 300 to 307 alone, and then to share
+pub one-shares-wrong : PortsApart OneShares → ⊥
+one-shares-wrong x =
+    let meet : Meet (ports 0x300 8 16) (ports 0x300 8 16) =
+    record { one = 0x300; other = 0x300; one-in = omega arith; other-in = omega arith; equal = refl } in
+    omega (arith, two-ports _ (ioPacket 0 0x00 0x03 0 16) (ioPacket 1 0x00 0x03 1 16) (omega arith) meet (inl refl) x)
+
+-- a keeper that grants the level named where Joins holds
+abbrev GrantsIrq : (Facts → List ℕ → Type 0) → Keeper
+GrantsIrq Joins = At requestIrq λ h p k a q b b′.
+    (F : Facts) × (b ≡ image F) × (k ≡ Success) × (q ≡ assigning p (levelAsked p)) × Joins F p
+    × (b′ ≡ image (withIrq F (socketOf p) (some (irqGrant h p (levelAsked p)))))
+
+-- "Letting Exclusive join a shared level when its count is one"
+abbrev JoinsOne : Keeper
+JoinsOne = GrantsIrq λ F p. (s t : ℕ) (g g′ : IrqGrant) → Holds F (levelAsked p) s g → Holds F (levelAsked p) t g′ → s ≡ t
+
+-- all that share go together
+abbrev AnySharing : Keeper
+AnySharing = GrantsIrq λ F p. (mannerAsked p ≢ Exclusive) × ((s : ℕ) (g : IrqGrant) → Holds F (levelAsked p) s g → g .manner ≢ Exclusive)
+
+-- a fresh table with the one grant that a packet asks for
+abbrev oneHeld : List ℕ → Facts
+oneHeld p = withIrq (fresh 2) (socketOf p) (some (irqGrant 1 p (levelAsked p)))
+
+only-one : (p : List ℕ) (s : ℕ) (g : IrqGrant) → oneHeld p .irq s ≡ some g → (s ≡ socketOf p) × (irqGrant 1 p (levelAsked p) ≡ g)
+only-one p s g e =
+    ⊎-elim (λ k. (k .0, Option·some-injective _ g (sym (k .1) ∙ e))) (λ k. absurd (Option·none-ne-some g (sym (k .1) ∙ e)))
+    (put-is (fresh 2 .irq) (socketOf p) (some (irqGrant 1 p (levelAsked p))) s)
+
+-- two sockets ask for a level, and the second joins the first
+two-levels : (Joins : Facts → List ℕ → Type 0) (p p′ : List ℕ) → socketOf p ≢ socketOf p′
+    → assignedIrq (assigning p (levelAsked p)) ≡ assignedIrq (assigning p′ (levelAsked p′)) → Joins (fresh 2) p → Joins (oneHeld p) p′
+    → LevelsApart (GrantsIrq Joins) → Together (mannerAsked p) (mannerAsked p′)
+two-levels Joins p p′ sockets levels joins joins′ x =
+    x 2 _ (image both) 1 1 1 1 p p′ (assigning p (levelAsked p)) (assigning p′ (levelAsked p′))
+    (from-two (asks requestIrq keeps p _ ∷ asks requestIrq keeps p′ _ ∷ []) (image both) (
+      image (oneHeld p),
+      inl (refl, (fresh 2, refl, refl, refl, joins, refl)),
+      (image both, inl (refl, (oneHeld p, refl, refl, refl, joins′, refl)), refl),
+    ))
+    (first-stands requestIrq keeps p _ p′ _ _ irq-made) (second-stands requestIrq keeps p _ p′ _ _ irq-made) sockets levels
+  where
+    both : Facts
+    both = withIrq (oneHeld p) (socketOf p′) (some (irqGrant 1 p′ (levelAsked p′)))
+
+    keeps : (p : List ℕ) (f : Fact) → GivenBack 1 p requestIrq f → ⊥
+    keeps p = request-irq-keeps (λ (f : Fact). ⊥)
+
+-- the level 3 named, exclusive
+abbrev alone : ℕ → List ℕ
+alone s = irqPacket s 0x00 0 0x23 0x00
+
+pub joins-one-wrong : LevelsApart JoinsOne → ⊥
+joins-one-wrong x =
+    let t = two-levels _ (dynamic 0 0) (alone 1) (omega arith) refl (λ s t g g′ e. absurd (Option·none-ne-some g (e .live)))
+    (λ s t g g′ e e′. only-one (dynamic 0 0) s g (e .live) .0 ∙ sym (only-one (dynamic 0 0) t g′ (e′ .live) .0)) x in
+    omega (arith, ap typeOf (t .equal))
+
+pub any-sharing-wrong : LevelsApart AnySharing → ⊥
+any-sharing-wrong x =
+    let t = two-levels _ (dynamic 0 0) (timeMultiplexed 1 0) (omega arith) refl (shares, λ s g e. absurd (Option·none-ne-some g (e .live)))
+    (shares′, λ s g e. subst (λ (y : IrqGrant). y .manner ≢ Exclusive) (only-one (dynamic 0 0) s g (e .live) .1) shares) x in
+    omega (arith, ap typeOf (t .equal))
+  where
+    shares : mannerAsked (dynamic 0 0) ≢ Exclusive
+    shares e = omega (arith, ap typeOf e)
+
+    shares′ : mannerAsked (timeMultiplexed 1 0) ≢ Exclusive
+    shares′ e = omega (arith, ap typeOf e)
+
+-- any answer at all, and a handle that is left open
+abbrev Anything : Keeper
+Anything e b b′ = b′ ≡ b
+
+pub anything-wrong : OneOutcome Anything → ⊥
+anything-wrong x = omega (arith, ap numberOf (x .of-card-in 0 Success BadSocket [] [] [] refl refl .0))
+
+abbrev AnyHandle : Keeper
+AnyHandle = At registerClient λ h p k a q b b′. (c : ℕ) × Ours (call (serviceNumber registerClient) h p k c q) b b′
+
+pub any-handle-wrong : OneOutcome AnyHandle → ⊥
+any-handle-wrong x =
+    omega (
+      arith,
+      x .of-call (serviceNumber registerClient) 0 clientPacket Success Success 1 2 clientPacket clientPacket (image (fresh 2))
+          (image oneClient) (image oneClient) (inl (refl, (1, registered))) (inl (refl, (1, registered))) .1,
+    )
+
+-- "One that refuses everything, or gives one code always"
+abbrev codeIn : Event → Code
+codeIn (call n h p k a q) = k
+codeIn (cardIn s k) = k
+codeIn (cardOut s k) = k
+codeIn (boot r k i) = k
+codeIn (sharers l k c) = k
+
+abbrev RefusesAll : Keeper
+RefusesAll e b b′ = (codeIn e ≡ GeneralFailure) × (b′ ≡ b)
+
+pub refuses-all-wrong : ExactCodes RefusesAll → ⊥
+refuses-all-wrong x = omega (arith, ap numberOf (x (service registerClient) Success .0 (inr (inr (inr (inr (inl refl))))) .6 .0))
+
+abbrev Succeeds : Keeper
+Succeeds e b b′ = (codeIn e ≡ Success) × (b′ ≡ b)
+
+pub succeeds-wrong : ExactCodes Succeeds → ⊥
+succeeds-wrong x = omega (arith, ap numberOf (x (service registerClient) GeneralFailure .0 (inl refl) .6 .0))

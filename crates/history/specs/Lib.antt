@@ -1,0 +1,8 @@
+-- Runs of calls and what stands after them. Assumes nothing.
+pub mod Events
+pub mod Stands
+pub mod Tables
+pub mod Names
+pub mod Demand
+pub mod Codes
+pub mod Laws
