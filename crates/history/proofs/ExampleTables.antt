@@ -25,17 +25,17 @@ use Rattle.cases.proofs.Permitted.{as-left, _then_, _nor_, listed-alone, alone-
 use Rattle.history.proofs.Giving.{left}
 use Rattle.history.proofs.OnSockets.{Ready, ready, two-sockets, one-client, for, own-passed, irqRequests, ioRequests, maskRequests}
 
--- a card in the socket 0, and the level 3 and the ports 300 to 30F managed
+-- a card in each socket, and the level 3 and the ports 2F8 to 6FF managed
 abbrev pub idle : Facts
-idle = rangeAdded (levelAdded (withCard oneClient 0 true) 3 0) 0x300 16 0
+idle = rangeAdded (levelAdded (withCard (withCard oneClient 0 true) 1 true) 3 0) 0x2F8 0x408 0
 
 pub idle-ready : Ready idle
 idle-ready =
     ready
     (range-added-formed _
-    (level-added-formed _ (card-formed oneClient (one-client .formed) 0 true (omega arith)) 3 0
+    (level-added-formed _ (card-formed _ (card-formed oneClient (one-client .formed) 0 true (omega arith)) 1 true (omega arith)) 3 0
     ((λ e. e (inl refl)) then (omega arith) then false≢true then tt))
-    0x300 16 0 16
+    0x2F8 0x408 0 16
     (((λ e. e (inl refl)) nor omega arith) then (omega arith nor omega arith) then (omega arith) then (λ e. e .2 .listed) then (omega arith) then tt))
     _ (inl refl) refl
 

@@ -23,3 +23,4 @@ pub mod Laws
 pub mod Demand
 pub mod SampleRuns
 pub mod Wrong
+pub mod WrongGrants

@@ -4,7 +4,7 @@ use mathlib.Core.Logic.{inl, inr}
 use mathlib.Core.List.{List, [], _∷_, _++_}
 use mathlib.Core.Bool.{true, false≢true}
 use mathlib.Core.Option.{some, Option·none-ne-some}
-use Prim.Native.Nat.{ℕ}
+use Prim.Native.Nat.{ℕ, _<_}
 use native.Mathlib.Omega.{arith}
 use Rattle.facts.specs.declared.Code.{Code}
 use Rattle.facts.specs.declared.Code.the-variants.{Success}
@@ -14,7 +14,7 @@ use Rattle.facts.specs.Sockets.{withCard}
 use Rattle.facts.specs.Checks.{Passed}
 use Rattle.facts.specs.Resources.{levelAdded, addLevelChecks, addRangeChecks}
 use Rattle.facts.specs.Services.{registerClient, adjustResourceInfo, serviceNumber}
-use Rattle.facts.specs.declared.Width.the-variants.{Short}
+use Rattle.facts.specs.declared.Width.the-variants.{Wide}
 use Rattle.facts.proofs.Formed.{card-formed}
 use Rattle.facts.proofs.ResourcesStay.{level-added-formed}
 use Rattle.layout.specs.Layout.{image}
@@ -43,7 +43,7 @@ from-two es b runs =
 pub says : {F : Facts} → WellFormed F → (a : Accepted (image F)) → a .facts ≡ F
 says w a = accepted-one a (accepted w)
 
--- a client registers, a card comes in, and the level 3 and the ports 300 to 30F are added
+-- a client registers, cards come in, and the level 3 and the ports 2F8 to 6FF are added
 abbrev pub registers : ℕ → Event
 registers h = call (serviceNumber registerClient) 0 clientPacket Success h clientPacket
 
@@ -51,13 +51,13 @@ abbrev addLevel : List ℕ
 addLevel = 1 ∷ 2 ∷ 0 ∷ 3 ∷ []
 
 abbrev addRange : List ℕ
-addRange = 1 ∷ 1 ∷ 0x00 ∷ 0x03 ∷ 16 ∷ 0 ∷ 16 ∷ []
+addRange = 1 ∷ 1 ∷ 0xF8 ∷ 0x02 ∷ 0 ∷ 0 ∷ 0x08 ∷ 0x04 ∷ 0 ∷ 0 ∷ 0 ∷ 16 ∷ []
 
 abbrev adjusts : List ℕ → Event
 adjusts p = call (serviceNumber adjustResourceInfo) 1 p Success 1 p
 
 abbrev pub before : List Event
-before = registers 1 ∷ cardIn 0 Success ∷ adjusts addLevel ∷ adjusts addRange ∷ []
+before = registers 1 ∷ cardIn 0 Success ∷ cardIn 1 Success ∷ adjusts addLevel ∷ adjusts addRange ∷ []
 
 -- no socket has an IRQ grant
 abbrev pub Ungranted : Facts → Type 0
@@ -67,14 +67,20 @@ ungranted : (s : ℕ) (g : IrqGrant) → fresh 2 .irq s ≡ some g → ⊥
 ungranted s g e = Option·none-ne-some g e
 
 -- the tables between, and the steps
+abbrev oneCard : Facts
+oneCard = withCard oneClient 0 true
+
 abbrev carded : Facts
-carded = withCard oneClient 0 true
+carded = withCard oneCard 1 true
 
 abbrev levelled : Facts
 levelled = levelAdded carded 3 0
 
+one-card-formed : WellFormed oneCard
+one-card-formed = card-formed oneClient (one-client .formed) 0 true (omega arith)
+
 carded-formed : WellFormed carded
-carded-formed = card-formed oneClient (one-client .formed) 0 true (omega arith)
+carded-formed = card-formed oneCard one-card-formed 1 true (omega arith)
 
 level-free : Passed (addLevelChecks carded 3 0)
 level-free = (λ e. e (inl refl)) then (omega arith) then false≢true then tt
@@ -85,8 +91,9 @@ levelled-formed = level-added-formed carded carded-formed 3 0 level-free
 pub registered : Ours (registers 1) (image (fresh 2)) (image oneClient)
 registered = serves two-sockets registerClient 0 clientPacket (done 1 clientPacket oneClient) tt (cases .n10 .0 .permitted)
 
-card-in : Ours (cardIn 0 Success) (image oneClient) (image carded)
-card-in = record { code = Success; is = refl; permitted = inl (serving (one-client .formed) carded (inr ((omega arith) then tt, (refl, refl)))) }
+card-in : (s : ℕ) (F : Facts) → WellFormed F → s < F .sockets → Ours (cardIn s Success) (image F) (image (withCard F s true))
+card-in s F w l =
+    record { code = Success; is = refl; permitted = inl (serving w (withCard F s true) (inr ((λ e. omega (arith, e, l)) then tt, (refl, refl)))) }
 
 level-in : Ours (adjusts addLevel) (image carded) (image levelled)
 level-in =
@@ -103,10 +110,10 @@ range-in =
     (inr (
       (omega arith) then (omega arith) then (omega arith nor omega arith nor omega arith) then (omega arith) then (omega arith nor omega arith)
           then tt,
-      inr (refl, Short, refl, inl (refl, inr (range-free, (refl, as-left _)))),
+      inr (refl, Wide, refl, inl (refl, inr (range-free, (refl, as-left _)))),
     ))
   where
-    range-free : Passed (addRangeChecks levelled 0x300 16 0 16)
+    range-free : Passed (addRangeChecks levelled 0x2F8 0x408 0 16)
     range-free =
         ((λ e. e (inl refl)) nor omega arith) then (omega arith nor omega arith) then (omega arith) then (λ e. e .2 .listed) then (omega arith) then tt
 
@@ -121,6 +128,8 @@ set-up K calls cards es b rest =
     let range-step : Runs K (image levelled) (adjusts addRange ∷ es) b = (image idle, calls _ _ _ _ _ _ levelled idle levelled-formed ungranted range-in, rest) in
     let level-step : Runs K (image carded) (adjusts addLevel ∷ adjusts addRange ∷ es) b =
     (image levelled, calls _ _ _ _ _ _ carded levelled carded-formed ungranted level-in, range-step) in
-    let card-step : Runs K (image oneClient) (cardIn 0 Success ∷ adjusts addLevel ∷ adjusts addRange ∷ es) b =
-    (image carded, cards _ _ oneClient carded (one-client .formed) ungranted card-in, level-step) in
-    from-two (before ++ es) b (image oneClient, calls _ _ _ _ _ _ (fresh 2) oneClient two-sockets ungranted registered, card-step)
+    let card-step : Runs K (image oneCard) (cardIn 1 Success ∷ adjusts addLevel ∷ adjusts addRange ∷ es) b =
+    (image carded, cards _ _ oneCard carded one-card-formed ungranted (card-in 1 oneCard one-card-formed (omega arith)), level-step) in
+    let first-card : Runs K (image oneClient) (cardIn 0 Success ∷ cardIn 1 Success ∷ adjusts addLevel ∷ adjusts addRange ∷ es) b =
+    (image oneCard, cards _ _ oneClient oneCard (one-client .formed) ungranted (card-in 0 oneClient (one-client .formed) (omega arith)), card-step) in
+    from-two (before ++ es) b (image oneClient, calls _ _ _ _ _ _ (fresh 2) oneClient two-sockets ungranted registered, first-card)

@@ -1,4 +1,4 @@
--- Wrong keepers, and of each the clause that it breaks. Assumes nothing.
+-- Wrong keepers, and of each the clause that it breaks; those whose grants meet are in WrongGrants. Assumes nothing.
 use mathlib.Core.Path.{_≡_, refl, ap, sym, _∙_, subst}
 use mathlib.Core.Logic.{_⊎_, inl, inr, ⊎-elim, _≢_}
 use mathlib.Core.List.{List, [], _∷_, _++_}
@@ -9,47 +9,42 @@ use native.Mathlib.Omega.{arith}
 use lib.ListN.{length}
 use Rattle.facts.specs.declared.Code.{Code}
 use Rattle.facts.specs.declared.Code.the-variants.{Success, GeneralFailure, BadSocket, BadHandle, InUse}
-use Rattle.facts.specs.declared.Manner.the-variants.{Exclusive}
 use Rattle.facts.specs.Codes.{numberOf}
-use Rattle.facts.specs.Table.{Facts, Client, Level, IoGrant, IrqGrant, fresh}
+use Rattle.facts.specs.Table.{Facts, Client, Level, IrqGrant, fresh}
 use Rattle.facts.specs.Sets.{_∈_}
 use Rattle.facts.specs.WellFormed.{WellFormed}
 use Rattle.facts.specs.Packets.{byte}
-use Rattle.facts.specs.Ports.{Meet, Overlap}
-use Rattle.facts.specs.Levels.{Together, Holds, typeOf}
-use Rattle.facts.specs.Clients.{clientAttributes, clientEvents, withClients, registered as entered}
-use Rattle.facts.specs.Sockets.{socketOf, withCard, withMask}
-use Rattle.facts.specs.Irq.{withIrq, irqGrant, levelAsked, mannerAsked, assigning, assignedIrq}
-use Rattle.facts.specs.Io.{IoShared, withIo, ioGrant, baseAsked, countAsked, portsAt, sharedAsked}
+use Rattle.facts.specs.Clients.{withClients, registered as entered}
+use Rattle.facts.specs.Sockets.{withCard, withMask}
+use Rattle.facts.specs.Irq.{withIrq, irqGrant, levelAsked, assigning}
+use Rattle.facts.specs.Io.{ioGrant}
 use Rattle.facts.specs.Services.{Service, registerClient, deregisterClient, requestIrq, requestIo, serviceNumber}
 use Rattle.facts.proofs.Sets.{put-is}
-use Rattle.facts.proofs.Unique.{number-injective}
 use Rattle.facts.proofs.Formed.{card-formed, irq-formed}
 use Rattle.facts.proofs.ClientsStay.{mask-formed}
 use Rattle.layout.specs.Layout.{image}
 use Rattle.layout.specs.Sound.{Accepted}
-use Rattle.cases.specs.Cases.{done, refused, ports, oneClient, noClient, clientPacket, irqPacket, dynamic, timeMultiplexed}
+use Rattle.cases.specs.Cases.{done, refused, oneClient, noClient, clientPacket}
 use Rattle.cases.proofs.Cases.{cases}
 use Rattle.cases.proofs.Permitted.{as-kept, _then_, listed-alone}
 use Rattle.history.specs.Events.{Event, call, cardIn, cardOut, boot, sharers, Keeper, Ours}
-use Rattle.history.specs.Stands.{Fact, card, level, mask, io, irq, Made, GivenBack, GivesBack, Stands, client-made, io-made, irq-made}
+use Rattle.history.specs.Stands.{card, level, mask, io, irq, Stands, client-made, io-made}
 use Rattle.history.specs.Tables.{Tells}
 use Rattle.history.specs.Names.{the-card, the-mask}
-use Rattle.history.specs.Demand.{Exact, ExactSince, Frame, CardOutKeeps, NeverAgain, Number, SharersCounted, StandsOf, PortsApart, LevelsApart}
+use Rattle.history.specs.Demand.{Exact, ExactSince, Frame, CardOutKeeps, NeverAgain, Number, SharersCounted}
 use Rattle.history.specs.Codes.{service}
 use Rattle.history.specs.Laws.{OneOutcome, RefusalKeeps, ExactCodes}
 use Rattle.history.proofs.Turns.{kind}
 use Rattle.history.proofs.Standing.{stands-never}
-use Rattle.history.proofs.Inverse.{request-io-keeps, request-irq-keeps}
 use Rattle.history.proofs.Runs.{exact, fresh-exact}
-use Rattle.history.proofs.Giving.{serving, serves, accepted, here, _past_}
+use Rattle.history.proofs.Giving.{serving, serves, accepted, left, here, _past_}
 use Rattle.history.proofs.OnSockets.{two-sockets, one-client, for}
 use Rattle.history.proofs.ExampleTables.{idle, irqHeld, ioHeld, busy, idle-ready, irq-ready, busy-ready, irqAsked, ioAsked, irqNaming}
 use Rattle.history.proofs.ExampleTables.{irq-granted, io-granted}
 use Rattle.history.proofs.SampleRuns.{from-two, says, registers, before, Ungranted, registered, set-up}
 
 -- wrong at the calls of one service, at card out, or at the question for sharers; else as this keeper
-abbrev At : Service → (ℕ → List ℕ → Code → ℕ → List ℕ → List ℕ → List ℕ → Type 0) → Keeper
+abbrev pub At : Service → (ℕ → List ℕ → Code → ℕ → List ℕ → List ℕ → List ℕ → Type 0) → Keeper
 At v W (call n h p k a q) b b′ = ((n ≡ serviceNumber v) × W h p k a q b b′) ⊎ ((n ≢ serviceNumber v) × Ours (call n h p k a q) b b′)
 At v W (cardIn s k) b b′ = Ours (cardIn s k) b b′
 At v W (cardOut s k) b b′ = Ours (cardOut s k) b b′
@@ -228,31 +223,42 @@ writes-first-wrong x =
     (inl (refl, (for 0 irqAsked, step, refl))) (λ e. omega (arith, ap numberOf e)) in
     omega (arith, ap (λ (q : List ℕ). byte q 4) (kept .1))
 
--- a handle taken for a slot: the table is ours, and the handle answered is the first free place
+-- RegisterClient does as it should, and answers another handle
+abbrev Answers : (Facts → ℕ) → Keeper
+Answers handle = At registerClient λ h p k a q b b′.
+    (F : Facts) × (b ≡ image F) × (c : ℕ) × Ours (call (serviceNumber registerClient) h p k c q) b b′
+    × (((k ≡ Success) × (a ≡ handle F)) ⊎ ((k ≢ Success) × (a ≡ c)))
+
+-- a handle taken for a slot: it is the first free place
 abbrev Slots : Keeper
-Slots = At registerClient λ h p k a q b b′.
-    (F : Facts) × (b ≡ image F) × (k ≡ Success) × (a ≡ length (F .clients) + 1) × (b′ ≡ image (entered F (clientAttributes p) (clientEvents p)))
+Slots = Answers λ F. length (F .clients) + 1
 
 -- register, deregister, register
 pub slots-wrong : NeverAgain Slots → ⊥
 slots-wrong x =
-    let gone = serves (one-client .formed) deregisterClient 1 [] (done 1 [] noClient) tt (cases .n10 .1 .permitted) in
+    let left-formed = left (one-client .formed) deregisterClient 1 [] (done 1 [] noClient) tt (cases .n10 .1 .permitted) in
+    let leaves = serves (one-client .formed) deregisterClient 1 [] (done 1 [] noClient) tt (cases .n10 .1 .permitted) in
+    let again = serves left-formed registerClient 0 clientPacket (done 2 clientPacket (entered noClient 4 0)) tt (cases .n10 .2 .permitted) in
     x 2 [] (call (serviceNumber deregisterClient) 1 [] Success 1 [] ∷ registers 1 ∷ []) (registers 1) 1 (image (entered noClient 4 0))
     (from-two _ _ (
       image oneClient,
-      inl (refl, (fresh 2, refl, refl, refl, refl)),
-      (image noClient, inr (omega arith, gone), (image (entered noClient 4 0), inl (refl, (noClient, refl, refl, refl, refl)), refl)),
+      inl (refl, (fresh 2, refl, 1, registered, inl (refl, refl))),
+      (
+        image noClient,
+        inr (omega arith, leaves),
+        (image (entered noClient 4 0), inl (refl, (noClient, refl, 2, again, inl (refl, refl))), refl),
+      ),
     ))
     (4, 0, (refl, registerClient, refl, client-made)) .1 (registers 1) (inr (inl refl)) (4, 0, (refl, registerClient, refl, client-made))
 
 -- handles from 0 on
 abbrev FromZero : Keeper
-FromZero = At registerClient λ h p k a q b b′.
-    (F : Facts) × (b ≡ image F) × (k ≡ Success) × (a ≡ F .issued) × (b′ ≡ image (entered F (clientAttributes p) (clientEvents p)))
+FromZero = Answers λ F. F .issued
 
 pub from-zero-wrong : NeverAgain FromZero → ⊥
 from-zero-wrong x =
-    x 2 [] [] (registers 0) 0 (image oneClient) (from-two _ _ (image oneClient, inl (refl, (fresh 2, refl, refl, refl, refl)), refl))
+    x 2 [] [] (registers 0) 0 (image oneClient)
+    (from-two _ _ (image oneClient, inl (refl, (fresh 2, refl, 1, registered, inl (refl, refl))), refl))
     (4, 0, (refl, registerClient, refl, client-made)) .0 refl
 
 -- "A made-up sharer count": always 1
@@ -289,164 +295,6 @@ other-level-wrong x =
     (λ k. omega (arith, ap (λ (g : IrqGrant). g .level) (Option·some-injective _ _ (sym (k .1) ∙ told)), y .1 .2))
     (λ k. Option·none-ne-some _ (sym (k .1) ∙ told))
     (put-is (idle .irq) 0 (some (irqGrant 1 (for 0 irqAsked) 3)) (y .0))
-
--- the client 1 asks twice for a service that gives nothing back: what each made stands
-module _ (v : Service) (keeps : (p : List ℕ) (f : Fact) → GivenBack 1 p v f → ⊥) where
-  abbrev asks : List ℕ → List ℕ → Event
-  asks p q = call (serviceNumber v) 1 p Success 1 q
-
-  first-stands : (p q p′ q′ : List ℕ) (f : Fact) → Made 1 p 1 q v f → StandsOf (asks p q ∷ asks p′ q′ ∷ []) v 1 p 1 q
-  first-stands p q p′ q′ f m =
-      record {
-        fact = f;
-        made = m;
-        stands = record {
-          earlier = [];
-          maker = asks p q;
-          later = asks p′ q′ ∷ [];
-          are = refl;
-          made = (refl, v, refl, m);
-          lasts = λ e i back. ⊎-elim (λ same. kept (subst (λ (x : Event). GivesBack x f) same back)) absurd i;
-        };
-      }
-    where
-      kept : GivesBack (asks p′ q′) f → ⊥
-      kept b = keeps p′ f (subst (λ (x : Service). GivenBack 1 p′ x f) (number-injective (b .1) v (b .2)) (b .3))
-
-  second-stands : (p q p′ q′ : List ℕ) (f : Fact) → Made 1 p′ 1 q′ v f → StandsOf (asks p q ∷ asks p′ q′ ∷ []) v 1 p′ 1 q′
-  second-stands p q p′ q′ f m =
-      record {
-        fact = f;
-        made = m;
-        stands = record {
-          earlier = asks p q ∷ [];
-          maker = asks p′ q′;
-          later = [];
-          are = refl;
-          made = (refl, v, refl, m);
-          lasts = λ e i. absurd i;
-        };
-      }
-
--- a keeper that grants ports where Joins holds of what is asked for and each live grant
-abbrev GrantsIo : (List ℕ → IoGrant → Type 0) → Keeper
-GrantsIo Joins = At requestIo λ h p k a q b b′.
-    (F : Facts) × (b ≡ image F) × (k ≡ Success) × (q ≡ p) × ((s : ℕ) (g : IoGrant) → F .io s ≡ some g → Joins p g)
-    × (b′ ≡ image (withIo F (socketOf p) (some (ioGrant h p (baseAsked p)))))
-
--- "Comparing ports without the decoded lines"
-abbrev NoLines : Keeper
-NoLines = GrantsIo λ p g. Overlap (baseAsked p) (countAsked p) (g .ports .base) (g .ports .count) → ⊥
-
--- ports are shared that only one of two asked to share
-abbrev OneShares : Keeper
-OneShares = GrantsIo λ p g. (sharedAsked p ≡ true) ⊎ (g .shared ≡ true)
-
--- eight ports, at a base, with attributes and lines
-abbrev ioPacket : ℕ → ℕ → ℕ → ℕ → ℕ → List ℕ
-ioPacket s low high attributes lines = s ∷ 0 ∷ low ∷ high ∷ 8 ∷ attributes ∷ 0 ∷ 0 ∷ 0 ∷ 0 ∷ lines ∷ []
-
--- two sockets ask for ports, and the second is granted them beside the first
-two-ports : (Joins : List ℕ → IoGrant → Type 0) (p p′ : List ℕ) → socketOf p ≢ socketOf p′
-    → Meet (portsAt p (baseAsked p)) (portsAt p′ (baseAsked p′)) → Joins p′ (ioGrant 1 p (baseAsked p)) → PortsApart (GrantsIo Joins) → IoShared p
-two-ports Joins p p′ sockets meet joins x =
-    x 2 _ (image both) 1 1 1 1 p p′ p p′
-    (from-two (asks requestIo keeps p p ∷ asks requestIo keeps p′ p′ ∷ []) (image both) (
-      image one,
-      inl (refl, (fresh 2, refl, refl, refl, (λ s g e. absurd (Option·none-ne-some g e)), refl)),
-      (image both, inl (refl, (one, refl, refl, refl, held, refl)), refl),
-    ))
-    (first-stands requestIo keeps p p p′ p′ _ io-made) (second-stands requestIo keeps p p p′ p′ _ io-made) sockets meet .0
-  where
-    one : Facts
-    one = withIo (fresh 2) (socketOf p) (some (ioGrant 1 p (baseAsked p)))
-
-    both : Facts
-    both = withIo one (socketOf p′) (some (ioGrant 1 p′ (baseAsked p′)))
-
-    keeps : (p : List ℕ) (f : Fact) → GivenBack 1 p requestIo f → ⊥
-    keeps p = request-io-keeps (λ (f : Fact). ⊥)
-
-    held : (s : ℕ) (g : IoGrant) → one .io s ≡ some g → Joins p′ g
-    held s g e =
-        ⊎-elim (λ k. subst (Joins p′) (Option·some-injective _ g (sym (k .1) ∙ e)) joins) (λ k. absurd (Option·none-ne-some g (sym (k .1) ∙ e)))
-        (put-is (fresh 2 .io) (socketOf p) (some (ioGrant 1 p (baseAsked p))) s)
-
--- 2F8 at ten lines, and then 6F8 at sixteen
-pub no-lines-wrong : PortsApart NoLines → ⊥
-no-lines-wrong x =
-    omega (arith, two-ports _ (ioPacket 0 0xF8 0x02 0 10) (ioPacket 1 0xF8 0x06 0 16) (omega arith) (cases .n1) (λ o. omega (arith, o .one, o .other)) x)
-
--- 300 to 307 alone, and then to share
-pub one-shares-wrong : PortsApart OneShares → ⊥
-one-shares-wrong x =
-    let meet : Meet (ports 0x300 8 16) (ports 0x300 8 16) =
-    record { one = 0x300; other = 0x300; one-in = omega arith; other-in = omega arith; equal = refl } in
-    omega (arith, two-ports _ (ioPacket 0 0x00 0x03 0 16) (ioPacket 1 0x00 0x03 1 16) (omega arith) meet (inl refl) x)
-
--- a keeper that grants the level named where Joins holds
-abbrev GrantsIrq : (Facts → List ℕ → Type 0) → Keeper
-GrantsIrq Joins = At requestIrq λ h p k a q b b′.
-    (F : Facts) × (b ≡ image F) × (k ≡ Success) × (q ≡ assigning p (levelAsked p)) × Joins F p
-    × (b′ ≡ image (withIrq F (socketOf p) (some (irqGrant h p (levelAsked p)))))
-
--- "Letting Exclusive join a shared level when its count is one"
-abbrev JoinsOne : Keeper
-JoinsOne = GrantsIrq λ F p. (s t : ℕ) (g g′ : IrqGrant) → Holds F (levelAsked p) s g → Holds F (levelAsked p) t g′ → s ≡ t
-
--- all that share go together
-abbrev AnySharing : Keeper
-AnySharing = GrantsIrq λ F p. (mannerAsked p ≢ Exclusive) × ((s : ℕ) (g : IrqGrant) → Holds F (levelAsked p) s g → g .manner ≢ Exclusive)
-
--- a fresh table with the one grant that a packet asks for
-abbrev oneHeld : List ℕ → Facts
-oneHeld p = withIrq (fresh 2) (socketOf p) (some (irqGrant 1 p (levelAsked p)))
-
-only-one : (p : List ℕ) (s : ℕ) (g : IrqGrant) → oneHeld p .irq s ≡ some g → (s ≡ socketOf p) × (irqGrant 1 p (levelAsked p) ≡ g)
-only-one p s g e =
-    ⊎-elim (λ k. (k .0, Option·some-injective _ g (sym (k .1) ∙ e))) (λ k. absurd (Option·none-ne-some g (sym (k .1) ∙ e)))
-    (put-is (fresh 2 .irq) (socketOf p) (some (irqGrant 1 p (levelAsked p))) s)
-
--- two sockets ask for a level, and the second joins the first
-two-levels : (Joins : Facts → List ℕ → Type 0) (p p′ : List ℕ) → socketOf p ≢ socketOf p′
-    → assignedIrq (assigning p (levelAsked p)) ≡ assignedIrq (assigning p′ (levelAsked p′)) → Joins (fresh 2) p → Joins (oneHeld p) p′
-    → LevelsApart (GrantsIrq Joins) → Together (mannerAsked p) (mannerAsked p′)
-two-levels Joins p p′ sockets levels joins joins′ x =
-    x 2 _ (image both) 1 1 1 1 p p′ (assigning p (levelAsked p)) (assigning p′ (levelAsked p′))
-    (from-two (asks requestIrq keeps p _ ∷ asks requestIrq keeps p′ _ ∷ []) (image both) (
-      image (oneHeld p),
-      inl (refl, (fresh 2, refl, refl, refl, joins, refl)),
-      (image both, inl (refl, (oneHeld p, refl, refl, refl, joins′, refl)), refl),
-    ))
-    (first-stands requestIrq keeps p _ p′ _ _ irq-made) (second-stands requestIrq keeps p _ p′ _ _ irq-made) sockets levels
-  where
-    both : Facts
-    both = withIrq (oneHeld p) (socketOf p′) (some (irqGrant 1 p′ (levelAsked p′)))
-
-    keeps : (p : List ℕ) (f : Fact) → GivenBack 1 p requestIrq f → ⊥
-    keeps p = request-irq-keeps (λ (f : Fact). ⊥)
-
--- the level 3 named, exclusive
-abbrev alone : ℕ → List ℕ
-alone s = irqPacket s 0x00 0 0x23 0x00
-
-pub joins-one-wrong : LevelsApart JoinsOne → ⊥
-joins-one-wrong x =
-    let t = two-levels _ (dynamic 0 0) (alone 1) (omega arith) refl (λ s t g g′ e. absurd (Option·none-ne-some g (e .live)))
-    (λ s t g g′ e e′. only-one (dynamic 0 0) s g (e .live) .0 ∙ sym (only-one (dynamic 0 0) t g′ (e′ .live) .0)) x in
-    omega (arith, ap typeOf (t .equal))
-
-pub any-sharing-wrong : LevelsApart AnySharing → ⊥
-any-sharing-wrong x =
-    let t = two-levels _ (dynamic 0 0) (timeMultiplexed 1 0) (omega arith) refl (shares, λ s g e. absurd (Option·none-ne-some g (e .live)))
-    (shares′, λ s g e. subst (λ (y : IrqGrant). y .manner ≢ Exclusive) (only-one (dynamic 0 0) s g (e .live) .1) shares) x in
-    omega (arith, ap typeOf (t .equal))
-  where
-    shares : mannerAsked (dynamic 0 0) ≢ Exclusive
-    shares e = omega (arith, ap typeOf e)
-
-    shares′ : mannerAsked (timeMultiplexed 1 0) ≢ Exclusive
-    shares′ e = omega (arith, ap typeOf e)
 
 -- any answer at all, and a handle that is left open
 abbrev Anything : Keeper
