@@ -1,7 +1,7 @@
 -- Any two outcomes coincide, a refusal keeps every byte, and every code is one of the fifteen. Assumes nothing.
 use mathlib.Core.Path.{_≡_, sym, _∙_}
 use mathlib.Core.Logic.{⊎-elim}
-use mathlib.Core.List.{List, [], _∷_}
+use mathlib.Core.List.{List}
 use mathlib.Core.Bool.{Bool, true, false}
 use Prim.Native.Nat.{ℕ}
 use native.Mathlib.Nat.{add-zero}
@@ -15,7 +15,7 @@ use Rattle.facts.proofs.Codes.{code-injective}
 use Rattle.promises.specs.Entries.{CardAnswers}
 use Rattle.promises.proofs.Laws.{laws}
 use Rattle.history.specs.Events.{call, cardIn, cardOut, boot, sharers, Ours}
-use Rattle.history.specs.Laws.{OneOutcome, RefusalKeeps, AmongFifteen}
+use Rattle.history.specs.Laws.{OneOutcome, RefusalKeeps, fifteen, AmongFifteen}
 use Rattle.history.proofs.Listed.{lists, listed}
 use Rattle.history.proofs.Answered.{packed-code, packed-number, placed-code, placed-number}
 use Rattle.history.proofs.Runs.{passes}
@@ -73,11 +73,8 @@ refusal-keeps (sharers l k c) b b′ x =
     )
 
 -- each code's number is listed: a computed test
-abbrev numbers : List ℕ
-numbers = 0x00 ∷ 0x02 ∷ 0x03 ∷ 0x06 ∷ 0x0A ∷ 0x0B ∷ 0x14 ∷ 0x15 ∷ 0x19 ∷ 0x1B ∷ 0x1C ∷ 0x1E ∷ 0x1F ∷ 0x20 ∷ 0x21 ∷ []
-
-number-listed : (n : ℕ) → T (lists (λ (x : ℕ). x) (λ x y e. e) numbers n) → n ∈ numbers
-number-listed = listed (λ (x : ℕ). x) (λ x y e. e) numbers
+number-listed : (n : ℕ) → T (lists (λ (x : ℕ). x) (λ x y e. e) fifteen n) → n ∈ fifteen
+number-listed = listed (λ (x : ℕ). x) (λ x y e. e) fifteen
 
 pub among-fifteen : AmongFifteen
 among-fifteen Success = number-listed (numberOf Success) tt

@@ -28,8 +28,7 @@ codesOf (service releaseIrq) = GeneralFailure ∷ BadArgLength ∷ BadHandle ∷
 codesOf (service requestIo) =
     GeneralFailure ∷ BadArgLength ∷ BadHandle ∷ BadSocket ∷ NoCard ∷ BadAttribute ∷ BadSize ∷ InUse ∷ BadBase ∷ Success ∷ []
 codesOf (service releaseIo) = GeneralFailure ∷ BadArgLength ∷ BadHandle ∷ BadSocket ∷ BadSize ∷ BadBase ∷ Success ∷ []
-codesOf (service requestSocketMask) =
-    GeneralFailure ∷ BadArgLength ∷ BadHandle ∷ BadSocket ∷ NoCard ∷ BadAttribute ∷ InUse ∷ Success ∷ []
+codesOf (service requestSocketMask) = GeneralFailure ∷ BadArgLength ∷ BadHandle ∷ BadSocket ∷ NoCard ∷ BadAttribute ∷ InUse ∷ Success ∷ []
 codesOf (service releaseSocketMask) = GeneralFailure ∷ BadArgLength ∷ BadHandle ∷ BadSocket ∷ Success ∷ []
 codesOf no-service = GeneralFailure ∷ UnsupportedService ∷ []
 codesOf card-in = GeneralFailure ∷ BadSocket ∷ Success ∷ []

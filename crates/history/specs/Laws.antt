@@ -47,9 +47,11 @@ abbrev pub ExactCodes : Keeper → Type 0
 ExactCodes K = (x : Asked) (k : Code) → (k ∈ codesOf x) ↔ CanGive K x k
 
 -- every code is one of document 01's fifteen, by their numbers
+abbrev pub fifteen : List ℕ
+fifteen = 0x00 ∷ 0x02 ∷ 0x03 ∷ 0x06 ∷ 0x0A ∷ 0x0B ∷ 0x14 ∷ 0x15 ∷ 0x19 ∷ 0x1B ∷ 0x1C ∷ 0x1E ∷ 0x1F ∷ 0x20 ∷ 0x21 ∷ []
+
 abbrev pub AmongFifteen : Type 0
-AmongFifteen =
-    (k : Code) → numberOf k ∈ (0x00 ∷ 0x02 ∷ 0x03 ∷ 0x06 ∷ 0x0A ∷ 0x0B ∷ 0x14 ∷ 0x15 ∷ 0x19 ∷ 0x1B ∷ 0x1C ∷ 0x1E ∷ 0x1F ∷ 0x20 ∷ 0x21 ∷ [])
+AmongFifteen = (k : Code) → numberOf k ∈ fifteen
 
 -- all of them
 abbrev pub EntryLaws : Keeper → Type 0
