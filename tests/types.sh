@@ -8,6 +8,7 @@ set -eu
 
 copy=$(mktemp -d)
 trap 'rm -rf "$copy"' EXIT
+trap 'exit 1' TERM
 mkdir "$copy/target"
 # What is proved already needs no second proof there.
 for made in target/rlib target/stamp; do

@@ -18,10 +18,10 @@ use Rattle.facts.specs.Table.{Facts, IrqGrant, fresh, mostRanges, mostLines}
 use Rattle.facts.specs.WellFormed.{WellFormed}
 use Rattle.facts.specs.Packets.{long}
 use Rattle.facts.specs.Levels.{typeOf}
-use Rattle.facts.specs.Checks.{FirstGiven, Passed}
+use Rattle.facts.specs.Checks.{FirstGiven}
 use Rattle.facts.specs.Clients.{Masks, withClients}
 use Rattle.facts.specs.Sockets.{CardTo, withCard, withMask}
-use Rattle.facts.specs.Resources.{adjustChecks, addLevelChecks, addRangeChecks}
+use Rattle.facts.specs.Resources.{addLevelChecks, addRangeChecks}
 use Rattle.facts.specs.Irq.{Sharers, IrqHeld, withIrq}
 use Rattle.facts.specs.Io.{withIo}
 use Rattle.facts.specs.Boot
@@ -36,7 +36,7 @@ use Rattle.cases.proofs.Permitted.{as-left, as-kept, _then_, _nor_}
 use Rattle.history.specs.Events.{Ours}
 use Rattle.history.specs.Codes.{Asked, service, no-service, card-in, card-out, boot-list, sharers-of, fresh-table, codesOf, CanGive}
 use Rattle.history.proofs.Giving.{Each, allBytes, no-table, uncalled, general, accepted, serving, calls, gives, refuses, boots}
-use Rattle.history.proofs.Giving.{first, here, _past_}
+use Rattle.history.proofs.Giving.{level-named, range-named, first, here, _past_}
 use Rattle.history.proofs.OnSockets.{two-sockets, one-client, for, own-passed, own-refuses, begins}
 use Rattle.history.proofs.OnSockets.{irqRequests, irqReleases, ioRequests, ioReleases, maskRequests, maskReleases}
 use Rattle.history.proofs.ExampleTables.{irqHeld, ioHeld, busy, idle-ready, irq-ready, io-ready, busy-ready, spent-formed, full-formed}
@@ -68,12 +68,6 @@ RefusesRanges x =
     → FirstGiven (addRangeChecks F (long (rangeRecord a low high n) 2) (long (rangeRecord a low high n) 6) a mostLines) k
     → CanGive Ours x k
 
--- the first checks of AdjustResourceInfo pass for a level: any action, attributes and level
-level-named : (action a l : ℕ) → action ≤ 3 → Passed (adjustChecks (action ∷ 2 ∷ a ∷ l ∷ []))
-level-named action a l known =
-    (omega arith) then (λ e. omega arith) then (omega arith nor omega arith nor omega arith) then (omega arith) then (omega arith nor omega arith)
-    then tt
-
 adjust-level : RefusesLevels (service adjustResourceInfo)
 adjust-level F w k a l t f =
     refuses w adjustResourceInfo 0 (1 ∷ 2 ∷ a ∷ l ∷ []) k t (inr (level-named 1 a l (omega arith), inl (refl, inl (refl, first f))))
@@ -81,11 +75,7 @@ adjust-level F w k a l t f =
 adjust-range : RefusesRanges (service adjustResourceInfo)
 adjust-range F w k a low high n t f =
     refuses w adjustResourceInfo 0 (1 ∷ 1 ∷ low ∷ high ∷ 0 ∷ 0 ∷ n ∷ 0 ∷ 0 ∷ 0 ∷ a ∷ 16 ∷ []) k t
-    (inr (
-      (omega arith) then (omega arith) then (omega arith nor omega arith nor omega arith) then (omega arith) then (omega arith nor omega arith)
-          then tt,
-      inr (refl, Wide, refl, inl (refl, first f)),
-    ))
+    (inr (range-named (low ∷ high ∷ 0 ∷ 0 ∷ n ∷ 0 ∷ 0 ∷ 0 ∷ a ∷ 16 ∷ []) refl, inr (refl, Wide, refl, inl (refl, first f))))
 
 boot-level : RefusesLevels boot-list
 boot-level F w k a l t f =

@@ -3,8 +3,9 @@ use mathlib.Core.Path.{_≡_, refl, subst, sym}
 use mathlib.Core.Logic.{_⊎_, inl, inr}
 use mathlib.Core.List.{List, [], _∷_}
 use mathlib.Core.Bool.{Bool, true, false, cond}
-use Prim.Native.Nat.{ℕ, zero, suc, _<_}
+use Prim.Native.Nat.{ℕ, zero, suc, _≤_, _<_}
 use native.Mathlib.Omega.{arith}
+use lib.ListN.{length}
 use lib.Dec.{T, ltb}
 use borrow.Author.Tests.{ltb-true}
 use Rattle.facts.specs.declared.Code.{Code}
@@ -13,7 +14,8 @@ use Rattle.facts.specs.Table.{Facts}
 use Rattle.facts.specs.Sets.{_∈_}
 use Rattle.facts.specs.WellFormed.{WellFormed}
 use Rattle.facts.specs.Packets.{Bytes}
-use Rattle.facts.specs.Checks.{Outcome, Kept}
+use Rattle.facts.specs.Checks.{Outcome, Passed, Kept}
+use Rattle.facts.specs.Resources.{adjustChecks}
 use Rattle.facts.specs.Services.{Service, serviceNumber, ruleOf, Call}
 use Rattle.facts.specs.Boot.{Boot, stopped}
 use Rattle.facts.proofs.Laws.{service-laws}
@@ -24,7 +26,7 @@ use Rattle.layout.proofs.Accepts.{accepted-sound}
 use Rattle.answers.specs.Answers.{packed}
 use Rattle.promises.specs.Entries.{CallAnswers}
 use Rattle.cases.specs.Cases.{refused}
-use Rattle.cases.proofs.Permitted.{as-kept}
+use Rattle.cases.proofs.Permitted.{as-kept, _then_, _nor_}
 use Rattle.history.specs.Events.{Ours}
 use Rattle.history.specs.Codes.{service, boot-list, CanGive}
 
@@ -101,3 +103,15 @@ f past b = inr (f, b)
 -- a refusal keeps packet and facts
 pub first : {F : Facts} {p : List ℕ} {k : Code} {A B : Type 0} → A → (A × Kept F p (refused k p F)) ⊎ B
 first {F} {p} {k} a = inl (a, as-kept k p F)
+
+-- the first checks of AdjustResourceInfo pass for a level, with any action, attributes and level; and for ports to add in the long form
+pub level-named : (action a l : ℕ) → action ≤ 3 → Passed (adjustChecks (action ∷ 2 ∷ a ∷ l ∷ []))
+level-named action a l known =
+    (omega arith) then (λ e. omega arith) then (omega arith nor omega arith nor omega arith) then (omega arith) then (omega arith nor omega arith)
+    then tt
+
+pub range-named : (q : List ℕ) → length q ≡ 10 → Passed (adjustChecks (1 ∷ 1 ∷ q))
+range-named q size =
+    (λ e. omega (arith, e, size)) then (omega arith) then (omega arith nor omega arith nor omega arith) then (omega arith)
+    then (omega arith nor (λ e. e .2 (omega (arith, size))))
+    then tt

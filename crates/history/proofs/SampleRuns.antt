@@ -25,7 +25,7 @@ use Rattle.cases.proofs.Cases.{cases}
 use Rattle.cases.proofs.Permitted.{as-left, _then_, _nor_}
 use Rattle.history.specs.Events.{Event, call, cardIn, Keeper, Ours, Runs, FromFresh}
 use Rattle.history.proofs.Answered.{accepted-one}
-use Rattle.history.proofs.Giving.{accepted, serving, serves}
+use Rattle.history.proofs.Giving.{accepted, serving, serves, level-named, range-named}
 use Rattle.history.proofs.OnSockets.{two-sockets, one-client}
 use Rattle.history.proofs.ExampleTables.{idle}
 
@@ -50,8 +50,11 @@ registers h = call (serviceNumber registerClient) 0 clientPacket Success h clien
 abbrev addLevel : List ℕ
 addLevel = 1 ∷ 2 ∷ 0 ∷ 3 ∷ []
 
+abbrev portsAdded : List ℕ
+portsAdded = 0xF8 ∷ 0x02 ∷ 0 ∷ 0 ∷ 0x08 ∷ 0x04 ∷ 0 ∷ 0 ∷ 0 ∷ 16 ∷ []
+
 abbrev addRange : List ℕ
-addRange = 1 ∷ 1 ∷ 0xF8 ∷ 0x02 ∷ 0 ∷ 0 ∷ 0x08 ∷ 0x04 ∷ 0 ∷ 0 ∷ 0 ∷ 16 ∷ []
+addRange = 1 ∷ 1 ∷ portsAdded
 
 abbrev adjusts : List ℕ → Event
 adjusts p = call (serviceNumber adjustResourceInfo) 1 p Success 1 p
@@ -98,20 +101,12 @@ card-in s F w l =
 level-in : Ours (adjusts addLevel) (image carded) (image levelled)
 level-in =
     serves carded-formed adjustResourceInfo 1 addLevel (done 1 addLevel levelled) tt
-    (inr (
-      (omega arith) then (omega arith) then (omega arith nor omega arith nor omega arith) then (omega arith) then (omega arith nor omega arith)
-          then tt,
-      inl (refl, inl (refl, inr (level-free, (refl, as-left _)))),
-    ))
+    (inr (level-named 1 0 3 (omega arith), inl (refl, inl (refl, inr (level-free, (refl, as-left _))))))
 
 range-in : Ours (adjusts addRange) (image levelled) (image idle)
 range-in =
     serves levelled-formed adjustResourceInfo 1 addRange (done 1 addRange idle) tt
-    (inr (
-      (omega arith) then (omega arith) then (omega arith nor omega arith nor omega arith) then (omega arith) then (omega arith nor omega arith)
-          then tt,
-      inr (refl, Wide, refl, inl (refl, inr (range-free, (refl, as-left _)))),
-    ))
+    (inr (range-named portsAdded refl, inr (refl, Wide, refl, inl (refl, inr (range-free, (refl, as-left _))))))
   where
     range-free : Passed (addRangeChecks levelled 0x2F8 0x408 0 16)
     range-free =

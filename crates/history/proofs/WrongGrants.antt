@@ -18,7 +18,7 @@ use Rattle.facts.specs.Ports.{Meet, Overlap, AllManaged}
 use Rattle.facts.specs.Levels.{Together, Holds, typeOf}
 use Rattle.facts.specs.Checks.{Check, _gives_, Passed}
 use Rattle.facts.specs.Sockets.{socketOf}
-use Rattle.facts.specs.Irq.{RequestIrq, Fits, Mask, irqAheadChecks, withIrq, irqGrant, levelAsked, mannerAsked, assigning, assignedIrq}
+use Rattle.facts.specs.Irq.{RequestIrq, IrqAttributesBad, IrqInfoBad, Fits, Mask, irqAheadChecks, withIrq, irqGrant, levelAsked, mannerAsked, assigning, assignedIrq}
 use Rattle.facts.specs.Io.{RequestIo, IoShared, IoAttributesBad, IoSizeBad, NotAllManaged, ioAheadChecks, withIo, ioGrant, baseAsked, countAsked}
 use Rattle.facts.specs.Io.{portsAt, sharedAsked}
 use Rattle.facts.specs.Services.{Service, requestIrq, requestIo, serviceNumber}
@@ -299,32 +299,30 @@ two-levels Joins p socket named assigned passed clear joins x =
 abbrev alone : List ℕ
 alone = irqPacket 1 0x00 0 0x23 0x00
 
-pub joins-one-wrong : LevelsApart JoinsOne → ⊥
-joins-one-wrong x =
-    let passed : Passed (irqAheadChecks shared 1 alone []) =
+-- a request on the socket 1 passes the checks ahead of the fit, if its attributes and IRQInfo1 do
+second-asks : (t i : ℕ) → (IrqAttributesBad (irqPacket 1 t 0 i 0) → ⊥) → (IrqInfoBad (irqPacket 1 t 0 i 0) → ⊥)
+    → Passed (irqAheadChecks shared 1 (irqPacket 1 t 0 i 0) [])
+second-asks t i attributes info =
     (λ e. e refl)
     then (λ e. e (record { client = _; listed = inl refl; handle = refl }))
     then ((omega arith) nor (λ e. e refl))
     then true≢false
-    then (omega arith nor omega arith nor omega arith nor omega arith nor omega arith)
-    then (omega arith nor omega arith nor omega arith)
+    then attributes
+    then info
     then (λ e. e refl)
-    then tt in
+    then tt
+
+pub joins-one-wrong : LevelsApart JoinsOne → ⊥
+joins-one-wrong x =
+    let passed = second-asks 0x00 0x23 (omega arith nor omega arith nor omega arith nor omega arith nor omega arith)
+    (omega arith nor omega arith nor omega arith) in
     let t = two-levels _ alone refl refl refl passed (omega arith)
     (λ s t g g′ e e′. only-one s g (e .live) .0 ∙ sym (only-one t g′ (e′ .live) .0)) x in
     omega (arith, ap typeOf (t .equal))
 
 pub any-sharing-wrong : LevelsApart AnySharing → ⊥
 any-sharing-wrong x =
-    let passed : Passed (irqAheadChecks shared 1 (timeMultiplexed 1 0) []) =
-    (λ e. e refl)
-    then (λ e. e (record { client = _; listed = inl refl; handle = refl }))
-    then ((omega arith) nor (λ e. e refl))
-    then true≢false
-    then (omega arith nor omega arith nor omega arith nor omega arith nor omega arith)
-    then bits-A3 .good 1 1
-    then (λ e. e refl)
-    then tt in
+    let passed = second-asks 0x01 0xA3 (omega arith nor omega arith nor omega arith nor omega arith nor omega arith) (bits-A3 .good 1 1) in
     let t = two-levels _ (timeMultiplexed 1 0) refl refl refl passed (omega arith)
     ((λ e. omega (arith, ap typeOf e)), λ s g e. subst (λ (y : IrqGrant). y .manner ≢ Exclusive) (only-one s g (e .live) .1) (λ e. omega (arith, ap typeOf e))) x in
     omega (arith, ap typeOf (t .equal))
