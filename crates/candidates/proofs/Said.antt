@@ -1,6 +1,7 @@
 -- The bytes say which bases are candidates, and which of these lie wholly in unreserved ranges; so the two searches give the candidate that is
 -- taken. Assumes nothing.
 use mathlib.Core.Path.{_≡_, refl, ap, sym, _∙_, subst}
+use mathlib.Core.Logic.{inl, inr}
 use mathlib.Core.List.{List}
 use mathlib.Core.Bool.{false}
 use Prim.Native.Nat.{ℕ, _+_, _-_, _*_, _≤_, _<_}
@@ -16,9 +17,11 @@ use Rattle.layout.specs.Reading.{rangesIn, rangeIn, ioIn, marked}
 use Rattle.layout.specs.Sound.{Accepted, RangesSound}
 use Rattle.layout.proofs.Of
 use Rattle.layout.proofs.Managed.{HasPort}
+use Rattle.meeting.specs.Meeting.{MeetsSome}
+use Rattle.obstacles.specs.Obstacles.{Multiple, portsFrom}
 use Rattle.candidates.specs.declared.Taken.{Taken}
 use Rattle.candidates.specs.declared.Taken.the-variants.{Base, Nothing}
-use Rattle.candidates.specs.Candidates.{reserveMark, Counts, Free, CandidateIn, LowestIs, TakenIs}
+use Rattle.candidates.specs.Candidates.{reserveMark, Counts, Free, CandidateIn, LowestIs, FirstIs, TakenIs}
 use Rattle.candidates.proofs.Choosing.{lowest-as}
 use Rattle.candidates.proofs.Runs.{counts-below}
 
@@ -132,14 +135,22 @@ module _ (b : List ℕ) (a : Accepted b) where
     taken-late : ((x : ℕ) → Found 0 x → ⊥) → (x : ℕ) → Lowest (Found 1) x → CandidateTaken (a .facts) p x
     taken-late none x low = chosen-then (λ y c e. none y (early-found y (c, e))) (lowest-as (found-candidate 1) candidate-found (Base x) low)
 
--- what the first search finds is taken; where it finds none, what the second finds
 module _ (b p : List ℕ) (step : ℕ) (align : SmallestPower (countAsked p) step) (one : 1 ≤ countAsked p) where
+  -- what comes first is taken
+  pub first-taken : (r : Taken) → FirstIs b (countAsked p) (linesAsked p) step r → TakenIs b p r
+  first-taken (Base x) (inl low) = λ a. taken-early b a p step align one x low
+  first-taken (Base x) (inr late) = λ a. taken-late b a p step align one (late .0) x (late .1)
+  first-taken Nothing none = λ a x c. none x (candidate-found b a p step align one x c)
+
+  -- where every multiple is barred, nothing is
+  pub closed-taken : ((x : ℕ) → Multiple step x → MeetsSome b (portsFrom (countAsked p) (linesAsked p) x)) → TakenIs b p Nothing
+  closed-taken met a x c = let free = candidate-free b a p step align one x c in free .meets-none (met x (free .multiple))
+
+-- the two searches, one after the other
+module _ (b : List ℕ) (count lines step : ℕ) where
   abbrev Search : ℕ → ℕ → Type 0
-  Search most = CandidateIn b most (countAsked p) (linesAsked p) step
+  Search most = CandidateIn b most count lines step
 
-  pub first-taken : (x : ℕ) → Lowest (Search 0) x → TakenIs b p (Base x)
-  first-taken x low a = taken-early b a p step align one x low
-
-  pub then-taken : ((x : ℕ) → Search 0 x → ⊥) → (r : Taken) → LowestIs (Search 1) r → TakenIs b p r
-  then-taken none (Base x) low = λ a. taken-late b a p step align one none x low
-  then-taken none Nothing n = λ a x c. n x (candidate-found b a p step align one x c)
+  pub late-first : ((x : ℕ) → Search 0 x → ⊥) → (r : Taken) → LowestIs (Search 1) r → FirstIs b count lines step r
+  late-first none (Base x) low = inr (none, low)
+  late-first none Nothing n = n

@@ -1,65 +1,51 @@
--- The lowest candidate: from one multiple of the step to the next, in one range, and over the ranges in order. Assumes nothing.
+-- The lowest candidate: past what live grants bar, in one range, and over the ranges in order. Assumes nothing.
 use mathlib.Core.Path.{_≡_, subst}
-use mathlib.Core.Logic.{_⊎_, inl, inr}
+use mathlib.Core.Logic.{inl}
 use mathlib.Core.List.{List}
 use Prim.Native.Nat.{ℕ, _+_, _-_, _≤_, _<_, max}
-use native.Mathlib.Nat.{eq-or-lt-of-le}
 use native.Mathlib.Decide.{decLt, decLe}
 use native.Mathlib.Omega.{arith}
-use Rattle.facts.specs.Table
 use Rattle.facts.specs.Choice.{Lowest}
 use Rattle.layout.specs.Reading.{rangesIn}
 use Rattle.layout.specs.Sound.{RangesSound, rangeBase}
 use Rattle.layout.proofs.Managed.{rangeEnd, ends-before}
 use Rattle.reading.proofs.All.{All}
-use Rattle.meeting.specs.Meeting.{MeetsSome}
+use Rattle.obstacles.specs.declared.Stretch.{Stretch}
+use Rattle.obstacles.specs.Obstacles.{FirstMultiple, Opened, Bars}
 use Rattle.candidates.specs.declared.Taken.{Taken}
-use Rattle.candidates.specs.Candidates.{Multiple, FirstMultiple, ReachIs, FreeBetween, CandidateIn, StartsIn, LowestIs, Counts}
+use Rattle.candidates.specs.declared.Taken.the-variants.{Base, Nothing}
+use Rattle.candidates.specs.Candidates.{ReachIs, FreeBetween, CandidateIn, StartsIn, LowestIs, Counts}
 use Rattle.candidates.proofs.Choosing.{lowest-as}
-use Rattle.candidates.proofs.Steps.{multiples-apart, next-multiple}
 use Rattle.candidates.proofs.Runs.{counts-alike}
 
-module _ (b : List ℕ) (count lines step from end : ℕ) where
-  abbrev Fit : ℕ → Type 0
-  Fit = FreeBetween b count lines step from end
+-- the lowest that no live grant bars, past what a search leapt over
+module _ (b : List ℕ) (count lines step period : ℕ) (all : List Stretch) (known : Stretch) (bars : Bars b count lines step period all known)
+    (from end x : ℕ) (o : Opened all known count step from end x)
+  where
+    abbrev Fit : ℕ → Type 0
+    Fit = FreeBetween b count lines step from end
 
-  -- the ports from there on meet a live grant
-  abbrev Meets : ℕ → Type 0
-  Meets x = MeetsSome b (record { base = x; count = count; lines = lines })
-
-  -- a walk that has come to a multiple: none before it fits
-  pub record Walked (base : ℕ) : Type 0 where
-    pub multiple : Multiple step base
-    pub past : from ≤ base
-    pub near : base ≤ Table.allPorts + Table.allPorts
-    pub ahead : (y : ℕ) → Fit y → base ≤ y
-
-  pub walk-start : Multiple step from → from ≤ Table.allPorts + Table.allPorts → Walked from
-  walk-start m l = record { multiple = m; past = omega arith; near = l; ahead = λ y f. f .past }
-
-  module _ (base : ℕ) (w : Walked base) where
-    pub walk-more : step ≤ Table.allPorts → base ≤ Table.allPorts → Meets base → Walked (base + step)
-    walk-more h k met =
-        record {
-          multiple = next-multiple step base (w .multiple);
-          past = omega (arith, w .past);
-          near = omega arith;
-          ahead = λ y f. go y f (eq-or-lt-of-le (w .ahead y f));
-        }
+    not-before : (y : ℕ) → Fit y → x ≤ y
+    not-before y f = go (decLt y x)
       where
-        go : (y : ℕ) → Fit y → (base ≡ y) ⊎ (base < y) → base + step ≤ y
-        go y f (inl e) = absurd (f .free .meets-none (subst Meets e met))
-        go y f (inr l) = multiples-apart step base y (w .multiple) (f .free .multiple) l
+        go : Dec (y < x) → x ≤ y
+        go (yes l) =
+            absurd (f .free .meets-none (bars .barred y (f .free .multiple) (o .barred y (f .free .multiple) (f .past) l)))
+        go (no l) = omega arith
 
-    pub walk-found : base + count ≤ end → (Meets base → ⊥) → Lowest Fit base
-    walk-found h n =
+    pub open-found : x + count ≤ end → LowestIs Fit (Base x)
+    open-found h =
         record {
-          fits = record { free = record { multiple = w .multiple; meets-none = n }; past = w .past; before = h };
-          least = w .ahead;
+          fits = record {
+            free = record { multiple = o .multiple; meets-none = λ m. o .free h (inl (bars .met x m)) };
+            past = o .past;
+            before = h;
+          };
+          least = not-before;
         }
 
-    pub walk-end : end < base + count → (y : ℕ) → Fit y → ⊥
-    walk-end h y f = omega (arith, w .ahead y f, f .before)
+    pub open-none : end < x + count → LowestIs Fit Nothing
+    open-none h y f = omega (arith, not-before y f, f .before)
 
 -- no candidate starts in the range k
 abbrev pub NoneIn : List ℕ → ℕ → ℕ → ℕ → ℕ → ℕ → Type 0

@@ -1,7 +1,8 @@
 -- The candidates for a request without a base, said of the bytes, and what the choice among them answers. Assumes nothing.
 use mathlib.Core.Path.{_≡_}
+use mathlib.Core.Logic.{_⊎_}
 use mathlib.Core.List.{List}
-use Prim.Native.Nat.{ℕ, _+_, _*_, _≤_, _<_}
+use Prim.Native.Nat.{ℕ, _+_, _≤_, _<_}
 use Rattle.facts.specs.Table
 use Rattle.facts.specs.Choice.{Lowest}
 use Rattle.facts.specs.Packets.{byte}
@@ -10,8 +11,11 @@ use Rattle.facts.specs.Io.{CandidateTaken, NoCandidate}
 use Rattle.layout.specs.Reading.{rangesIn, rangePlace}
 use Rattle.layout.specs.Sound.{Accepted, rangeBase, rangeCount}
 use Rattle.meeting.specs.Meeting.{MeetsSome}
+use Rattle.obstacles.specs.declared.Stretch.{Stretch}
+use Rattle.obstacles.specs.Obstacles.{Multiple, Bars}
 use Rattle.candidates.specs.declared.Taken.{Taken}
 use Rattle.candidates.specs.declared.Taken.the-variants.{Base, Nothing}
+use Rattle.candidates.specs.declared.Search.{Search}
 
 -- the reserve mark of the range i
 abbrev pub reserveMark : List ℕ → ℕ → ℕ
@@ -23,18 +27,6 @@ pub record Counts (b : List ℕ) (most p : ℕ) : Type 0 where
   pub listed : range < rangesIn b
   pub mark : reserveMark b range ≤ most
   pub has : Within p (rangeBase b range) (rangeCount b range)
-
--- x is a multiple of the step
-pub record Multiple (step x : ℕ) : Type 0 where
-  pub times : ℕ
-  pub is : x ≡ times * step
-
--- the first multiple of the step at or past a number
-pub record FirstMultiple (from step r : ℕ) : Type 0 where
-  pub multiple : Multiple step r
-  pub past : from ≤ r
-  pub near : r < from + step
-  pub first : (y : ℕ) → Multiple step y → from ≤ y → r ≤ y
 
 -- the range j starts where others end, and its ports count
 pub record Follows (b : List ℕ) (j end most : ℕ) : Type 0 where
@@ -76,6 +68,18 @@ pub record StartsIn (b : List ℕ) (i most count lines step x : ℕ) : Type 0 wh
 abbrev pub LowestIs : (ℕ → Type 0) → Taken → Type 0
 LowestIs Fit (Base x) = Lowest Fit x
 LowestIs Fit Nothing = (x : ℕ) → Fit x → ⊥
+
+-- a search found the lowest of those that fit, and what it learnt is barred
+pub record Searched (b : List ℕ) (count lines step period : ℕ) (all : List Stretch) (Fit : ℕ → Type 0) (r : Search) : Type 0 where
+  pub lowest : LowestIs Fit (r .taken)
+  pub bars : Bars b count lines step period all (r .learnt)
+
+-- the lowest where unreserved ranges alone count, or else where all do; or there is none
+abbrev pub FirstIs : List ℕ → ℕ → ℕ → ℕ → Taken → Type 0
+FirstIs b count lines step (Base x) =
+    Lowest (CandidateIn b 0 count lines step) x
+    ⊎ (((y : ℕ) → CandidateIn b 0 count lines step y → ⊥) × Lowest (CandidateIn b 1 count lines step) x)
+FirstIs b count lines step Nothing = (y : ℕ) → CandidateIn b 1 count lines step y → ⊥
 
 -- the candidate that is taken, or there is none
 abbrev pub TakenIs : List ℕ → List ℕ → Taken → Type 0

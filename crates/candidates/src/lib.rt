@@ -5,15 +5,17 @@ use layout::RANGE_RESERVED;
 use layout::RANGE_SIZE;
 use layout::RANGES_AT;
 use layout::RANGES_IN;
+use obstacles::Stretch;
 ghost use mathlib.Core.Path.{_≡_};
-ghost use Prim.Native.Nat.{_+_, _≤_, _<_};
+ghost use Prim.Native.Nat.{_≤_, _<_};
 ghost use lib.ListN.{length};
 ghost use Rattle.facts.specs.Table;
 ghost use Rattle.facts.specs.Says.{Says};
 ghost use Rattle.facts.specs.Io.{requestIoLength, countAsked, linesAsked, SmallestPower};
 ghost use Rattle.layout.specs.Reading.{rangesIn};
 ghost use Rattle.layout.specs.Sound.{Accepted, rangeBase};
-ghost use Rattle.candidates.specs.Candidates.{Multiple, FirstMultiple, Follows, ReachIs, FreeBetween, CandidateIn, StartsIn, LowestIs, TakenIs};
+ghost use Rattle.obstacles.specs.Obstacles.{Power, Bars};
+ghost use Rattle.candidates.specs.Candidates.{Follows, ReachIs, CandidateIn, StartsIn, Searched, FirstIs, TakenIs};
 
 // "candidates are the positive multiples".
 const LEAST: usize = 1;
@@ -35,14 +37,6 @@ fn align(count: usize) -> usize
         }
     }
     ports::power(MOST_LINES)
-}
-
-// The first multiple of the step at or past a number.
-fn up(from: usize, step: usize) -> usize
-    requires { ⌜ (from ≤ Table.allPorts) × (1 ≤ step) × (step ≤ Table.allPorts) ⌝ }
-    ensures { λ r. ⌜ FirstMultiple from step r ⌝ }
-{
-    (from + step - 1) / step * step
 }
 
 // Whether the range `j` starts where others end, and its ports count.
@@ -83,50 +77,106 @@ pub enum Taken {
     Nothing,
 }
 
-// The lowest multiple of the step from a first one on, whose ports end at or before a number and meet no live grant.
-fn lowest(t: &[u8], count: usize, lines: usize, step: usize, from: usize, end: usize) -> Taken
-    requires { ⌜ Accepted (now t) × (1 ≤ count) × (count ≤ Table.allPorts) × (lines ≤ Table.mostLines) ⌝ }
-    requires { ⌜ (1 ≤ step) × (step ≤ Table.allPorts) × Multiple step from × (from ≤ Table.allPorts + Table.allPorts) × (end ≤ Table.allPorts) ⌝ }
-    ensures { λ r. ⌜ LowestIs (FreeBetween (now (t .entry)) count lines step from end) r ⌝ }
-{
-    let mut base = from;
-    while base + count <= end {
-        if !meeting::some(t, base, count, lines) {
-            return Taken::Base(base);
-        }
-        base += step;
-    }
-    Taken::Nothing
+// What it found, and the stretch of bases that it learnt to be barred.
+pub struct Search {
+    pub taken: Taken,
+    pub learnt: Stretch,
 }
 
-// The lowest candidate whose first port the range `i` has.
-fn first_in(t: &[u8], i: usize, most: usize, count: usize, lines: usize, step: usize) -> Taken
-    requires { ⌜ Accepted (now t) × (i < rangesIn (now t)) × (1 ≤ count) × (count ≤ Table.allPorts) × (lines ≤ Table.mostLines) ⌝ }
-    requires { ⌜ (1 ≤ step) × (step ≤ Table.allPorts) ⌝ }
-    ensures { λ r. ⌜ LowestIs (StartsIn (now (t .entry)) i most count lines step) r ⌝ }
+// The lowest candidate whose first port the range `i` has: the lowest multiple that no live grant bars, of those whose ports end where the ports that
+// count do.
+fn first_in(
+    t: &[u8],
+    i: usize,
+    most: usize,
+    count: usize,
+    lines: usize,
+    step: usize,
+    period: usize,
+    all: [Stretch; 8],
+    known: Stretch,
+) -> Search
+    requires { ⌜ Accepted (now t) × (i < rangesIn (now t)) × (1 ≤ count) × (count < 256) ⌝ }
+    requires { ⌜ Power step × Bars (now t) count lines step period all known ⌝ }
+    ensures { λ r. ⌜ Searched (now (t .entry)) count lines step period all (StartsIn (now (t .entry)) i most count lines step) r ⌝ }
 {
     let base = reading::word(t, RANGES_AT + i * RANGE_SIZE);
-    let from = up(ports::larger(base, LEAST), step);
+    let from = obstacles::up(ports::larger(base, LEAST), step);
     let end = reach(t, i, most, reading::range_end(t, i) + count - 1);
-    lowest(t, count, lines, step, from, end)
+    let open = obstacles::lowest(all, known, count, step, from, end);
+    if open + count <= end {
+        return Search {
+            taken: Taken::Base(open),
+            learnt: known,
+        };
+    }
+    Search {
+        taken: Taken::Nothing,
+        learnt: obstacles::learnt(known, from, open, period),
+    }
 }
 
-// The lowest candidate of all: the first one in the first range that has one.
-fn first_of(t: &[u8], most: usize, count: usize, lines: usize, step: usize) -> Taken
-    requires { ⌜ Accepted (now t) × (1 ≤ count) × (count ≤ Table.allPorts) × (lines ≤ Table.mostLines) ⌝ }
-    requires { ⌜ (1 ≤ step) × (step ≤ Table.allPorts) ⌝ }
-    ensures { λ r. ⌜ LowestIs (CandidateIn (now (t .entry)) most count lines step) r ⌝ }
+// The lowest candidate of all: the first one in the first range that has one. What is learnt in one range serves in the next.
+fn first_of(
+    t: &[u8],
+    most: usize,
+    count: usize,
+    lines: usize,
+    step: usize,
+    period: usize,
+    all: [Stretch; 8],
+    known: Stretch,
+) -> Search
+    requires { ⌜ Accepted (now t) × (1 ≤ count) × (count < 256) ⌝ }
+    requires { ⌜ Power step × Bars (now t) count lines step period all known ⌝ }
+    ensures { λ r. ⌜ Searched (now (t .entry)) count lines step period all (CandidateIn (now (t .entry)) most count lines step) r ⌝ }
 {
     let ranges = reading::byte(t, RANGES_IN);
+    let mut learnt = known;
     for i in 0..ranges {
-        if let Taken::Base(base) = first_in(t, i, most, count, lines, step) {
-            return Taken::Base(base);
+        let found = first_in(t, i, most, count, lines, step, period, all, learnt);
+        learnt = found.learnt;
+        let taken = found.taken;
+        if let Taken::Base(base) = taken {
+            return Search {
+                taken: Taken::Base(base),
+                learnt,
+            };
         }
     }
-    Taken::Nothing
+    Search {
+        taken: Taken::Nothing,
+        learnt,
+    }
 }
 
-// "Candidates wholly in unreserved ranges come first, then the lowest".
+// "Candidates wholly in unreserved ranges come first, then the lowest": what the search in them finds, or else what the search in all ranges does.
+fn first(t: &[u8], count: usize, lines: usize, step: usize) -> Taken
+    requires { ⌜ Accepted (now t) × (1 ≤ count) × (count < 256) × (lines ≤ Table.mostLines) × Power step ⌝ }
+    ensures { λ r. ⌜ FirstIs (now (t .entry)) count lines step r ⌝ }
+{
+    let most = obstacles::lines_met(t, lines);
+    let period = obstacles::period(most, step);
+    let all = obstacles::stretches(t, count, lines, most);
+    let early = first_of(
+        t,
+        UNRESERVED,
+        count,
+        lines,
+        step,
+        period,
+        all,
+        obstacles::nowhere(),
+    );
+    let taken = early.taken;
+    if let Taken::Base(base) = taken {
+        return Taken::Base(base);
+    }
+    let late = first_of(t, ALL, count, lines, step, period, all, early.learnt);
+    late.taken
+}
+
+// The base that is taken, of those that a request without a base can have.
 pub fn choose(t: &[u8], p: &[u8]) -> Taken
     requires { ⌜ Accepted (now t) × (length (now p) ≡ requestIoLength) ⌝ }
     requires { ⌜ (1 ≤ countAsked (now p)) × (linesAsked (now p) ≤ Table.mostLines) ⌝ }
@@ -135,8 +185,8 @@ pub fn choose(t: &[u8], p: &[u8]) -> Taken
     let count = io_packets::count_asked(p);
     let lines = io_packets::lines_asked(p);
     let step = align(count);
-    if let Taken::Base(base) = first_of(t, UNRESERVED, count, lines, step) {
-        return Taken::Base(base);
+    if obstacles::closed(t, count, lines, step) {
+        return Taken::Nothing;
     }
-    first_of(t, ALL, count, lines, step)
+    first(t, count, lines, step)
 }

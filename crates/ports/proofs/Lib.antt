@@ -1,4 +1,3 @@
--- When a port meets a range, and when two ranges meet: laws. Assumes nothing.
-pub mod Overlapping
+-- When two ranges meet: laws. Assumes nothing.
+pub mod Meeting
 pub mod Remainders
-pub mod Walk

@@ -1,20 +1,22 @@
--- A remainder decides whether a port meets a range, modulo any power of two that divides the number of all ports. Assumes nothing.
-use mathlib.Core.Path.{_≡_, sym, ap, _∙_}
-use Prim.Native.Nat.{ℕ, _+_, _-_, _*_, _%_, _^_, _≤_, _<_}
+-- A remainder decides whether a port meets a range, modulo any power of two that divides the number of all ports, and whether two ranges meet; and
+-- where they do, they do again after a period. Assumes nothing.
+use mathlib.Core.Path.{_≡_, sym, ap, subst, _∙_}
+use Prim.Native.Nat.{ℕ, _+_, _-_, _*_, _%_, _^_, _≤_, _<_, min}
 use native.Mathlib.Nat.{mod-le, mod-add-mod, add-mod-mod, add-mul-mod-self-right}
 use native.Mathlib.Omega.{arith}
 use lib.Dec.{ltb}
-use lib.Pow.{pow-add}
+use lib.Pow.{pow-add, pow-pos, mod-mod-pow}
 use Rattle.facts.specs.Says.{Says}
-use Rattle.facts.specs.Table.{allPorts, mostLines}
+use Rattle.facts.specs.Table.{allPorts, mostLines, Ports}
+use Rattle.facts.specs.Ports.{Meet}
 use Rattle.facts.proofs.Says.{says-as, says-lt}
-use Rattle.ports.specs.Hits.{Hit}
+use Rattle.ports.proofs.Meeting.{Common, Hit, moved, common-reached, reached-common}
 
 module _ (k : ℕ) (h : k ≤ mostLines) where
   all-ports : allPorts ≡ 2 ^ (mostLines - k) * 2 ^ k
   all-ports = let e : mostLines ≡ mostLines - k + k = omega arith in ap (λ (n : ℕ). 2 ^ n) e ∙ pow-add 2 (mostLines - k) k
 
-  all-ports-mod : (n : ℕ) → (n + allPorts) % 2 ^ k ≡ n % 2 ^ k
+  pub all-ports-mod : (n : ℕ) → (n + allPorts) % 2 ^ k ≡ n % 2 ^ k
   all-ports-mod n = ap (λ (x : ℕ). (n + x) % 2 ^ k) all-ports ∙ add-mul-mod-self-right n (2 ^ (mostLines - k)) (2 ^ k)
 
   module _ (p base count : ℕ) (b : base < allPorts) where
@@ -39,5 +41,62 @@ module _ (k : ℕ) (h : k ≤ mostLines) where
         ∙ all-ports-mod (r .port - base) in
         omega (arith, mod-le (r .port - base) (2 ^ k))
 
-    pub remainder-says : Says (ltb ((p + allPorts - base) % 2 ^ k) count) (Hit p base count (2 ^ k))
-    remainder-says = says-as (says-lt _ _) hit near
+-- so one remainder decides whether two ranges meet
+module _ (a b : Ports) (k : ℕ) (e : k ≡ min (a .lines) (b .lines)) (h : k ≤ mostLines) where
+  meet-common : Meet a b → Common (a .base) (a .count) (b .base) (b .count) (2 ^ k)
+  meet-common m =
+      record {
+        one = m .one;
+        other = m .other;
+        one-in = m .one-in;
+        other-in = m .other-in;
+        equal = subst (λ (n : ℕ). m .one % 2 ^ n ≡ m .other % 2 ^ n) (sym e) (m .equal);
+      }
+
+  common-meet : Common (a .base) (a .count) (b .base) (b .count) (2 ^ k) → Meet a b
+  common-meet c =
+      record {
+        one = c .one;
+        other = c .other;
+        one-in = c .one-in;
+        other-in = c .other-in;
+        equal = subst (λ (n : ℕ). c .one % 2 ^ n ≡ c .other % 2 ^ n) e (c .equal);
+      }
+
+  module _ (n : 1 ≤ a .count) (n′ : 1 ≤ b .count) (l : b .base < allPorts) where
+    pub meet-near : Meet a b → (a .base + a .count - 1 + allPorts - b .base) % 2 ^ k < a .count + b .count - 1
+    meet-near m =
+        near k h (a .base + a .count - 1) (b .base) (a .count + b .count - 1) l
+        (common-reached (2 ^ k) (a .base) (a .count) (b .base) (b .count) n n′ (meet-common m))
+
+    pub near-meet : (a .base + a .count - 1 + allPorts - b .base) % 2 ^ k < a .count + b .count - 1 → Meet a b
+    near-meet r =
+        common-meet
+        (reached-common (2 ^ k) (a .base) (a .count) (b .base) (b .count) n n′ (pow-pos k)
+        (hit k h (a .base + a .count - 1) (b .base) (a .count + b .count - 1) l r))
+
+    pub meet-says : Says (ltb ((a .base + a .count - 1 + allPorts - b .base) % 2 ^ k) (a .count + b .count - 1)) (Meet a b)
+    meet-says = says-as (says-lt _ _) near-meet meet-near
+
+-- what is equal modulo a power of two is so modulo a smaller one
+pub mod-fewer : (x y k j : ℕ) → k ≤ j → x % 2 ^ j ≡ y % 2 ^ j → x % 2 ^ k ≡ y % 2 ^ k
+mod-fewer x y k j l e = sym (fewer x) ∙ ap (λ (n : ℕ). n % 2 ^ k) e ∙ fewer y
+  where
+    fewer : (n : ℕ) → n % 2 ^ j % 2 ^ k ≡ n % 2 ^ k
+    fewer n = let s : j ≡ j - k + k = omega arith in ap (λ (i : ℕ). n % 2 ^ i % 2 ^ k) s ∙ mod-mod-pow n (j - k) k
+
+-- ports meet others wherever they would if they were moved by a period of at least as many lines as decide it
+pub meet-repeats : (a b : Ports) (j y : ℕ) → min (a .lines) (b .lines) ≤ j → a .base % 2 ^ j ≡ y % 2 ^ j → Meet a b
+    → Meet (record { base = y; count = a .count; lines = a .lines }) b
+meet-repeats a b j y l e m =
+    let i : ℕ = m .one - a .base in
+    let here : a .base + i ≡ m .one = omega (arith, m .one-in .from) in
+    record {
+      one = y + i;
+      other = m .other;
+      one-in = record { from = omega arith; below = omega (arith, m .one-in .from, m .one-in .below) };
+      other-in = m .other-in;
+      equal =
+          sym (moved (2 ^ min (a .lines) (b .lines)) (a .base) y i (mod-fewer (a .base) y (min (a .lines) (b .lines)) j l e))
+          ∙ ap (λ (n : ℕ). n % 2 ^ min (a .lines) (b .lines)) here ∙ m .equal;
+    }

@@ -10,8 +10,13 @@ use Rattle.facts.specs.Table
 use Rattle.layout.specs.Sound.{Sound, RangeSound, rangeBase, endBefore}
 use Rattle.layout.proofs.Of.{sound-in}
 use Rattle.layout.proofs.Managed.{rangeEnd, range-placed}
-use Rattle.candidates.specs.Candidates.{FirstMultiple, ReachIs}
-use Rattle.candidates.proofs.Searching.{lowest-in}
+use Rattle.obstacles.specs.Obstacles.{FirstMultiple}
+use Rattle.obstacles.proofs.Steps.{power-most}
+use Rattle.obstacles.proofs.Periods.{bars-learnt}
+use Rattle.candidates.specs.declared.Taken.{Taken}
+use Rattle.candidates.specs.declared.Taken.the-variants.{Base, Nothing}
+use Rattle.candidates.specs.Candidates.{ReachIs, FreeBetween, StartsIn, LowestIs}
+use Rattle.candidates.proofs.Searching.{open-found, open-none, lowest-in}
 use Rattle.candidates.proofs.first_in.Statement.{statement}
 use Rattle.candidates.proofs.first_in.Tie as tie
 
@@ -55,6 +60,18 @@ reached c =
     subst (λ (n : ℕ). ReachIs (table s) (s .args .i) (s .args .most) (n + s .args .count - 1) (c .reach .result)) (c .before .range-end .ensures)
     (c .reach .ensures)
 
+-- what is lowest between these is the lowest that starts in the range
+found : (c : tie.After-lowest)
+    → let s = start (based (gone (c .before))) in
+    (x : Taken)
+    → LowestIs (FreeBetween (table s) (s .args .count) (s .args .lines) (s .args .step) (gone (c .before) .up .result) (c .before .reach .result)) x
+    → LowestIs (StartsIn (table s) (s .args .i) (s .args .most) (s .args .count) (s .args .lines) (s .args .step)) x
+found c =
+    let k = c .before in
+    let s = start (based (gone k)) in
+    lowest-in (table s) (sound s .ranges) (s .args .most) (s .args .count) (s .args .lines) (s .args .step) (s .pre .0 .2) (s .args .i)
+    (gone k .up .result) (k .reach .result) (s .pre .0 .1) (first (gone k)) (reached k)
+
 mul-word : tie.Need-mul-word
 mul-word c = omega (arith, placed (c .before))
 
@@ -79,27 +96,49 @@ add-reach c =
     omega (arith, c .range-end .ensures, range s .within, s .pre .0 .3)
 
 sub-reach : tie.Need-sub-reach
-sub-reach c = let s = start (based (c .before)) in omega (arith, s .pre .0 .2)
+sub-reach c = search needs
 
 reach-requires : tie.Need-reach-requires
-reach-requires c κs =
-    let s = start (based (c .before)) in
-    (s .pre .0 .0, s .pre .0 .1, omega (arith, c .range-end .ensures, s .pre .0 .2))
+reach-requires c κs = search needs
 
 lowest-requires : tie.Need-lowest-requires
 lowest-requires c κs =
     let s = start (based (gone c)) in
-    let up = first (gone c) in (
-      (s .pre .0 .0, s .pre .0 .2, s .pre .0 .3, s .pre .0 .4),
-      (s .pre .1 .0, s .pre .1 .1, up .multiple, omega (arith, up .near, range s .within, range s .port, s .pre .1 .1), c .reach .ensures .within),
+    let up = first (gone c) in
+    let bars = s .pre .1 .1 in (
+      (bars .fits, bars .more-fits, s .pre .1 .0, up .multiple, omega (arith, up .near, range s .within, range s .port, power-most _ (s .pre .1 .0))),
+      (omega (arith, s .pre .0 .3), omega (arith, c .reach .ensures .within, s .pre .0 .2)),
     )
+
+add-if1 : tie.Need-add-if1
+add-if1 c = search needs
 
 returns : tie.Need-returns
 returns c =
-    let k = c .before in
-    let s = start (based (gone k)) in
-    lowest-in (table s) (sound s .ranges) (s .args .most) (s .args .count) (s .args .lines) (s .args .step) (s .pre .0 .2) (s .args .i)
-    (gone k .up .result) (k .reach .result) (s .pre .0 .1) (first (gone k)) (reached k) (c .lowest .result) (c .lowest .ensures)
+    let at = c .before in
+    let s = start (based (gone (at .before))) in
+    record {
+      lowest =
+          found at (Base (at .lowest .result))
+          (open-found (table s) _ _ _ _ _ _ (s .pre .1 .1) _ _ (at .lowest .result) (at .lowest .ensures) (c .if1 .taken));
+      bars = s .pre .1 .1;
+    }
+
+learnt-requires : tie.Need-learnt-requires
+learnt-requires c κs = search needs
+
+returns-2 : tie.Need-returns-2
+returns-2 c =
+    let at = c .before .before in
+    let s = start (based (gone (at .before))) in
+    record {
+      lowest =
+          found at Nothing
+          (open-none (table s) _ _ _ _ _ _ (s .pre .1 .1) _ _ (at .lowest .result) (at .lowest .ensures) (omega (arith, c .before .if1 .left)));
+      bars =
+          bars-learnt (table s) _ _ _ _ _ _ (s .pre .1 .1) (s .pre .1 .0) _ (at .lowest .result) (at .lowest .ensures .barred) (c .learnt .result)
+          (c .learnt .ensures);
+    }
 
 pub first-in-spec : {M : Type 1} → statement M
 first-in-spec =
@@ -115,4 +154,7 @@ first-in-spec =
     sub-reach
     reach-requires
     lowest-requires
-    returns)
+    add-if1
+    returns
+    learnt-requires
+    returns-2)

@@ -10,16 +10,18 @@ use Rattle.layout.specs.Reading.{rangesIn}
 use Rattle.layout.specs.Sound.{Sound}
 use Rattle.layout.proofs.Of.{size-in, sound-in}
 use Rattle.reading.proofs.All.{SoFar, so-far-none, so-far-more}
+use Rattle.obstacles.specs.Obstacles.{Bars}
 use Rattle.candidates.specs.Candidates.{StartsIn, LowestIs}
 use Rattle.candidates.proofs.Searching.{NoneIn, lowest-of, none-of}
 use Rattle.candidates.proofs.first_of.Statement.{statement}
 use Rattle.candidates.proofs.first_of.Tie as tie
 
 abbrev Inv-loop : tie.InvT-loop
-Inv-loop t most count lines step ranges i₀ i = SoFar ranges (NoneIn t most count lines step) i
+Inv-loop t most count lines step period all ranges learnt₀ i₀ learnt i =
+    SoFar ranges (NoneIn t most count lines step) i × Bars t count lines step period all learnt
 
 abbrev μ-loop : tie.MeasureT-loop
-μ-loop t most count lines step ranges i₀ i = ranges - i
+μ-loop t most count lines step period all ranges learnt₀ i₀ learnt i = ranges - i
 
 -- where the call began, its table, and that it is sound
 abbrev start : tie.At-loop Inv-loop μ-loop → tie.Start Inv-loop μ-loop
@@ -40,10 +42,10 @@ listed c = omega (arith, c .before .before .byte .ensures .0, c .loop-test .take
 
 -- what the search in it found
 abbrev found : tie.After-known-told Inv-loop μ-loop → tie.After-first-in Inv-loop μ-loop
-found c = c .before .before .before
+found c = let chosen = c .before .before in chosen .before .before
 
 abbrev missed : tie.After-enum-told Inv-loop μ-loop → tie.After-first-in Inv-loop μ-loop
-missed c = c .before .before
+missed c = c .before .before .before
 
 abbrev Starts : (c : tie.At-loop Inv-loop μ-loop) → ℕ → Type 0
 Starts c = let s = start c .args in StartsIn (table c) (c .loop .i) (s .most) (s .count) (s .lines) (s .step)
@@ -52,22 +54,27 @@ byte-requires : tie.Need-byte-requires Inv-loop μ-loop
 byte-requires c κs = let s = c .before in omega (arith, size-in (now (s .args .t)) (s .pre .0 .0))
 
 loop-holds : tie.Need-loop-holds Inv-loop μ-loop
-loop-holds c = so-far-none
+loop-holds c = (so-far-none, c .before .before .pre .1 .1)
 
 first-in-requires : tie.Need-first-in-requires Inv-loop μ-loop
 first-in-requires c κs =
     let s = start (c .before) in
-    ((s .pre .0 .0, listed c, s .pre .0 .1, s .pre .0 .2, s .pre .0 .3), s .pre .1)
+    ((s .pre .0 .0, listed c, s .pre .0 .1, s .pre .0 .2), (s .pre .1 .0, c .before .loop .inv .1))
 
-enum-known-base : tie.Need-enum-known-base Inv-loop μ-loop
-enum-known-base c = search needs
+enum-known-taken : tie.Need-enum-known-taken Inv-loop μ-loop
+enum-known-taken c = search needs
 
 returns : tie.Need-returns Inv-loop μ-loop
 returns c =
     let k = turn (found c) in
     let s = start k .args in
-    lowest-of (table k) (sound k .ranges) (s .most) (s .count) (s .lines) (s .step) (start k .pre .0 .1) (k .loop .i) _ (listed (found c .before))
-    (k .loop .inv .each) (subst (LowestIs (Starts k)) (c .before .base .given .1) (found c .first-in .ensures))
+    record {
+      lowest =
+          lowest-of (table k) (sound k .ranges) (s .most) (s .count) (s .lines) (s .step) (start k .pre .0 .1) (k .loop .i) _
+          (listed (found c .before)) (k .loop .inv .0 .each)
+          (subst (LowestIs (Starts k)) (c .before .taken .given .1) (found c .first-in .ensures .lowest));
+      bars = found c .first-in .ensures .bars;
+    }
 
 enum-told : tie.Need-enum-told Inv-loop μ-loop
 enum-told c = search needs
@@ -80,16 +87,22 @@ loop-less c = omega arith
 
 loop-again : tie.Need-loop-again Inv-loop μ-loop
 loop-again c =
-    let k = turn (missed c) in
-    so-far-more (k .loop .inv) (missed c .before .loop-test .taken)
-    (subst (LowestIs (Starts k)) (c .enum-told .given .1) (missed c .first-in .ensures))
+    let k = turn (missed c) in (
+      so-far-more (k .loop .inv .0) (missed c .before .loop-test .taken)
+          (subst (LowestIs (Starts k)) (c .enum-told .given .1) (missed c .first-in .ensures .lowest)),
+      missed c .first-in .ensures .bars,
+    )
 
 returns-2 : tie.Need-returns-2 Inv-loop μ-loop
 returns-2 c =
     let k = c .before in
     let s = start k .args in
-    none-of (table k) (sound k .ranges) (s .most) (s .count) (s .lines) (s .step) (start k .pre .0 .1) (k .loop .i)
-    (omega (arith, k .before .byte .ensures .0, c .loop-test .left)) (k .loop .inv .each)
+    record {
+      lowest =
+          none-of (table k) (sound k .ranges) (s .most) (s .count) (s .lines) (s .step) (start k .pre .0 .1) (k .loop .i)
+          (omega (arith, k .before .byte .ensures .0, c .loop-test .left)) (k .loop .inv .0 .each);
+      bars = k .loop .inv .1;
+    }
 
 pub first-of-spec : {M : Type 1} → statement M
 first-of-spec =
@@ -100,7 +113,7 @@ first-of-spec =
     byte-requires
     loop-holds
     first-in-requires
-    enum-known-base
+    enum-known-taken
     returns
     enum-told
     add-i

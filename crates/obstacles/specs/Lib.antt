@@ -1,0 +1,2 @@
+-- What the contracts of `obstacles` cite. Assumes nothing.
+pub mod Obstacles

@@ -1,0 +1,257 @@
+// What the live grants bar of the bases that a request could take: for each grant a stretch of them, which repeats; and the search that leaps from one
+// stretch to the next.
+use facts::Socket;
+use layout::ALL_PORTS;
+use layout::IO_BASE;
+use layout::IO_COUNT;
+use layout::IO_LINES;
+use layout::IO_SIZE;
+use layout::IOS_AT;
+use layout::MOST_LINES;
+use layout::MOST_SOCKETS;
+ghost use mathlib.Core.Path.{_≡_};
+ghost use Prim.Native.Nat.{_+_, _≤_, _<_, min, max};
+ghost use lib.ListN.{length};
+ghost use Rattle.facts.specs.Table;
+ghost use Rattle.layout.specs.Layout.{tableSize};
+ghost use Rattle.layout.specs.Reading.{ioIn};
+ghost use Rattle.layout.specs.Sound.{Accepted, IoPlaceSound};
+ghost use Rattle.obstacles.specs.Obstacles.{around, Power, Multiple, FirstMultiple, Fits, AllFit, StretchIs, StretchesAre};
+ghost use Rattle.obstacles.specs.Obstacles.{Leaps, LeapsFirst, LeapsIn, Opened, LinesMet, Period, OpenIn, Closed, LearntIs};
+
+// Twice all ports: a multiple of every period, from which a start is taken away.
+const AROUND: u32 = 131072;
+
+// A stretch of bases: so many from a start on, and again after each period, whose last number is the mask.
+pub struct Stretch {
+    pub start: u32,
+    pub mask: u32,
+    pub width: u32,
+}
+
+// The stretch that has no base.
+pub fn nowhere() -> Stretch
+    ensures { λ r. ⌜ (r .start ≡ 0) × (r .mask ≡ 0) × (r .width ≡ 0) ⌝ }
+{
+    Stretch {
+        start: 0,
+        mask: 0,
+        width: 0,
+    }
+}
+
+// How many lines decide whether ports that are decoded by so many meet the grant on the socket; 0 where there is none.
+fn deciding(t: &[u8], s: Socket, lines: usize) -> usize
+    requires { ⌜ (length (now t) ≡ tableSize) × (s .0 < Table.mostSockets) ⌝ }
+    ensures { λ r. ⌜ r ≡ min lines (ioIn (now (t .entry)) (s .0) .ports .lines) ⌝ }
+{
+    let number = s.0;
+    ports::smaller(
+        lines,
+        reading::byte(t, IOS_AT + number * IO_SIZE + IO_LINES),
+    )
+}
+
+// The bases at which so many ports, decoded by so many lines, meet the grant on the socket, where no more than `most` lines decide it; else none.
+fn met(t: &[u8], s: Socket, count: usize, lines: usize, most: usize) -> Stretch
+    requires { ⌜ (length (now t) ≡ tableSize) × (s .0 < Table.mostSockets) × IoPlaceSound (now t) (s .0) ⌝ }
+    requires { ⌜ (1 ≤ count) × (count < 256) × (lines ≤ Table.mostLines) ⌝ }
+    ensures { λ r. ⌜ StretchIs (now (t .entry)) count lines most (s .0) r ⌝ }
+{
+    let number = s.0;
+    let at = IOS_AT + number * IO_SIZE;
+    if reading::word(t, at) == 0 {
+        return nowhere();
+    }
+    let decoded = deciding(t, s, lines);
+    if most < decoded {
+        return nowhere();
+    }
+    let start = reading::word(t, at + IO_BASE) + ALL_PORTS + 1 - count;
+    let mask = ports::power(decoded) - 1;
+    let width = reading::byte(t, at + IO_COUNT) + count - 1;
+    Stretch {
+        start: start as u32,
+        mask: mask as u32,
+        width: width as u32,
+    }
+}
+
+// The stretches of all live grants.
+pub fn stretches(t: &[u8], count: usize, lines: usize, most: usize) -> [Stretch; 8]
+    requires { ⌜ Accepted (now t) × (1 ≤ count) × (count < 256) × (lines ≤ Table.mostLines) ⌝ }
+    ensures { λ r. ⌜ StretchesAre (now (t .entry)) count lines most r ⌝ }
+{
+    let mut all = [nowhere(); 8];
+    for s in 0..MOST_SOCKETS {
+        all[s] = met(t, Socket(s), count, lines, most);
+    }
+    all
+}
+
+// How far the end of the stretch lies ahead of a base in it; 0 where the base isn't.
+fn ahead(s: Stretch, base: u32) -> u32
+    requires { ⌜ Fits s × (base ≤ Table.allPorts) ⌝ }
+    ensures { λ r. ⌜ Leaps s base r ⌝ }
+{
+    let behind = (base + AROUND - s.start) & s.mask;
+    let width = s.width;
+    if width <= behind {
+        return 0;
+    }
+    width - behind
+}
+
+fn larger(a: u32, b: u32) -> u32
+    ensures { λ r. ⌜ r ≡ max a b ⌝ }
+{
+    if b < a {
+        return a;
+    }
+    b
+}
+
+// How far the farthest end lies ahead, of the stretches that have the base.
+fn leap(all: [Stretch; 8], base: u32) -> u32
+    requires { ⌜ AllFit all × (base ≤ Table.allPorts) ⌝ }
+    ensures { λ r. ⌜ LeapsFirst all Table.mostSockets base r ⌝ }
+{
+    let mut far: u32 = 0;
+    for i in 0..MOST_SOCKETS {
+        let one = all[i];
+        far = larger(far, ahead(one, base));
+    }
+    far
+}
+
+// The same of one stretch more.
+fn leap_past(all: [Stretch; 8], more: Stretch, base: usize) -> usize
+    requires { ⌜ AllFit all × Fits more × (base ≤ Table.allPorts) ⌝ }
+    ensures { λ r. ⌜ LeapsIn all more base r ⌝ }
+{
+    let from = base as u32;
+    larger(leap(all, from), ahead(more, from)) as usize
+}
+
+// The first multiple of the step at or past a number.
+pub fn up(from: usize, step: usize) -> usize
+    requires { ⌜ (from ≤ around + around) × Power step ⌝ }
+    ensures { λ r. ⌜ FirstMultiple from step r ⌝ }
+{
+    let top = from + step - 1;
+    top - (top & (step - 1))
+}
+
+// The lowest multiple of the step from a first one on that lies in no stretch, or the first whose ports don't end at or before a number: from one that
+// does, the search goes on at the first past the end of its stretch.
+pub fn lowest(
+    all: [Stretch; 8],
+    more: Stretch,
+    count: usize,
+    step: usize,
+    from: usize,
+    end: usize,
+) -> usize
+    requires { ⌜ AllFit all × Fits more × Power step × Multiple step from × (from ≤ around + around) ⌝ }
+    requires { ⌜ (count ≤ Table.allPorts) × (end < Table.allPorts + count) ⌝ }
+    ensures { λ r. ⌜ Opened all more count step from end r ⌝ }
+{
+    let mut base = from;
+    while base + count <= end {
+        let far = leap_past(all, more, base);
+        if far == 0 {
+            return base;
+        }
+        base = up(base + far, step);
+    }
+    base
+}
+
+// A search that went from one base to another found none free, so that none is after a period: the longer of this stretch and the one known.
+pub fn learnt(known: Stretch, from: usize, to: usize, period: usize) -> Stretch
+    requires { ⌜ Power period ⌝ }
+    ensures { λ r. ⌜ LearntIs known from to period r ⌝ }
+{
+    let end = ports::smaller(to, ALL_PORTS);
+    if end <= from {
+        return known;
+    }
+    let width = end - from;
+    if width <= known.width as usize {
+        return known;
+    }
+    let mask = period - 1;
+    Stretch {
+        start: from as u32,
+        mask: mask as u32,
+        width: width as u32,
+    }
+}
+
+// The most lines that decide so of any live grant: after as many ports as they tell apart, what the grants bar repeats.
+pub fn lines_met(t: &[u8], lines: usize) -> usize
+    requires { ⌜ Accepted (now t) × (lines ≤ Table.mostLines) ⌝ }
+    ensures { λ r. ⌜ LinesMet (now (t .entry)) lines r ⌝ }
+{
+    let mut most = 0;
+    for s in 0..MOST_SOCKETS {
+        most = ports::larger(most, deciding(t, Socket(s), lines));
+    }
+    most
+}
+
+// The period of what the grants bar that so many lines decide, for bases that are multiples of the step.
+pub fn period(most: usize, step: usize) -> usize
+    requires { ⌜ (most ≤ Table.mostLines) × Power step ⌝ }
+    ensures { λ r. ⌜ Period most step r ⌝ }
+{
+    ports::larger(ports::power(most), step)
+}
+
+// Which numbers of lines decide so of some live grant, a bit for each: where it is worth while to look at a period.
+fn numbers(t: &[u8], lines: usize) -> usize
+    requires { ⌜ Accepted (now t) × (lines ≤ Table.mostLines) ⌝ }
+{
+    let mut some: usize = 0;
+    for s in 0..MOST_SOCKETS {
+        some = some | ports::power(deciding(t, Socket(s), lines));
+    }
+    some
+}
+
+// The first multiple from one on, in one period, at which the ports meet no grant that no more than `most` lines decide.
+fn open_in(t: &[u8], count: usize, lines: usize, most: usize, step: usize, from: usize) -> usize
+    requires { ⌜ Accepted (now t) × (1 ≤ count) × (count < 256) × (lines ≤ Table.mostLines) ⌝ }
+    requires { ⌜ (most ≤ Table.mostLines) × Power step × Multiple step from × (from ≤ around + around) ⌝ }
+    ensures { λ r. ⌜ OpenIn (now (t .entry)) count lines most step from r ⌝ }
+{
+    let all = stretches(t, count, lines, most);
+    lowest(
+        all,
+        nowhere(),
+        count,
+        step,
+        from,
+        period(most, step) + count - 1,
+    )
+}
+
+// Whether the grants that few lines decide bar every base, as one period of them shows: the fewest lines first, and for more lines the search goes on
+// where it stands. That they don't says nothing.
+pub fn closed(t: &[u8], count: usize, lines: usize, step: usize) -> bool
+    requires { ⌜ Accepted (now t) × (1 ≤ count) × (count < 256) × (lines ≤ Table.mostLines) × Power step ⌝ }
+    ensures { λ r. ⌜ Closed (now (t .entry)) count lines step r ⌝ }
+{
+    let some = numbers(t, lines);
+    let mut base = 0;
+    for most in 1..MOST_LINES {
+        if !reading::is_set(some, most) {
+            continue;
+        }
+        base = open_in(t, count, lines, most, step, base);
+        if period(most, step) <= base {
+            return true;
+        }
+    }
+    false
+}

@@ -1,3 +1,0 @@
--- What the contracts of `ports` cite. Assumes nothing.
-pub mod Hits
-pub mod Whole
