@@ -13,6 +13,7 @@ use Rattle.facts.specs.Ports.{Within}
 use Rattle.layout.specs.Reading.{rangesIn}
 use Rattle.layout.specs.Sound.{ManagedIn, RangesSound, rangeBase, rangeCount}
 use Rattle.layout.proofs.Managed.{rangeEnd, ends-before}
+use Rattle.reading.specs.Finding.{Skipped}
 use Rattle.reading.proofs.All.{All, all-none, all-more}
 
 -- from base on every port before p is managed, and p is in none of the first i ranges
@@ -21,8 +22,16 @@ pub record Passed (b : List ℕ) (base p i : ℕ) : Type 0 where
   pub behind : (q : ℕ) → base ≤ q → q < p → ManagedIn b q
   pub clear : All i (λ j. Within p (rangeBase b j) (rangeCount b j) → ⊥)
 
-pub passed-none : (b : List ℕ) (base : ℕ) → Passed b base base 0
-passed-none b base = record { from = omega arith; behind = λ q f l. absurd (omega arith); clear = all-none _ }
+module _ (b : List ℕ) (p : ℕ) where
+  pub skipped-none : Skipped b p 0
+  skipped-none = record { listed = omega arith; clear = all-none _ }
+
+  -- a range starts at or before p, so those before it end at or before p
+  pub skipped-to : (i : ℕ) → RangesSound b → i < rangesIn b → rangeBase b i ≤ p → Skipped b p i
+  skipped-to i s h l = record { listed = omega arith; clear = λ j m v. omega (arith, ends-before b s j i m h, v .below) }
+
+  pub passed-none : (i : ℕ) → Skipped b p i → Passed b p p i
+  passed-none i k = record { from = omega arith; behind = λ q f l. absurd (omega arith); clear = k .clear }
 
 module _ (b : List ℕ) (base p i : ℕ) (g : Passed b base p i) where
   -- the range ends at or before p

@@ -1,9 +1,10 @@
--- What a search among the clients listed finds. Assumes nothing.
+-- What a search among the clients listed finds, and where one among the ranges begins. Assumes nothing.
 use mathlib.Core.Path.{_≡_}
 use mathlib.Core.List.{List}
-use Prim.Native.Nat.{ℕ, _<_}
-use Rattle.layout.specs.Reading.{clientsIn, handleIn}
-use Rattle.layout.specs.Sound.{LiveIn}
+use Prim.Native.Nat.{ℕ, _≤_, _<_}
+use Rattle.facts.specs.Ports.{Within}
+use Rattle.layout.specs.Reading.{clientsIn, rangesIn, handleIn}
+use Rattle.layout.specs.Sound.{LiveIn, rangeBase, rangeCount}
 use Rattle.reading.specs.declared.Found.{Found}
 use Rattle.reading.specs.declared.Found.the-variants.{At, Nobody}
 
@@ -17,3 +18,8 @@ pub record FirstAt (b : List ℕ) (h i : ℕ) : Type 0 where
 abbrev pub Finds : List ℕ → ℕ → Found → Type 0
 Finds b h (At i) = FirstAt b h i
 Finds b h Nobody = LiveIn b h → ⊥
+
+-- none of the ranges listed before the place i has the port p
+pub record Skipped (b : List ℕ) (p i : ℕ) : Type 0 where
+  pub listed : i ≤ rangesIn b
+  pub clear : (j : ℕ) → j < i → Within p (rangeBase b j) (rangeCount b j) → ⊥

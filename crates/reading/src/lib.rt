@@ -22,7 +22,7 @@ ghost use Rattle.facts.specs.WellFormed.{AttributesAllowed};
 ghost use Rattle.layout.specs.Layout.{tableSize};
 ghost use Rattle.layout.specs.Reading.{clientsIn, rangesIn, mannerOf};
 ghost use Rattle.layout.specs.Sound.{Zero, LiveIn, MaskUsed, ManagedIn, RangesSound, rangeBase, rangeCount, endBefore};
-ghost use Rattle.reading.specs.Finding.{Finds};
+ghost use Rattle.reading.specs.Finding.{Finds, Skipped};
 
 // How many numbers one byte and two bytes hold.
 const ALL_BYTES: usize = 256;
@@ -35,6 +35,9 @@ const WORD_SIZE: usize = 2;
 const STEP: usize = 64;
 
 const QUARTERS: usize = 4;
+
+// A search among the ranges looks first at every sixth: of 32, at five at most, and then at six at most.
+const STRIDE: usize = 6;
 
 // A client's attributes are five bits, of which the lowest three say its type.
 const ALL_ATTRIBUTES: usize = 32;
@@ -237,6 +240,22 @@ pub fn end_before(t: &[u8], i: usize) -> usize
     range_end(t, i - 1)
 }
 
+// Where a search for the range that has a port begins: no range before that place has it. Of every sixth range, the last that starts at or before it.
+fn search_from(t: &[u8], p: usize) -> usize
+    requires { ⌜ (length (now t) ≡ tableSize) × (rangesIn (now t) ≤ Table.mostRanges) × RangesSound (now t) ⌝ }
+    ensures { λ r. ⌜ Skipped (now (t .entry)) p r ⌝ }
+{
+    let ranges = byte(t, RANGES_IN);
+    let mut i = 0;
+    while i + STRIDE < ranges {
+        if p < word(t, RANGES_AT + (i + STRIDE) * RANGE_SIZE) {
+            return i;
+        }
+        i += STRIDE;
+    }
+    i
+}
+
 // Whether all the ports are managed: one pass over the ranges, which are in order. `p` is the first port that no range passed has; where a range
 // starts past it, no range that follows has it.
 pub fn managed(t: &[u8], base: usize, count: usize) -> bool
@@ -246,8 +265,9 @@ pub fn managed(t: &[u8], base: usize, count: usize) -> bool
 {
     let ranges = byte(t, RANGES_IN);
     let end = base + count;
+    let first = search_from(t, base);
     let mut p = base;
-    for i in 0..ranges {
+    for i in first..ranges {
         let next = range_end(t, i);
         if next <= p {
             continue;

@@ -8,14 +8,17 @@ use Rattle.reading.proofs.managed.Statement.{statement}
 use Rattle.reading.proofs.managed.Tie as tie
 
 abbrev Inv-loop : tie.InvT-loop
-Inv-loop t base count ranges end p₀ i₀ p i = (i ≤ ranges) × Passed t base p i
+Inv-loop t base count ranges end first p₀ i₀ p i = (i ≤ ranges) × Passed t base p i
 
 abbrev μ-loop : tie.MeasureT-loop
-μ-loop t base count ranges end p₀ i₀ p i = ranges - i
+μ-loop t base count ranges end first p₀ i₀ p i = ranges - i
 
--- where the call began, the turn in which a range's end was read, and where it was
+-- where the number of ranges was read, where the call began, the turn in which a range's end was read, and where it was
+abbrev counted : tie.At-loop Inv-loop μ-loop → tie.After-byte Inv-loop μ-loop
+counted c = c .before .before
+
 abbrev begun : tie.At-loop Inv-loop μ-loop → tie.Start Inv-loop μ-loop
-begun c = c .before .before .before
+begun c = counted c .before .before
 
 abbrev turn : tie.After-range-end Inv-loop μ-loop → tie.At-loop Inv-loop μ-loop
 turn c = c .before .before
@@ -29,8 +32,11 @@ byte-requires c κs = omega arith
 add-end : tie.Need-add-end Inv-loop μ-loop
 add-end c = omega arith
 
+search-from-requires : tie.Need-search-from-requires Inv-loop μ-loop
+search-from-requires c κs = c .before .before .pre .0
+
 loop-holds : tie.Need-loop-holds Inv-loop μ-loop
-loop-holds c = (omega arith, passed-none _ _)
+loop-holds c = (omega arith, passed-none _ _ _ (c .search-from .ensures))
 
 range-end-requires : tie.Need-range-end-requires Inv-loop μ-loop
 range-end-requires c κs = omega arith
@@ -88,6 +94,7 @@ managed-spec =
     μ-loop
     byte-requires
     add-end
+    search-from-requires
     loop-holds
     range-end-requires
     add-i
