@@ -22,7 +22,7 @@ ghost use Rattle.facts.specs.WellFormed.{AttributesAllowed};
 ghost use Rattle.layout.specs.Layout.{tableSize};
 ghost use Rattle.layout.specs.Reading.{clientsIn, rangesIn, mannerOf};
 ghost use Rattle.layout.specs.Sound.{Zero, LiveIn, MaskUsed, ManagedIn, RangesSound, rangeBase, rangeCount, endBefore};
-ghost use Rattle.reading.specs.Finding.{Finds, Skipped};
+ghost use Rattle.reading.specs.Finding.{Finds, ByNumber, Skipped};
 
 // How many numbers one byte and two bytes hold.
 const ALL_BYTES: usize = 256;
@@ -189,11 +189,29 @@ pub fn client_at(t: &[u8], h: Handle) -> Found
     Found::Nobody
 }
 
+// Whether the client `h` stands where the clients with the handles 1, 2, 3 and on stand as long as none of them is taken out.
+fn stands_by_number(t: &[u8], h: Handle) -> bool
+    requires { ⌜ (length (now t) ≡ tableSize) × (clientsIn (now t) ≤ Table.mostClients) ⌝ }
+    ensures { λ r. ⌜ Says r (ByNumber (now (t .entry)) (h .0)) ⌝ }
+{
+    let number = h.0 as usize;
+    if number == 0 {
+        return false;
+    }
+    if byte(t, CLIENTS_IN) < number {
+        return false;
+    }
+    word(t, CLIENTS_AT + (number - 1) * CLIENT_SIZE) == number
+}
+
 // Whether `h` is the handle of one of the clients listed.
 pub fn live(t: &[u8], h: Handle) -> bool
     requires { ⌜ (length (now t) ≡ tableSize) × (clientsIn (now t) ≤ Table.mostClients) ⌝ }
     ensures { λ r. ⌜ Says r (LiveIn (now (t .entry)) (h .0)) ⌝ }
 {
+    if stands_by_number(t, h) {
+        return true;
+    }
     let found = client_at(t, h);
     match found {
         Found::At(_) => true,
