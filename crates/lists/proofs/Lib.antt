@@ -1,4 +1,4 @@
--- Laws of the order of records, of ranges that follow one another, of masks, and of what is wrong. Assumes nothing.
+-- Laws of clients and of ranges that follow one another, of masks, and of what is wrong. Assumes nothing.
 pub mod Flaws
 pub mod Following
 pub mod Masks

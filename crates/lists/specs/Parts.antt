@@ -5,9 +5,10 @@ use mathlib.Core.List.{List}
 use Prim.Native.Nat.{ℕ, _+_, _≤_, _<_}
 use Rattle.facts.specs.Table
 use Rattle.facts.specs.Packets.{byte, word}
+use Rattle.facts.specs.WellFormed.{AttributesAllowed, EventsAllowed}
 use Rattle.layout.specs.Layout
-use Rattle.layout.specs.Reading.{socketsIn, clientsIn, rangesIn, issuedIn, handleIn, clientPlace, maskPlace, rangePlace}
-use Rattle.layout.specs.Sound.{Zero, LevelSound, MaskSound, handleBefore, rangeBase, rangeCount}
+use Rattle.layout.specs.Reading.{socketsIn, clientsIn, rangesIn, handleIn, clientPlace, maskPlace, rangePlace}
+use Rattle.layout.specs.Sound.{Zero, LevelSound, MaskSound, rangeBase, rangeCount}
 
 -- the records of all levels, and the masks of a client
 abbrev pub LevelsSound : List ℕ → Type 0
@@ -27,10 +28,12 @@ MasksFormed b i = (s : ℕ) → s < Table.mostSockets → MaskFormed (word b (ma
 abbrev pub MasksEnd : List ℕ → ℕ → Type 0
 MasksEnd b i = (s : ℕ) → socketsIn b ≤ s → s < Table.mostSockets → word b (maskPlace i s) ≡ 0
 
--- "live handles differ, aren't 0 and aren't over the number issued": the ith is over the one before it
-pub record HandleSound (b : List ℕ) (i : ℕ) : Type 0 where
-  pub over : handleBefore b i < handleIn b i
-  pub issued : handleIn b i ≤ issuedIn b
+-- the ith client's record, whose handle is over low: all but that it isn't over the number issued
+pub record ClientFollows (b : List ℕ) (low i : ℕ) : Type 0 where
+  pub over : low < handleIn b i
+  pub attributes : AttributesAllowed (word b (clientPlace i + 2))
+  pub events : EventsAllowed (word b (clientPlace i + 4))
+  pub masks : MasksSound b i
 
 -- the ith range starts at or past low and has a port
 pub record RangeFollows (b : List ℕ) (low i : ℕ) : Type 0 where

@@ -19,8 +19,8 @@ ghost use Rattle.facts.specs.Table;
 ghost use Rattle.facts.specs.Says.{Says};
 ghost use Rattle.layout.specs.Layout.{tableSize};
 ghost use Rattle.layout.specs.Reading.{clientsIn};
-ghost use Rattle.layout.specs.Sound.{ClientSound, handleBefore, ClientsSound};
-ghost use Rattle.lists.specs.Parts.{MaskFormed, MasksFormed, MasksEnd, MasksSound, HandleSound};
+ghost use Rattle.layout.specs.Sound.{ClientsSound};
+ghost use Rattle.lists.specs.Parts.{MaskFormed, MasksFormed, MasksEnd, MasksSound, ClientFollows};
 
 // A mask is 0 where there is none, or 4,096 and its events: of its second byte, the upper half is then 1.
 const HALF_BYTE: u8 = 16;
@@ -73,34 +73,10 @@ fn masks_sound(t: &[u8], i: usize) -> bool
     masks_end(t, i)
 }
 
-// The handle of the client listed before the client `i`, or 0.
-fn handle_before(t: &[u8], i: usize) -> Handle
+// The record of the client `i`, whose handle is over that of the client before it.
+fn client_follows(t: &[u8], i: usize, before: Handle) -> bool
     requires { ⌜ (length (now t) ≡ tableSize) × (i < Table.mostClients) ⌝ }
-    ensures { λ r. ⌜ r .0 ≡ handleBefore (now (t .entry)) i ⌝ }
-{
-    if i == 0 {
-        return Handle(0);
-    }
-    reading::handle(t, CLIENTS_AT + (i - 1) * CLIENT_SIZE)
-}
-
-// "live handles differ, aren't 0 and aren't over the number issued": the handle of the client `i` is over that of the one before it.
-fn handle_sound(t: &[u8], i: usize) -> bool
-    requires { ⌜ (length (now t) ≡ tableSize) × (i < Table.mostClients) ⌝ }
-    ensures { λ r. ⌜ Says r (HandleSound (now (t .entry)) i) ⌝ }
-{
-    let handle = reading::handle(t, CLIENTS_AT + i * CLIENT_SIZE);
-    let before = handle_before(t, i);
-    if handle.0 <= before.0 {
-        return false;
-    }
-    handle.0 as usize <= reading::word(t, ISSUED_IN)
-}
-
-// The record of the client `i`.
-fn client_sound(t: &[u8], i: usize) -> bool
-    requires { ⌜ (length (now t) ≡ tableSize) × (i < Table.mostClients) ⌝ }
-    ensures { λ r. ⌜ Says r (ClientSound (now (t .entry)) (handleBefore (now (t .entry)) i) i) ⌝ }
+    ensures { λ r. ⌜ Says r (ClientFollows (now (t .entry)) (before .0) i) ⌝ }
 {
     let at = CLIENTS_AT + i * CLIENT_SIZE;
     let attributes = reading::word(t, at + CLIENT_ATTRIBUTES);
@@ -110,21 +86,26 @@ fn client_sound(t: &[u8], i: usize) -> bool
     if ALL_EVENTS <= reading::word(t, at + CLIENT_EVENTS) {
         return false;
     }
-    if !handle_sound(t, i) {
+    let handle = reading::handle(t, at);
+    if handle.0 <= before.0 {
         return false;
     }
     masks_sound(t, i)
 }
 
+// "live handles differ, aren't 0 and aren't over the number issued": each is over that of the client before it, so none is over the number issued
+// where the last isn't.
 pub fn clients_sound(t: &[u8]) -> bool
     requires { ⌜ (length (now t) ≡ tableSize) × (clientsIn (now t) ≤ Table.mostClients) ⌝ }
     ensures { λ r. ⌜ Says r (ClientsSound (now (t .entry))) ⌝ }
 {
     let clients = reading::byte(t, CLIENTS_IN);
+    let mut before = Handle(0);
     for i in 0..clients {
-        if !client_sound(t, i) {
+        if !client_follows(t, i, before) {
             return false;
         }
+        before = reading::handle(t, CLIENTS_AT + i * CLIENT_SIZE);
     }
-    true
+    before.0 as usize <= reading::word(t, ISSUED_IN)
 }

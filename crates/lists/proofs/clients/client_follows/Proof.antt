@@ -1,4 +1,4 @@
--- `lists::clients::client_sound` meets its contract: each test decides fields of the record.
+-- `lists::clients::client_follows` meets its contract: each test decides a field of the record.
 -- Assumes nothing.
 use Prim.Native.Nat.{_+_}
 use native.Mathlib.Omega.{arith}
@@ -9,12 +9,18 @@ use Rattle.facts.specs.Says.{Says}
 use Rattle.facts.specs.WellFormed.{AttributesAllowed}
 use Rattle.facts.proofs.Says.{says-false, says-as, says-yes, says-false-by}
 use Rattle.layout.specs.Reading.{clientPlace}
-use Rattle.lists.proofs.clients.client_sound.Statement.{statement}
-use Rattle.lists.proofs.clients.client_sound.Tie as tie
+use Rattle.lists.proofs.clients.client_follows.Statement.{statement}
+use Rattle.lists.proofs.clients.client_follows.Tie as tie
 
--- where the call began
+-- where the call began, where the attributes were found allowed, and where the handle was read
 abbrev begun : tie.After-word → tie.Start
 begun c = c .before .before
+
+abbrev first : tie.Else2 → tie.Else1
+first c = c .before .before
+
+abbrev read : tie.After-masks-sound → tie.After-struct-known
+read c = c .before .before .before
 
 allowed : (c : tie.After-attributes-allowed) → let a = begun (c .before) .args in
     Says (c .attributes-allowed .result) (AttributesAllowed (word (now (a .t)) (clientPlace (a .i) + 2)))
@@ -50,25 +56,23 @@ word-requires-2 c κs = search needs
 returns-2 : tie.Need-returns-2
 returns-2 c = says-false (λ p. omega arith)
 
-handle-sound-requires : tie.Need-handle-sound-requires
-handle-sound-requires c κs = search needs
+handle-requires : tie.Need-handle-requires
+handle-requires c κs = search needs
 
 returns-3 : tie.Need-returns-3
-returns-3 c = says-false-by (c .before .handle-sound .ensures) (c .if3 .taken) (λ p. record { over = p .over; issued = p .issued })
+returns-3 c = says-false (λ p. omega arith)
 
 masks-sound-requires : tie.Need-masks-sound-requires
 masks-sound-requires c κs = search needs
 
 returns-4 : tie.Need-returns-4
 returns-4 c =
-    let read = c .before .before .before in
-    let handle = says-yes (c .before .before .handle-sound .ensures) (c .before .if3 .left) in
     says-as (c .masks-sound .ensures)
-    (λ m. record { over = handle .over; issued = handle .issued; attributes = attributes (read .before .before); events = omega arith; masks = m })
+    (λ m. record { over = omega arith; attributes = attributes (first (read c .before .before)); events = omega arith; masks = m })
     (λ p. p .masks)
 
-pub client-sound-spec : {M : Type 1} → statement M
-client-sound-spec =
+pub client-follows-spec : {M : Type 1} → statement M
+client-follows-spec =
     tie.close
     (tie.spec
     mul-at
@@ -80,7 +84,7 @@ client-sound-spec =
     add-word-2
     word-requires-2
     returns-2
-    handle-sound-requires
+    handle-requires
     returns-3
     masks-sound-requires
     returns-4)
