@@ -1,4 +1,5 @@
--- Laws of clients and of ranges that follow one another, of masks, and of what is wrong. Assumes nothing.
+-- Laws of clients and of ranges that follow one another, of masks, by themselves and side by side, and of what is wrong. Assumes nothing.
+pub mod Beside
 pub mod Flaws
 pub mod Following
 pub mod Masks

@@ -1,5 +1,6 @@
--- A client's masks are sound exactly if each is formed and none is there for a socket from the count on. Assumes nothing.
-use mathlib.Core.Path.{_≡_, ap, _∙_}
+-- A client's masks are sound exactly if each is formed, the first four and the last four, and none is there for a socket from the count on.
+-- Assumes nothing.
+use mathlib.Core.Path.{_≡_, ap, subst, _∙_}
 use mathlib.Core.Logic.{_⊎_, inl, inr, ⊎-elim}
 use mathlib.Core.List.{List}
 use Prim.Native.Nat.{ℕ, _+_, _-_, _/_, _≤_, _<_}
@@ -8,11 +9,25 @@ use native.Mathlib.Decide.{decLt}
 use native.Mathlib.Omega.{arith}
 use Rattle.facts.specs.Table.{mostSockets}
 use Rattle.facts.specs.Packets.{byte, word}
-use Rattle.layout.specs.Reading.{socketsIn, maskPlace}
+use Rattle.layout.specs.Reading.{socketsIn, clientPlace, maskPlace}
 use Rattle.layout.specs.Sound.{Zero, MaskSound}
-use Rattle.lists.specs.Parts.{MaskFormed, MasksFormed, MasksEnd, MasksSound}
+use Rattle.lists.specs.Parts.{MaskFormed, FourFormed, MasksFormed, MasksEnd, MasksSound}
 
 module _ (b : List ℕ) (i : ℕ) where
+  -- each mask is formed exactly if the first four and the last four are
+  pub formed-first : MasksFormed b i → FourFormed b (clientPlace i + 6)
+  formed-first m k l = m k (omega arith)
+
+  pub formed-last : MasksFormed b i → FourFormed b (maskPlace i 4)
+  formed-last m k l = subst (λ (p : ℕ). MaskFormed (word b p)) (omega arith) (m (4 + k) (omega arith))
+
+  pub formed-both : FourFormed b (clientPlace i + 6) → FourFormed b (maskPlace i 4) → MasksFormed b i
+  formed-both f g s l = go (decLt s 4)
+    where
+      go : Dec (s < 4) → MaskFormed (word b (maskPlace i s))
+      go (yes h) = f s h
+      go (no h) = subst (λ (p : ℕ). MaskFormed (word b p)) (omega arith) (g (s - 4) (omega arith))
+
   pub sound-formed : MasksSound b i → MasksFormed b i
   sound-formed m s l = ⊎-elim inl (λ p. inr (p .0, p .1)) (m s l)
 

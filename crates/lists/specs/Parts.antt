@@ -2,7 +2,7 @@
 use mathlib.Core.Path.{_≡_}
 use mathlib.Core.Logic.{_⊎_}
 use mathlib.Core.List.{List}
-use Prim.Native.Nat.{ℕ, _+_, _≤_, _<_}
+use Prim.Native.Nat.{ℕ, _+_, _*_, _≤_, _<_}
 use Rattle.facts.specs.Table
 use Rattle.facts.specs.Packets.{byte, word}
 use Rattle.facts.specs.WellFormed.{AttributesAllowed, EventsAllowed}
@@ -20,6 +20,10 @@ MasksSound b i = (s : ℕ) → s < Table.mostSockets → MaskSound b i s
 -- a mask's word: none, or 4,096 and its events
 abbrev pub MaskFormed : ℕ → Type 0
 MaskFormed mask = (mask ≡ 0) ⊎ ((Table.allEvents ≤ mask) × (mask < Table.allEvents + Table.allEvents))
+
+-- each of the four masks from a place on is formed
+abbrev pub FourFormed : List ℕ → ℕ → Type 0
+FourFormed b at = (k : ℕ) → k < 4 → MaskFormed (word b (at + k * Layout.maskSize))
 
 -- each mask of the ith client is formed, and none is there for a socket from the count on
 abbrev pub MasksFormed : List ℕ → ℕ → Type 0

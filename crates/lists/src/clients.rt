@@ -11,42 +11,54 @@ use layout::ISSUED_IN;
 use layout::MASK_SIZE;
 use layout::MOST_SOCKETS;
 use layout::SOCKETS_IN;
+use reading::ALL_WORDS;
 ghost use mathlib.Core.Path.{_≡_};
-ghost use Prim.Native.Nat.{_+_, _*_, _<_, _≤_};
-ghost use lib.Dec.{eqb};
+ghost use Prim.Native.Nat.{_+_, _<_, _≤_};
 ghost use lib.ListN.{length};
 ghost use Rattle.facts.specs.Table;
 ghost use Rattle.facts.specs.Says.{Says};
 ghost use Rattle.layout.specs.Layout.{tableSize};
 ghost use Rattle.layout.specs.Reading.{clientsIn};
 ghost use Rattle.layout.specs.Sound.{ClientsSound};
-ghost use Rattle.lists.specs.Parts.{MaskFormed, MasksFormed, MasksEnd, MasksSound, ClientFollows};
+ghost use Rattle.lists.specs.Parts.{FourFormed, MasksFormed, MasksEnd, MasksSound, ClientFollows};
 
-// A mask is 0 where there is none, or 4,096 and its events: of its second byte, the upper half is then 1.
-const HALF_BYTE: u8 = 16;
+// Four masks side by side are one number of eight bytes: how many numbers half of it holds, and 1 in place of each mask.
+const ALL_LONGS: usize = ALL_WORDS * ALL_WORDS;
 
-// What is wrong with a mask of two bytes: 0 if nothing is.
-fn mask_flaw(low: u8, high: u8) -> u8
-    ensures { λ r. ⌜ Says (eqb r 0) (MaskFormed (low + 256 * high)) ⌝ }
+const IN_EACH: usize = (1 + ALL_WORDS) * (1 + ALL_LONGS);
+
+// All bits of the four masks, the bit of each that says that it is there, and the bits of one that is there.
+const EACH_BIT: usize = (ALL_WORDS - 1) * IN_EACH;
+
+const EACH_THERE: usize = ALL_EVENTS * IN_EACH;
+
+const MASK_BITS: usize = 2 * ALL_EVENTS - 1;
+
+const LONG_SIZE: usize = 4;
+
+const FOUR_MASKS: usize = 4 * MASK_SIZE;
+
+// Whether each of the four masks from a place on is formed, all at a time: 0 where there is none, or 4,096 and its events. No bits are left but
+// those of the masks that are there.
+fn four_formed(t: &[u8], at: usize) -> bool
+    requires { ⌜ at + 7 < length (now t) ⌝ }
+    ensures { λ r. ⌜ Says r (FourFormed (now (t .entry)) at) ⌝ }
 {
-    if high / HALF_BYTE == 1 {
-        return 0;
-    }
-    low | high
+    let masks = reading::long(t, at) + ALL_LONGS * reading::long(t, at + LONG_SIZE);
+    let there = (masks & EACH_THERE) / ALL_EVENTS;
+    masks & (EACH_BIT - there * MASK_BITS) == 0
 }
 
-// Whether each of a client's masks is formed: what is wrong with any of them or-ed together, with no early exit.
+// Whether each of a client's masks is formed.
 fn masks_formed(t: &[u8], i: usize) -> bool
     requires { ⌜ (length (now t) ≡ tableSize) × (i < Table.mostClients) ⌝ }
     ensures { λ r. ⌜ Says r (MasksFormed (now (t .entry)) i) ⌝ }
 {
     let at = CLIENTS_AT + i * CLIENT_SIZE + CLIENT_MASKS;
-    let mut flaws: u8 = 0;
-    for s in 0..MOST_SOCKETS {
-        let mask = at + s * MASK_SIZE;
-        flaws = flaws | mask_flaw(t[mask], t[mask + 1]);
+    if !four_formed(t, at) {
+        return false;
     }
-    flaws == 0
+    four_formed(t, at + FOUR_MASKS)
 }
 
 // Whether a client has no mask at a socket from the count on.

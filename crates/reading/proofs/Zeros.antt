@@ -24,7 +24,7 @@ or-zero : (x y : ℕ) → x ≡ 0 → y ≡ 0 → bitOr x y ≡ 0
 or-zero x y p q = omega (arith, or-add-and x y)
 
 -- a number is zero where what its being zero says is so
-zero-where : (n : ℕ) {P : Type 0} → Says (eqb n 0) P → P → n ≡ 0
+pub zero-where : (n : ℕ) {P : Type 0} → Says (eqb n 0) P → P → n ≡ 0
 zero-where n s p = go (ℕ-discrete n 0)
   where
     go : Dec (n ≡ 0) → n ≡ 0

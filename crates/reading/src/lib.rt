@@ -27,7 +27,7 @@ ghost use Rattle.reading.specs.Finding.{Finds, ByNumber, Skipped};
 // How many numbers one byte and two bytes hold.
 const ALL_BYTES: usize = 256;
 
-const ALL_WORDS: usize = 65536;
+pub const ALL_WORDS: usize = 65536;
 
 const WORD_SIZE: usize = 2;
 
