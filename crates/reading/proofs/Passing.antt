@@ -30,8 +30,8 @@ module _ (b : List ℕ) (p : ℕ) where
   pub skipped-to : (i : ℕ) → RangesSound b → i < rangesIn b → rangeBase b i ≤ p → Skipped b p i
   skipped-to i s h l = record { listed = omega arith; clear = λ j m v. omega (arith, ends-before b s j i m h, v .below) }
 
-  pub passed-none : (i : ℕ) → Skipped b p i → Passed b p p i
-  passed-none i k = record { from = omega arith; behind = λ q f l. absurd (omega arith); clear = k .clear }
+  pub skipped-passed : (i : ℕ) → Skipped b p i → Passed b p p i
+  skipped-passed i k = record { from = omega arith; behind = λ q f l. absurd (omega arith); clear = k .clear }
 
 module _ (b : List ℕ) (base p i : ℕ) (g : Passed b base p i) where
   -- the range ends at or before p

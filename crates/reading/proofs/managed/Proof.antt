@@ -3,7 +3,7 @@
 use Prim.Native.Nat.{_-_, _≤_}
 use native.Mathlib.Omega.{arith}
 use Rattle.facts.proofs.Says.{says-true}
-use Rattle.reading.proofs.Passing.{Passed, passed-none, passed-stay, passed-move, passed-found, passed-stop, passed-says}
+use Rattle.reading.proofs.Passing.{Passed, skipped-passed, passed-stay, passed-move, passed-found, passed-stop, passed-says}
 use Rattle.reading.proofs.managed.Statement.{statement}
 use Rattle.reading.proofs.managed.Tie as tie
 
@@ -36,7 +36,7 @@ search-from-requires : tie.Need-search-from-requires Inv-loop μ-loop
 search-from-requires c κs = c .before .before .pre .0
 
 loop-holds : tie.Need-loop-holds Inv-loop μ-loop
-loop-holds c = (omega arith, passed-none _ _ _ (c .search-from .ensures))
+loop-holds c = (omega arith, skipped-passed _ _ _ (c .search-from .ensures))
 
 range-end-requires : tie.Need-range-end-requires Inv-loop μ-loop
 range-end-requires c κs = omega arith
