@@ -1,2 +1,7 @@
--- Laws of the records of grants. Assumes nothing.
+-- Laws of cards, of the records of grants, and of the sets that say which grants may meet. Assumes nothing.
+pub mod Blocks
+pub mod Cards
+pub mod Covering
+pub mod Flaws
+pub mod Manners
 pub mod Records

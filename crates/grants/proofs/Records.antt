@@ -1,10 +1,12 @@
 -- Four bytes are zero where the number that they say is; managed ports, a level and manners, read, are those that a record says; and two grants are held
 -- against each other where both are there. Assumes nothing.
 use mathlib.Core.Path.{_≡_, ap, _∙_}
+use mathlib.Core.Logic.{_⊎_, inl, ⊎-elim, _≢_}
 use mathlib.Core.List.{List}
 use mathlib.Core.Bool.{Bool, true, false, not}
-use Prim.Native.Nat.{ℕ, _+_, _-_}
+use Prim.Native.Nat.{ℕ, _+_, _-_, _≤_, _<_}
 use native.Mathlib.Omega.{arith}
+use Rattle.facts.specs.Table.{mostSockets}
 use Rattle.facts.specs.Says.{Says}
 use Rattle.facts.specs.Packets.{byte, word, long}
 use Rattle.facts.specs.Ports.{Within}
@@ -14,7 +16,7 @@ use Rattle.layout.specs.Reading.{irqPlace, irqIn, mannerOf}
 use Rattle.layout.specs.Sound.{Zero, ManagedIn}
 use Rattle.reading.proofs.All.{All, all-none, all-more}
 use Rattle.grants.specs.declared.ios.Ports.{Ports}
-use Rattle.grants.specs.Parts.{PortsAt}
+use Rattle.grants.specs.Parts.{PortsAt, SocketSound}
 
 -- four bytes are zero exactly if the number that they say is
 module _ (b : List ℕ) (at to : ℕ) (n : to ≡ at + 4) where
@@ -42,6 +44,28 @@ module _ (b : List ℕ) (at to : ℕ) (n : to ≡ at + 4) where
         z (at + 2) (omega arith) (omega arith),
         z (at + 2 + 1) (omega arith) (omega arith),
       )
+
+-- the record of a grant that is there is sound
+pub used-sound : (b : List ℕ) (at to : ℕ) {P : Type 0} → at + 2 ≤ to → Zero b at to ⊎ ((word b at ≢ 0) × P) → word b at ≢ 0 → P
+used-sound b at to h =
+    ⊎-elim (λ z u. absurd (u (omega (arith, z at (omega arith) (omega arith), z (at + 1) (omega arith) (omega arith))))) (λ g u. g .1)
+
+-- records that are all zero are sound and keep company: there is no grant
+module _ (b : List ℕ) (from to size : ℕ) (place : ℕ → ℕ) (two : 2 ≤ size) (starts : (s : ℕ) → from ≤ place s)
+    (ends : (s : ℕ) → s < mostSockets → place s + size ≤ to) (z : Zero b from to) where
+  pub zero-sound : {P : ℕ → Type 0} {Q : ℕ → ℕ → Type 0} (s : ℕ) → s < mostSockets
+      → SocketSound (λ t. Zero b (place t) (place t + size) ⊎ ((word b (place t) ≢ 0) × P t))
+      (λ t u. word b (place t) ≢ 0 → word b (place u) ≢ 0 → Q t u) s
+  zero-sound s l =
+      record {
+        place = inl (λ i f m. z i (omega (arith, starts s)) (omega (arith, ends s l)));
+        company = λ t m u u′. absurd
+            (u (omega (
+              arith,
+              z (place s) (starts s) (omega (arith, ends s l)),
+              z (place s + 1) (omega (arith, starts s)) (omega (arith, ends s l)),
+            )));
+      }
 
 -- whether the ports that a record says are managed
 abbrev Managed : List ℕ → ℕ → ℕ → Type 0

@@ -1,2 +1,3 @@
 -- What the contracts of `grants` cite. Assumes nothing.
+pub mod Company
 pub mod Parts

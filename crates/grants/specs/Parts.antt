@@ -5,8 +5,9 @@ use Prim.Native.Nat.{ℕ, _+_, _^_, _≤_, _<_}
 use Rattle.facts.specs.Table
 use Rattle.facts.specs.Packets.{byte, word}
 use Rattle.facts.specs.Ports.{Within}
+use Rattle.layout.specs.Layout
 use Rattle.layout.specs.Reading.{socketsIn}
-use Rattle.layout.specs.Sound.{LiveIn, ManagedIn, CardSound, IoPlaceSound, IrqPlaceSound, IoPairSound, IrqPairSound}
+use Rattle.layout.specs.Sound.{Zero, LiveIn, ManagedIn, CardSound, IoPlaceSound, IrqPlaceSound, IoPairSound, IrqPairSound}
 use Rattle.grants.specs.declared.ios.Ports.{Ports}
 
 -- "every grant .. has a live client and a socket below the count": the grant whose record stands at a place
@@ -20,7 +21,7 @@ pub record PortsAt (b : List ℕ) (at : ℕ) (p : Ports) : Type 0 where
   pub count : p .count ≡ byte b (at + 4)
   pub lines : p .lines ≡ byte b (at + 5)
   pub base-most : p .base < Table.allPorts
-  pub count-most : p .count ≤ Table.allPorts
+  pub count-most : p .count ≤ Table.mostAsked
 
 -- "granted .. ports are managed; an I/O grant has base 1 or more, lines 1 to 16 and a count RequestIO allows"
 pub record PortsSound (b : List ℕ) (at : ℕ) : Type 0 where
@@ -31,24 +32,37 @@ pub record PortsSound (b : List ℕ) (at : ℕ) : Type 0 where
   pub decoded : byte b (at + 4) ≤ 2 ^ byte b (at + 5)
   pub managed : (p : ℕ) → Within p (word b (at + 2)) (byte b (at + 4)) → ManagedIn b p
 
--- the I/O records of the first n sockets
-abbrev pub IosSound : List ℕ → ℕ → Type 0
-IosSound b n = (s : ℕ) → s < n → IoPlaceSound b s
+-- every card's mark is one, and there is none at a socket from the count on
+abbrev pub CardsMarked : List ℕ → Type 0
+CardsMarked b = (s : ℕ) → s < Table.mostSockets → byte b (Layout.cardsAt + s) ≤ 1
 
--- the grants of two sockets, and those of a socket and each below it
-pub record PairSound (b : List ℕ) (s t : ℕ) : Type 0 where
-  pub io : IoPairSound b s t
-  pub irq : IrqPairSound b s t
+abbrev pub CardsEnd : List ℕ → Type 0
+CardsEnd b = Zero b (Layout.cardsAt + socketsIn b) (Layout.cardsAt + Table.mostSockets)
 
-abbrev pub CompanySound : List ℕ → ℕ → Type 0
-CompanySound b s = (t : ℕ) → t < s → PairSound b s t
+abbrev pub CardsSound : List ℕ → Type 0
+CardsSound b = (s : ℕ) → s < Table.mostSockets → CardSound b s
 
--- what the socket s has: a card, and grants, which keep company with those of the sockets below it
-pub record SocketSound (b : List ℕ) (s : ℕ) : Type 0 where
-  pub card : CardSound b s
-  pub io : IoPlaceSound b s
-  pub irq : IrqPlaceSound b s
-  pub company : CompanySound b s
+-- the records of the first n sockets
+abbrev pub PlacesSound : (ℕ → Type 0) → ℕ → Type 0
+PlacesSound Place n = (s : ℕ) → s < n → Place s
 
-abbrev pub SocketsSound : List ℕ → Type 0
-SocketsSound b = (s : ℕ) → s < Table.mostSockets → SocketSound b s
+-- the grant of a socket, and that of each below it
+abbrev pub CompanySound : (ℕ → ℕ → Type 0) → ℕ → Type 0
+CompanySound Pair s = (t : ℕ) → t < s → Pair s t
+
+-- the record of the socket s, whose grant keeps company with those of the sockets below it
+pub record SocketSound (Place : ℕ → Type 0) (Pair : ℕ → ℕ → Type 0) (s : ℕ) : Type 0 where
+  pub place : Place s
+  pub company : CompanySound Pair s
+
+abbrev pub IosSound : List ℕ → Type 0
+IosSound b = (s : ℕ) → s < Table.mostSockets → SocketSound (IoPlaceSound b) (IoPairSound b) s
+
+abbrev pub IrqsSound : List ℕ → Type 0
+IrqsSound b = (s : ℕ) → s < Table.mostSockets → SocketSound (IrqPlaceSound b) (IrqPairSound b) s
+
+-- what the sockets have: cards, and grants of both kinds
+pub record SocketsSound (b : List ℕ) : Type 0 where
+  pub cards : CardsSound b
+  pub ios : IosSound b
+  pub irqs : IrqsSound b

@@ -1,4 +1,4 @@
-// The I/O grants: a socket's record, and two sockets' records held against each other.
+// The I/O grants: a socket's record, and the company that it keeps with those of the sockets below it.
 use crate::sockets::both_used;
 use crate::sockets::holder_sound;
 use facts::Socket;
@@ -9,10 +9,12 @@ use layout::IO_SHARED;
 use layout::IO_SIZE;
 use layout::IO_SPARE;
 use layout::IOS_AT;
+use layout::IRQS_AT;
 use layout::MARKED;
 use layout::MOST_LINES;
+use layout::MOST_SOCKETS;
 ghost use mathlib.Core.Path.{_≡_};
-ghost use Prim.Native.Nat.{_+_, _<_, _≤_};
+ghost use Prim.Native.Nat.{_+_, _^_, _<_, _≤_};
 ghost use lib.ListN.{length};
 ghost use Rattle.facts.specs.Table;
 ghost use Rattle.facts.specs.Says.{Says};
@@ -21,7 +23,18 @@ ghost use Rattle.facts.specs.Ports.{Meet};
 ghost use Rattle.layout.specs.Layout.{tableSize};
 ghost use Rattle.layout.specs.Reading.{rangesIn, ioIn};
 ghost use Rattle.layout.specs.Sound.{RangesSound, IoPlaceSound, IoPairSound, CountsSound, ClientsSound};
-ghost use Rattle.grants.specs.Parts.{PortsAt, PortsSound};
+ghost use Rattle.grants.specs.Parts.{PortsAt, PortsSound, PlacesSound, CompanySound, SocketSound, IosSound};
+ghost use Rattle.grants.specs.Company.{blockOf, BlocksWithin, Answers, Covers, CoversBelow};
+
+// Ports stand in blocks, which are counted modulo `BLOCKS`, so that a set of blocks has a bit for each.
+const BLOCK: usize = 256;
+
+const BLOCKS: usize = 64;
+
+const ALL_BLOCKS: u64 = 18446744073709551615;
+
+// Ports that are equal modulo two to so many lines are in one block.
+const BLOCK_LINES: usize = 14;
 
 // The ports of an I/O grant.
 pub struct Ports {
@@ -68,7 +81,7 @@ fn ports_sound(t: &[u8], at: usize) -> bool
 }
 
 // The I/O grant of the socket `s`, or a record that is all zero.
-pub fn io_place_sound(t: &[u8], s: Socket) -> bool
+fn io_place_sound(t: &[u8], s: Socket) -> bool
     requires { ⌜ (length (now t) ≡ tableSize) × (s .0 < Table.mostSockets) × CountsSound (now t) × ClientsSound (now t) × RangesSound (now t) ⌝ }
     ensures { λ r. ⌜ Says r (IoPlaceSound (now (t .entry)) (s .0)) ⌝ }
 {
@@ -114,7 +127,7 @@ fn both_shared(t: &[u8], at: usize, other: usize) -> bool
 }
 
 // "grants meet only as demand 3 allows"
-pub fn io_pair_sound(t: &[u8], s: Socket, u: Socket) -> bool
+fn io_pair_sound(t: &[u8], s: Socket, u: Socket) -> bool
     requires { ⌜ (length (now t) ≡ tableSize) × (s .0 < Table.mostSockets) × (u .0 < Table.mostSockets) ⌝ }
     requires { ⌜ IoPlaceSound (now t) (s .0) × IoPlaceSound (now t) (u .0) ⌝ }
     ensures { λ r. ⌜ Says r (IoPairSound (now (t .entry)) (s .0) (u .0)) ⌝ }
@@ -130,4 +143,84 @@ pub fn io_pair_sound(t: &[u8], s: Socket, u: Socket) -> bool
         return true;
     }
     !ios_meet(t, s, u)
+}
+
+// The set of one block, that of the port `p`.
+fn block_of(p: usize) -> u64
+    ensures { λ r. ⌜ r ≡ 2 ^ blockOf p ⌝ }
+{
+    1 << (p / BLOCK % BLOCKS)
+}
+
+// The blocks of the `count` ports from `base` on: so few that each is in the block of the first or of the last.
+fn blocks_within(base: usize, count: usize) -> u64
+    requires { ⌜ (base < Table.allPorts) × (1 ≤ count) × (count ≤ Table.mostAsked) ⌝ }
+    ensures { λ r. ⌜ BlocksWithin r base count ⌝ }
+{
+    block_of(base) | block_of(base + count - 1)
+}
+
+// The blocks in which the I/O grant of the socket `s` answers.
+fn io_blocks(t: &[u8], s: Socket) -> u64
+    requires { ⌜ (length (now t) ≡ tableSize) × (s .0 < Table.mostSockets) × IoPlaceSound (now t) (s .0) ⌝ }
+    ensures { λ r. ⌜ Covers r (Answers (now (t .entry)) (s .0)) ⌝ }
+{
+    let number = s.0;
+    let at = IOS_AT + number * IO_SIZE;
+    if reading::word(t, at) == 0 {
+        return 0;
+    }
+    let p = ports_at(t, at);
+    let lines = p.lines;
+    if lines < BLOCK_LINES {
+        return ALL_BLOCKS;
+    }
+    blocks_within(p.base, p.count)
+}
+
+// The I/O grant of the socket `s`, held against that of each socket below it where they answer in a block in common.
+fn io_company_sound(t: &[u8], s: Socket, blocks: u64) -> bool
+    requires { ⌜ (length (now t) ≡ tableSize) × (s .0 < Table.mostSockets) × PlacesSound (IoPlaceSound (now t)) (s .0 + 1) ⌝ }
+    requires { ⌜ CoversBelow blocks (s .0) (Answers (now t)) ⌝ }
+    ensures { λ r. ⌜ Says r (CompanySound (IoPairSound (now (t .entry))) (s .0)) ⌝ }
+{
+    if blocks & io_blocks(t, s) == 0 {
+        return true;
+    }
+    let number = s.0;
+    for u in 0..number {
+        if !io_pair_sound(t, s, Socket(u)) {
+            return false;
+        }
+    }
+    true
+}
+
+fn io_socket_sound(t: &[u8], s: Socket, blocks: u64) -> bool
+    requires { ⌜ (length (now t) ≡ tableSize) × (s .0 < Table.mostSockets) × CountsSound (now t) × ClientsSound (now t) × RangesSound (now t) ⌝ }
+    requires { ⌜ PlacesSound (IoPlaceSound (now t)) (s .0) × CoversBelow blocks (s .0) (Answers (now t)) ⌝ }
+    ensures { λ r. ⌜ Says r (SocketSound (IoPlaceSound (now (t .entry))) (IoPairSound (now (t .entry))) (s .0)) ⌝ }
+{
+    if !io_place_sound(t, s) {
+        return false;
+    }
+    io_company_sound(t, s, blocks)
+}
+
+// The I/O grants of all sockets: `blocks` are those in which the grants passed answer.
+pub fn ios_sound(t: &[u8]) -> bool
+    requires { ⌜ (length (now t) ≡ tableSize) × CountsSound (now t) × ClientsSound (now t) × RangesSound (now t) ⌝ }
+    ensures { λ r. ⌜ Says r (IosSound (now (t .entry))) ⌝ }
+{
+    if reading::zero(t, IOS_AT, IRQS_AT) {
+        return true;
+    }
+    let mut blocks: u64 = 0;
+    for s in 0..MOST_SOCKETS {
+        if !io_socket_sound(t, Socket(s), blocks) {
+            return false;
+        }
+        blocks = blocks | io_blocks(t, Socket(s));
+    }
+    true
 }

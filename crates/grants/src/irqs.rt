@@ -1,8 +1,9 @@
-// The IRQ grants: a socket's record, and two sockets' records held against each other.
+// The IRQ grants: a socket's record, and the company that it keeps with those of the sockets below it.
 use crate::sockets::both_used;
 use crate::sockets::holder_sound;
 use facts::Socket;
 use layout::ALL_LEVELS;
+use layout::CLIENTS_AT;
 use layout::IRQ_LEVEL;
 use layout::IRQ_MANNER;
 use layout::IRQ_SIZE;
@@ -10,6 +11,7 @@ use layout::IRQS_AT;
 use layout::LEVEL_SIZE;
 use layout::LEVELS_AT;
 use layout::MARKED;
+use layout::MOST_SOCKETS;
 ghost use mathlib.Core.Path.{_≡_};
 ghost use Prim.Native.Nat.{_+_, _<_};
 ghost use lib.ListN.{length};
@@ -20,12 +22,17 @@ ghost use Rattle.facts.specs.Levels.{Together};
 ghost use Rattle.layout.specs.Layout.{tableSize};
 ghost use Rattle.layout.specs.Reading.{mannerOf};
 ghost use Rattle.layout.specs.Sound.{IrqPlaceSound, IrqPairSound, CountsSound, ClientsSound};
+ghost use Rattle.grants.specs.Parts.{PlacesSound, CompanySound, SocketSound, IrqsSound};
+ghost use Rattle.grants.specs.Company.{MannersApart, Held, HoldingIs, CoversBelow};
 
 // The manners are 0 to 3.
 const LAST_MANNER: usize = 3;
 
+// A level and a manner are one number: the level's manners stand side by side, so that a set of them has a bit for each.
+const ALL_MANNERS: usize = LAST_MANNER + 1;
+
 // The IRQ grant of the socket `s`, or a record that is all zero.
-pub fn irq_place_sound(t: &[u8], s: Socket) -> bool
+fn irq_place_sound(t: &[u8], s: Socket) -> bool
     requires { ⌜ (length (now t) ≡ tableSize) × (s .0 < Table.mostSockets) × CountsSound (now t) × ClientsSound (now t) ⌝ }
     ensures { λ r. ⌜ Says r (IrqPlaceSound (now (t .entry)) (s .0)) ⌝ }
 {
@@ -58,7 +65,7 @@ fn manners_share(t: &[u8], at: usize, other: usize) -> bool
 }
 
 // "grants meet only as demand 3 allows"
-pub fn irq_pair_sound(t: &[u8], s: Socket, u: Socket) -> bool
+fn irq_pair_sound(t: &[u8], s: Socket, u: Socket) -> bool
     requires { ⌜ (length (now t) ≡ tableSize) × (s .0 < Table.mostSockets) × (u .0 < Table.mostSockets) ⌝ }
     ensures { λ r. ⌜ Says r (IrqPairSound (now (t .entry)) (s .0) (u .0)) ⌝ }
 {
@@ -73,4 +80,88 @@ pub fn irq_pair_sound(t: &[u8], s: Socket, u: Socket) -> bool
         return true;
     }
     manners_share(t, at, other)
+}
+
+// "Two manners go together by a four by four table: only equal ones, and never exclusive.": a bit for each manner that doesn't go with one.
+fn manners_apart(n: usize) -> u64
+    ensures { λ r. ⌜ MannersApart n r ⌝ }
+{
+    match n {
+        0 => 15,
+        1 => 13,
+        2 => 11,
+        _ => 7,
+    }
+}
+
+// The level that a grant holds: in its own manner, and in each manner that doesn't go with it.
+pub struct Holding {
+    pub own: u64,
+    pub against: u64,
+}
+
+// What the IRQ grant of the socket `s` holds.
+fn irq_holding(t: &[u8], s: Socket) -> Holding
+    requires { ⌜ (length (now t) ≡ tableSize) × (s .0 < Table.mostSockets) × IrqPlaceSound (now t) (s .0) ⌝ }
+    ensures { λ r. ⌜ HoldingIs (now (t .entry)) (s .0) r ⌝ }
+{
+    let number = s.0;
+    let at = IRQS_AT + number * IRQ_SIZE;
+    if reading::word(t, at) == 0 {
+        return Holding { own: 0, against: 0 };
+    }
+    let manner = reading::byte(t, at + IRQ_MANNER);
+    let first = reading::byte(t, at + IRQ_LEVEL) * ALL_MANNERS;
+    let own = 1 << (first + manner);
+    let against = manners_apart(manner) << first;
+    Holding { own, against }
+}
+
+// The IRQ grant of the socket `s`, held against that of each socket below it where one of them holds its level in a manner that doesn't go with its own.
+fn irq_company_sound(t: &[u8], s: Socket, held: u64) -> bool
+    requires { ⌜ (length (now t) ≡ tableSize) × (s .0 < Table.mostSockets) × PlacesSound (IrqPlaceSound (now t)) (s .0 + 1) ⌝ }
+    requires { ⌜ CoversBelow held (s .0) (Held (now t)) ⌝ }
+    ensures { λ r. ⌜ Says r (CompanySound (IrqPairSound (now (t .entry))) (s .0)) ⌝ }
+{
+    let holding = irq_holding(t, s);
+    if held & holding.against == 0 {
+        return true;
+    }
+    let number = s.0;
+    for u in 0..number {
+        if !irq_pair_sound(t, s, Socket(u)) {
+            return false;
+        }
+    }
+    true
+}
+
+fn irq_socket_sound(t: &[u8], s: Socket, held: u64) -> bool
+    requires { ⌜ (length (now t) ≡ tableSize) × (s .0 < Table.mostSockets) × CountsSound (now t) × ClientsSound (now t) ⌝ }
+    requires { ⌜ PlacesSound (IrqPlaceSound (now t)) (s .0) × CoversBelow held (s .0) (Held (now t)) ⌝ }
+    ensures { λ r. ⌜ Says r (SocketSound (IrqPlaceSound (now (t .entry))) (IrqPairSound (now (t .entry))) (s .0)) ⌝ }
+{
+    if !irq_place_sound(t, s) {
+        return false;
+    }
+    irq_company_sound(t, s, held)
+}
+
+// The IRQ grants of all sockets: `held` are the levels that the grants passed hold, in their manners.
+pub fn irqs_sound(t: &[u8]) -> bool
+    requires { ⌜ (length (now t) ≡ tableSize) × CountsSound (now t) × ClientsSound (now t) ⌝ }
+    ensures { λ r. ⌜ Says r (IrqsSound (now (t .entry))) ⌝ }
+{
+    if reading::zero(t, IRQS_AT, CLIENTS_AT) {
+        return true;
+    }
+    let mut held: u64 = 0;
+    for s in 0..MOST_SOCKETS {
+        if !irq_socket_sound(t, Socket(s), held) {
+            return false;
+        }
+        let holding = irq_holding(t, Socket(s));
+        held = held | holding.own;
+    }
+    true
 }

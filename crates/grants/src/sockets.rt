@@ -1,11 +1,8 @@
-// The sockets: a card's mark and the grants of each, and the company that they keep with those of the sockets below it.
-use crate::ios::io_pair_sound;
-use crate::ios::io_place_sound;
-use crate::irqs::irq_pair_sound;
-use crate::irqs::irq_place_sound;
+// The sockets: the marks of their cards, and who holds their grants.
+use crate::ios::ios_sound;
+use crate::irqs::irqs_sound;
 use facts::Socket;
 use layout::CARDS_AT;
-use layout::MARKED;
 use layout::MOST_SOCKETS;
 use layout::SOCKETS_IN;
 ghost use mathlib.Core.Path.{_≡_};
@@ -17,23 +14,42 @@ ghost use Rattle.facts.specs.Says.{Says};
 ghost use Rattle.facts.specs.Packets;
 ghost use Rattle.layout.specs.Layout.{tableSize};
 ghost use Rattle.layout.specs.Reading.{clientsIn};
-ghost use Rattle.layout.specs.Sound.{CardSound, RangesSound, IoPlaceSound, CountsSound, ClientsSound};
-ghost use Rattle.grants.specs.Parts.{HolderSound, IosSound, PairSound, CompanySound, SocketSound, SocketsSound};
+ghost use Rattle.layout.specs.Sound.{CountsSound, ClientsSound, RangesSound};
+ghost use Rattle.grants.specs.Parts.{HolderSound, CardsMarked, CardsEnd, CardsSound, SocketsSound};
 
-// The mark of a card at the socket `s`, which is below the count where it is set.
-fn card_sound(t: &[u8], s: Socket) -> bool
-    requires { ⌜ (length (now t) ≡ tableSize) × (s .0 < Table.mostSockets) ⌝ }
-    ensures { λ r. ⌜ Says r (CardSound (now (t .entry)) (s .0)) ⌝ }
+// A mark is one of two numbers, 0 and 1.
+const MARKS: u8 = 2;
+
+// What is wrong with any card's mark or-ed together, with no early exit.
+fn cards_marked(t: &[u8]) -> bool
+    requires { ⌜ length (now t) ≡ tableSize ⌝ }
+    ensures { λ r. ⌜ Says r (CardsMarked (now (t .entry))) ⌝ }
 {
-    let number = s.0;
-    let card = reading::byte(t, CARDS_AT + number);
-    if card < MARKED {
-        return true;
+    let mut flaws: u8 = 0;
+    for s in 0..MOST_SOCKETS {
+        flaws = flaws | t[CARDS_AT + s] / MARKS;
     }
-    if MARKED < card {
+    flaws == 0
+}
+
+// Whether there is no card at a socket from the count on.
+fn cards_end(t: &[u8]) -> bool
+    requires { ⌜ (length (now t) ≡ tableSize) × CountsSound (now t) ⌝ }
+    ensures { λ r. ⌜ Says r (CardsEnd (now (t .entry))) ⌝ }
+{
+    let sockets = reading::byte(t, SOCKETS_IN);
+    reading::zero(t, CARDS_AT + sockets, CARDS_AT + MOST_SOCKETS)
+}
+
+// The marks of the cards, which are set at sockets below the count alone.
+fn cards_sound(t: &[u8]) -> bool
+    requires { ⌜ (length (now t) ≡ tableSize) × CountsSound (now t) ⌝ }
+    ensures { λ r. ⌜ Says r (CardsSound (now (t .entry))) ⌝ }
+{
+    if !cards_marked(t) {
         return false;
     }
-    number < reading::byte(t, SOCKETS_IN)
+    cards_end(t)
 }
 
 // "every grant .. has a live client and a socket below the count": the grant of the socket `s`, whose record stands at a place.
@@ -60,56 +76,16 @@ pub fn both_used(t: &[u8], at: usize, other: usize) -> bool
     client2.0 != 0
 }
 
-fn pair_sound(t: &[u8], s: Socket, u: Socket) -> bool
-    requires { ⌜ (length (now t) ≡ tableSize) × (s .0 < Table.mostSockets) × (u .0 < Table.mostSockets) ⌝ }
-    requires { ⌜ IoPlaceSound (now t) (s .0) × IoPlaceSound (now t) (u .0) ⌝ }
-    ensures { λ r. ⌜ Says r (PairSound (now (t .entry)) (s .0) (u .0)) ⌝ }
-{
-    if !io_pair_sound(t, s, u) {
-        return false;
-    }
-    irq_pair_sound(t, s, u)
-}
-
-// The grants of the socket `s`, held against those of each socket below it.
-fn company_sound(t: &[u8], s: Socket) -> bool
-    requires { ⌜ (length (now t) ≡ tableSize) × (s .0 < Table.mostSockets) × IosSound (now t) (s .0 + 1) ⌝ }
-    ensures { λ r. ⌜ Says r (CompanySound (now (t .entry)) (s .0)) ⌝ }
-{
-    let number = s.0;
-    for u in 0..number {
-        if !pair_sound(t, s, Socket(u)) {
-            return false;
-        }
-    }
-    true
-}
-
-fn socket_sound(t: &[u8], s: Socket) -> bool
-    requires { ⌜ (length (now t) ≡ tableSize) × (s .0 < Table.mostSockets) × CountsSound (now t) ⌝ }
-    requires { ⌜ ClientsSound (now t) × RangesSound (now t) × IosSound (now t) (s .0) ⌝ }
-    ensures { λ r. ⌜ Says r (SocketSound (now (t .entry)) (s .0)) ⌝ }
-{
-    if !card_sound(t, s) {
-        return false;
-    }
-    if !io_place_sound(t, s) {
-        return false;
-    }
-    if !irq_place_sound(t, s) {
-        return false;
-    }
-    company_sound(t, s)
-}
-
+// The cards and the grants of all sockets.
 pub fn sockets_sound(t: &[u8]) -> bool
     requires { ⌜ (length (now t) ≡ tableSize) × CountsSound (now t) × ClientsSound (now t) × RangesSound (now t) ⌝ }
     ensures { λ r. ⌜ Says r (SocketsSound (now (t .entry))) ⌝ }
 {
-    for s in 0..MOST_SOCKETS {
-        if !socket_sound(t, Socket(s)) {
-            return false;
-        }
+    if !cards_sound(t) {
+        return false;
     }
-    true
+    if !ios_sound(t) {
+        return false;
+    }
+    irqs_sound(t)
 }

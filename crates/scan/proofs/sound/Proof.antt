@@ -72,11 +72,10 @@ sockets-sound-requires c κs = (search needs, counts (second (third (fourth c)))
 returns-6 : tie.Need-returns-6
 returns-6 c =
     says-false-by (c .before .sockets-sound .ensures) (c .if6 .taken)
-    (λ s i l. record {
-      card = s .cards i l;
-      io = s .ios i l;
-      irq = s .irqs i l;
-      company = λ j m. record { io = s .io-company i j l m; irq = s .irq-company i j l m };
+    (λ s. record {
+      cards = s .cards;
+      ios = λ i l. record { place = s .ios i l; company = λ j m. s .io-company i j l m };
+      irqs = λ i l. record { place = s .irqs i l; company = λ j m. s .irq-company i j l m };
     })
 
 ends-sound-requires : tie.Need-ends-sound-requires
@@ -94,7 +93,7 @@ returns-7 c =
       size = first (second levelled) .if1 .left;
       sockets-least = n .sockets-least;
       sockets-most = n .sockets-most;
-      cards = λ i l. sockets i l .card;
+      cards = sockets .cards;
       levels = says-yes (levelled .before .levels-sound .ensures) (levelled .if3 .left);
       clients-most = n .clients-most;
       clients = clients listed;
@@ -102,10 +101,10 @@ returns-7 c =
       ranges-most = n .ranges-most;
       ranges = ranges ranged;
       ranges-end = e .ranges-end;
-      ios = λ i l. sockets i l .io;
-      irqs = λ i l. sockets i l .irq;
-      io-company = λ i j l m. sockets i l .company j m .io;
-      irq-company = λ i j l m. sockets i l .company j m .irq;
+      ios = λ i l. sockets .ios i l .place;
+      irqs = λ i l. sockets .irqs i l .place;
+      io-company = λ i j l m. sockets .ios i l .company j m;
+      irq-company = λ i j l m. sockets .irqs i l .company j m;
     })
     (λ s. record { clients-end = s .clients-end; ranges-end = s .ranges-end })
 

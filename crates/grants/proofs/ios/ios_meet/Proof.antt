@@ -32,7 +32,7 @@ meets-requires c κs =
     let one = c .before .ports-at .ensures in
     let other = c .ports-at2 .ensures in (
       one .base-most,
-      one .count-most,
+      omega (arith, one .count-most),
       omega (arith, lines-most b _ (start .pre .1 .0), one .lines),
       other .base-most,
       omega (arith, lines-most b _ (start .pre .1 .1), other .lines),

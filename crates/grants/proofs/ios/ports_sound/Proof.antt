@@ -43,7 +43,7 @@ managed-requires : tie.Need-managed-requires
 managed-requires c κs =
     let known = read (c .before .before .before) in
     let pre = known .before .before .pre in
-    ((pre .0, pre .1, pre .2), (known .ports-at .ensures .base-most, known .ports-at .ensures .count-most))
+    ((pre .0, pre .1, pre .2), (known .ports-at .ensures .base-most, omega (arith, known .ports-at .ensures .count-most)))
 
 returns-6 : tie.Need-returns-6
 returns-6 c =

@@ -1,54 +1,44 @@
--- `grants::sockets::sockets_sound` meets its contract: the sockets passed are sound.
+-- `grants::sockets::sockets_sound` meets its contract: each part decides a field of the record.
 -- Assumes nothing.
-use Prim.Native.Nat.{_-_}
-use native.Mathlib.Omega.{arith}
-use Rattle.facts.specs.Table.{mostSockets}
-use Rattle.reading.proofs.All.{SoFar, so-far-none, so-far-next, so-far-stop, so-far-end}
-use Rattle.grants.specs.Parts.{SocketSound}
+use borrow.Author.Needs.{needs}
+use Rattle.facts.proofs.Says.{says-as, says-yes, says-false-by}
 use Rattle.grants.proofs.sockets.sockets_sound.Statement.{statement}
 use Rattle.grants.proofs.sockets.sockets_sound.Tie as tie
 
-abbrev Inv-loop : tie.InvT-loop
-Inv-loop t s₀ s = SoFar mostSockets (SocketSound t) s
+cards-sound-requires : tie.Need-cards-sound-requires
+cards-sound-requires c κs = search needs
 
-abbrev μ-loop : tie.MeasureT-loop
-μ-loop t s₀ s = mostSockets - s
+returns : tie.Need-returns
+returns c = says-false-by (c .before .cards-sound .ensures) (c .if1 .taken) (λ p. p .cards)
 
-loop-holds : tie.Need-loop-holds Inv-loop μ-loop
-loop-holds c = so-far-none
+ios-sound-requires : tie.Need-ios-sound-requires
+ios-sound-requires c κs = search needs
 
-socket-sound-requires : tie.Need-socket-sound-requires Inv-loop μ-loop
-socket-sound-requires c κs =
-    let pre = c .before .before .before .pre in
-    ((pre .0, c .loop-test .taken, pre .1), (pre .2, pre .3, λ u l. c .before .loop .inv .each u l .io))
+returns-2 : tie.Need-returns-2
+returns-2 c = says-false-by (c .before .ios-sound .ensures) (c .if2 .taken) (λ p. p .ios)
 
-returns : tie.Need-returns Inv-loop μ-loop
-returns c = so-far-stop (c .before .before .loop-test .taken) (c .before .socket-sound .ensures) (c .if1 .taken)
+irqs-sound-requires : tie.Need-irqs-sound-requires
+irqs-sound-requires c κs = search needs
 
-add-s : tie.Need-add-s Inv-loop μ-loop
-add-s c = omega arith
-
-loop-less : tie.Need-loop-less Inv-loop μ-loop
-loop-less c = omega arith
-
-loop-again : tie.Need-loop-again Inv-loop μ-loop
-loop-again c =
-    so-far-next (c .before .before .before .loop .inv) (c .before .before .loop-test .taken) (c .before .socket-sound .ensures)
-    (c .if1 .left)
-
-returns-2 : tie.Need-returns-2 Inv-loop μ-loop
-returns-2 c = so-far-end (c .before .loop .inv) (c .loop-test .left)
+returns-3 : tie.Need-returns-3
+returns-3 c =
+    let placed = c .before in
+    let carded = placed .before .before in
+    says-as (c .irqs-sound .ensures)
+    (λ irqs. record {
+      cards = says-yes (carded .before .cards-sound .ensures) (carded .if1 .left);
+      ios = says-yes (placed .before .ios-sound .ensures) (placed .if2 .left);
+      irqs = irqs;
+    })
+    (λ p. p .irqs)
 
 pub sockets-sound-spec : {M : Type 1} → statement M
 sockets-sound-spec =
     tie.close
     (tie.spec
-    Inv-loop
-    μ-loop
-    loop-holds
-    socket-sound-requires
+    cards-sound-requires
     returns
-    add-s
-    loop-less
-    loop-again
-    returns-2)
+    ios-sound-requires
+    returns-2
+    irqs-sound-requires
+    returns-3)

@@ -1,0 +1,35 @@
+-- The cards are sound exactly if each mark is one and there is none from the count of sockets on. Assumes nothing.
+use mathlib.Core.Path.{_≡_, ap, _∙_}
+use mathlib.Core.List.{List}
+use Prim.Native.Nat.{ℕ, _+_, _-_, _≤_, _<_}
+use native.Mathlib.Decide.{decLt}
+use native.Mathlib.Omega.{arith}
+use Rattle.facts.specs.Packets.{byte}
+use Rattle.layout.specs.Layout.{cardsAt}
+use Rattle.layout.specs.Reading.{socketsIn}
+use Rattle.grants.specs.Parts.{CardsMarked, CardsEnd, CardsSound}
+
+module _ (b : List ℕ) where
+  pub sound-marked : CardsSound b → CardsMarked b
+  sound-marked c s l = c s l .mark
+
+  pub sound-end : CardsSound b → CardsEnd b
+  sound-end c i f l =
+      let s = i - cardsAt in
+      let card = c s (omega arith) in
+      let here : i ≡ cardsAt + s = omega arith in
+      ap (byte b) here ∙ none s (omega arith) (card .mark) (card .socket)
+    where
+      none : (s : ℕ) → socketsIn b ≤ s → byte b (cardsAt + s) ≤ 1 → (byte b (cardsAt + s) ≡ 1 → s < socketsIn b) → byte b (cardsAt + s) ≡ 0
+      none s h m k = go (decLt (byte b (cardsAt + s)) 1)
+        where
+          go : Dec (byte b (cardsAt + s) < 1) → byte b (cardsAt + s) ≡ 0
+          go (yes n) = omega arith
+          go (no n) = absurd (omega (arith, k (omega arith)))
+
+  pub marked-sound : CardsMarked b → CardsEnd b → CardsSound b
+  marked-sound m e s l = record { mark = m s l; socket = go (decLt s (socketsIn b)) }
+    where
+      go : Dec (s < socketsIn b) → byte b (cardsAt + s) ≡ 1 → s < socketsIn b
+      go (yes h) k = h
+      go (no h) k = absurd (omega (arith, e (cardsAt + s) (omega arith) (omega arith)))

@@ -1,0 +1,35 @@
+-- `grants::ios::io_socket_sound` meets its contract: each part decides a field of the record.
+-- Assumes nothing.
+use borrow.Author.Needs.{needs}
+use denote.Ref.{now}
+use Rattle.facts.proofs.Says.{says-as, says-yes, says-false-by}
+use Rattle.layout.specs.Sound.{IoPlaceSound}
+use Rattle.reading.proofs.All.{all-more}
+use Rattle.grants.proofs.ios.io_socket_sound.Statement.{statement}
+use Rattle.grants.proofs.ios.io_socket_sound.Tie as tie
+
+-- where the call began
+abbrev begun : tie.Else1 → tie.Start
+begun c = c .before .before .before
+
+place : (c : tie.Else1) → IoPlaceSound (now (begun c .args .t)) (begun c .args .s .0)
+place c = says-yes (c .before .io-place-sound .ensures) (c .if1 .left)
+
+io-place-sound-requires : tie.Need-io-place-sound-requires
+io-place-sound-requires c κs = search needs
+
+returns : tie.Need-returns
+returns c = says-false-by (c .before .io-place-sound .ensures) (c .if1 .taken) (λ p. p .place)
+
+io-company-sound-requires : tie.Need-io-company-sound-requires
+io-company-sound-requires c κs =
+    let pre = begun c .pre in
+    ((pre .0 .0, pre .0 .1, all-more (pre .1 .0) (place c)), pre .1 .1)
+
+returns-2 : tie.Need-returns-2
+returns-2 c =
+    says-as (c .io-company-sound .ensures) (λ company. record { place = place (c .before); company = company }) (λ p. p .company)
+
+pub io-socket-sound-spec : {M : Type 1} → statement M
+io-socket-sound-spec =
+    tie.close (tie.spec io-place-sound-requires returns io-company-sound-requires returns-2)

@@ -1,0 +1,90 @@
+-- `grants::ios::ios_sound` meets its contract. The loop's invariant: the sockets passed are sound, and the set has each block in which their grants answer.
+-- Assumes nothing.
+use Prim.Native.Nat.{_-_}
+use native.Mathlib.Omega.{arith}
+use denote.Ref.{now}
+use Rattle.facts.specs.Table.{mostSockets}
+use Rattle.facts.proofs.Says.{says-true, says-yes}
+use Rattle.layout.specs.Layout.{iosAt, irqsAt, ioSize}
+use Rattle.layout.specs.Reading.{ioPlace}
+use Rattle.layout.specs.Sound.{IoPlaceSound, IoPairSound}
+use Rattle.reading.proofs.All.{SoFar, so-far-none, so-far-next, so-far-stop, so-far-end}
+use Rattle.grants.specs.Parts.{SocketSound}
+use Rattle.grants.specs.Company.{Answers, CoversBelow}
+use Rattle.grants.proofs.Covering.{covers-none, covers-more}
+use Rattle.grants.proofs.Records.{zero-sound}
+use Rattle.grants.proofs.ios.ios_sound.Statement.{statement}
+use Rattle.grants.proofs.ios.ios_sound.Tie as tie
+
+abbrev Inv-loop : tie.InvT-loop
+Inv-loop t blocks₀ s₀ blocks s = SoFar mostSockets (SocketSound (IoPlaceSound t) (IoPairSound t)) s × CoversBelow blocks s (Answers t)
+
+abbrev μ-loop : tie.MeasureT-loop
+μ-loop t blocks₀ s₀ blocks s = mostSockets - s
+
+-- where the call began, and where a turn did
+abbrev begun : tie.After-zero Inv-loop μ-loop → tie.Start Inv-loop μ-loop
+begun c = c .before .before
+
+abbrev turn : tie.Else2 Inv-loop μ-loop → tie.In-loop Inv-loop μ-loop
+turn c = c .before .before
+
+zero-requires : tie.Need-zero-requires Inv-loop μ-loop
+zero-requires c κs = omega arith
+
+returns : tie.Need-returns Inv-loop μ-loop
+returns c =
+    says-true
+    (zero-sound (now (begun (c .before) .args .t)) iosAt irqsAt ioSize ioPlace (omega arith) (λ s. omega arith) (λ s l. omega arith)
+    (c .before .zero .ensures .holds (c .if1 .taken)))
+
+loop-holds : tie.Need-loop-holds Inv-loop μ-loop
+loop-holds c = (so-far-none, covers-none _)
+
+io-socket-sound-requires : tie.Need-io-socket-sound-requires Inv-loop μ-loop
+io-socket-sound-requires c κs =
+    let inv = c .before .loop .inv in
+    let pre = begun (c .before .before .before) .pre in
+    ((pre .0, c .loop-test .taken, pre .1, pre .2, pre .3), (λ u l. inv .0 .each u l .place, inv .1))
+
+returns-2 : tie.Need-returns-2 Inv-loop μ-loop
+returns-2 c = so-far-stop (c .before .before .loop-test .taken) (c .before .io-socket-sound .ensures) (c .if2 .taken)
+
+io-blocks-requires : tie.Need-io-blocks-requires Inv-loop μ-loop
+io-blocks-requires c κs =
+    let pre = begun (turn c .before .before .before) .pre in
+    (pre .0, turn c .loop-test .taken, says-yes (c .before .io-socket-sound .ensures) (c .if2 .left) .place)
+
+add-s : tie.Need-add-s Inv-loop μ-loop
+add-s c = omega arith
+
+loop-less : tie.Need-loop-less Inv-loop μ-loop
+loop-less c = omega arith
+
+loop-again : tie.Need-loop-again Inv-loop μ-loop
+loop-again c =
+    let passed = c .before in
+    let inv = turn passed .before .loop .inv in (
+      so-far-next (inv .0) (turn passed .loop-test .taken) (passed .before .io-socket-sound .ensures) (passed .if2 .left),
+      covers-more _ _ _ _ (inv .1) (c .io-blocks .ensures),
+    )
+
+returns-3 : tie.Need-returns-3 Inv-loop μ-loop
+returns-3 c = so-far-end (c .before .loop .inv .0) (c .loop-test .left)
+
+pub ios-sound-spec : {M : Type 1} → statement M
+ios-sound-spec =
+    tie.close
+    (tie.spec
+    Inv-loop
+    μ-loop
+    zero-requires
+    returns
+    loop-holds
+    io-socket-sound-requires
+    returns-2
+    io-blocks-requires
+    add-s
+    loop-less
+    loop-again
+    returns-3)

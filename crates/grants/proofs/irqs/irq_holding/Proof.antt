@@ -1,0 +1,103 @@
+-- `grants::irqs::irq_holding` meets its contract: a level below 16 and a manner below 4 are a number below 64, so no bit is shifted out.
+-- Assumes nothing.
+use mathlib.Core.Path.{_∙_}
+use Prim.Native.Nat.{_+_}
+use native.Mathlib.Nat.{one-mul}
+use native.Mathlib.Omega.{arith}
+use borrow.Author.Needs.{needs}
+use denote.Ref.{now}
+use lib.Pow.{shl-exact}
+use Rattle.layout.specs.Layout.{irqSize}
+use Rattle.layout.specs.Reading.{irqPlace}
+use Rattle.layout.specs.Sound.{IrqSound}
+use Rattle.grants.proofs.Manners.{own-held, apart-against}
+use Rattle.grants.proofs.Records.{used-sound}
+use Rattle.grants.proofs.irqs.irq_holding.Statement.{statement}
+use Rattle.grants.proofs.irqs.irq_holding.Tie as tie
+
+-- where the call began, and where the grant had been found
+abbrev begun : tie.Else1 → tie.Start
+begun c = c .before .before .before
+
+abbrev found : tie.After-byte2 → tie.Else1
+found c = c .before .before
+
+grant : (c : tie.Else1) → let a = begun c .args in IrqSound (now (a .t)) (a .s .0)
+grant c =
+    let a = begun c .args in
+    let at = irqPlace (a .s .0) in
+    used-sound (now (a .t)) at (at + irqSize) (omega arith) (begun c .pre .2) (λ e. c .if1 .left (c .before .word .ensures .0 ∙ e))
+
+mul-at : tie.Need-mul-at
+mul-at c = search needs
+
+add-at : tie.Need-add-at
+add-at c = search needs
+
+word-requires : tie.Need-word-requires
+word-requires c κs = search needs
+
+returns : tie.Need-returns
+returns c = search needs
+
+add-byte : tie.Need-add-byte
+add-byte c = search needs
+
+byte-requires : tie.Need-byte-requires
+byte-requires c κs = search needs
+
+add-byte-2 : tie.Need-add-byte-2
+add-byte-2 c = search needs
+
+byte-requires-2 : tie.Need-byte-requires-2
+byte-requires-2 c κs = search needs
+
+mul-first : tie.Need-mul-first
+mul-first c = search needs
+
+add-own : tie.Need-add-own
+add-own c = search needs
+
+shl-own : tie.Need-shl-own
+shl-own c =
+    let g = grant (found c) in
+    omega (arith, g .level, g .manner, c .before .byte .ensures .0, c .byte2 .ensures .0)
+
+manners-apart-requires : tie.Need-manners-apart-requires
+manners-apart-requires c κs = search needs
+
+shl-against : tie.Need-shl-against
+shl-against c = omega (arith, grant (found (c .before)) .level, c .before .byte2 .ensures .0)
+
+returns-2 : tie.Need-returns-2
+returns-2 c =
+    let read = c .before in
+    let g = grant (found read) in
+    let a = begun (found read) .args in
+    let manner = read .before .byte .ensures .0 in
+    let level = read .byte2 .ensures .0 in
+    record {
+      own = own-held (now (a .t)) (a .s .0) level manner _ (shl-exact 1 _ 64 (omega arith) (omega (arith, g .level, g .manner, level, manner)) ∙ one-mul _);
+      against =
+          apart-against (now (a .t)) (a .s .0) level manner _ _ (c .manners-apart .ensures)
+          (shl-exact 4 _ 64 (c .manners-apart .ensures .manners) (omega (arith, g .level, level)));
+    }
+
+pub irq-holding-spec : {M : Type 1} → statement M
+irq-holding-spec =
+    tie.close
+    (tie.spec
+    mul-at
+    add-at
+    word-requires
+    returns
+    add-byte
+    byte-requires
+    add-byte-2
+    byte-requires-2
+    mul-first
+    add-own
+    shl-own
+    manners-apart-requires
+    shl-against
+    returns-2)

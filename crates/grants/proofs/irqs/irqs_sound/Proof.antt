@@ -1,0 +1,91 @@
+-- `grants::irqs::irqs_sound` meets its contract. The loop's invariant: the sockets passed are sound, and the set has each level that their grants hold,
+-- in its manner.
+-- Assumes nothing.
+use Prim.Native.Nat.{_-_}
+use native.Mathlib.Omega.{arith}
+use denote.Ref.{now}
+use Rattle.facts.specs.Table.{mostSockets}
+use Rattle.facts.proofs.Says.{says-true, says-yes}
+use Rattle.layout.specs.Layout.{irqsAt, clientsAt, irqSize}
+use Rattle.layout.specs.Reading.{irqPlace}
+use Rattle.layout.specs.Sound.{IrqPlaceSound, IrqPairSound}
+use Rattle.reading.proofs.All.{SoFar, so-far-none, so-far-next, so-far-stop, so-far-end}
+use Rattle.grants.specs.Parts.{SocketSound}
+use Rattle.grants.specs.Company.{Held, CoversBelow}
+use Rattle.grants.proofs.Covering.{covers-none, covers-more}
+use Rattle.grants.proofs.Records.{zero-sound}
+use Rattle.grants.proofs.irqs.irqs_sound.Statement.{statement}
+use Rattle.grants.proofs.irqs.irqs_sound.Tie as tie
+
+abbrev Inv-loop : tie.InvT-loop
+Inv-loop t held₀ s₀ held s = SoFar mostSockets (SocketSound (IrqPlaceSound t) (IrqPairSound t)) s × CoversBelow held s (Held t)
+
+abbrev μ-loop : tie.MeasureT-loop
+μ-loop t held₀ s₀ held s = mostSockets - s
+
+-- where the call began, and where a turn did
+abbrev begun : tie.After-zero Inv-loop μ-loop → tie.Start Inv-loop μ-loop
+begun c = c .before .before
+
+abbrev turn : tie.Else2 Inv-loop μ-loop → tie.In-loop Inv-loop μ-loop
+turn c = c .before .before
+
+zero-requires : tie.Need-zero-requires Inv-loop μ-loop
+zero-requires c κs = omega arith
+
+returns : tie.Need-returns Inv-loop μ-loop
+returns c =
+    says-true
+    (zero-sound (now (begun (c .before) .args .t)) irqsAt clientsAt irqSize irqPlace (omega arith) (λ s. omega arith) (λ s l. omega arith)
+    (c .before .zero .ensures .holds (c .if1 .taken)))
+
+loop-holds : tie.Need-loop-holds Inv-loop μ-loop
+loop-holds c = (so-far-none, covers-none _)
+
+irq-socket-sound-requires : tie.Need-irq-socket-sound-requires Inv-loop μ-loop
+irq-socket-sound-requires c κs =
+    let inv = c .before .loop .inv in
+    let pre = begun (c .before .before .before) .pre in
+    ((pre .0, c .loop-test .taken, pre .1, pre .2), (λ u l. inv .0 .each u l .place, inv .1))
+
+returns-2 : tie.Need-returns-2 Inv-loop μ-loop
+returns-2 c = so-far-stop (c .before .before .loop-test .taken) (c .before .irq-socket-sound .ensures) (c .if2 .taken)
+
+irq-holding-requires : tie.Need-irq-holding-requires Inv-loop μ-loop
+irq-holding-requires c κs =
+    let pre = begun (turn c .before .before .before) .pre in
+    (pre .0, turn c .loop-test .taken, says-yes (c .before .irq-socket-sound .ensures) (c .if2 .left) .place)
+
+add-s : tie.Need-add-s Inv-loop μ-loop
+add-s c = omega arith
+
+loop-less : tie.Need-loop-less Inv-loop μ-loop
+loop-less c = omega arith
+
+loop-again : tie.Need-loop-again Inv-loop μ-loop
+loop-again c =
+    let passed = c .before .before in
+    let inv = turn passed .before .loop .inv in (
+      so-far-next (inv .0) (turn passed .loop-test .taken) (passed .before .irq-socket-sound .ensures) (passed .if2 .left),
+      covers-more _ _ _ _ (inv .1) (c .before .irq-holding .ensures .own),
+    )
+
+returns-3 : tie.Need-returns-3 Inv-loop μ-loop
+returns-3 c = so-far-end (c .before .loop .inv .0) (c .loop-test .left)
+
+pub irqs-sound-spec : {M : Type 1} → statement M
+irqs-sound-spec =
+    tie.close
+    (tie.spec
+    Inv-loop
+    μ-loop
+    zero-requires
+    returns
+    loop-holds
+    irq-socket-sound-requires
+    returns-2
+    irq-holding-requires
+    add-s
+    loop-less
+    loop-again
+    returns-3)
