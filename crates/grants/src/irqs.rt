@@ -1,9 +1,12 @@
 // The IRQ grants: a socket's record, and the company that it keeps with those of the sockets below it.
 use crate::sockets::both_used;
 use crate::sockets::holder_sound;
+use crate::sockets::same_client;
 use facts::Socket;
 use layout::ALL_LEVELS;
 use layout::CLIENTS_AT;
+use layout::IO_SIZE;
+use layout::IOS_AT;
 use layout::IRQ_LEVEL;
 use layout::IRQ_MANNER;
 use layout::IRQ_SIZE;
@@ -13,16 +16,16 @@ use layout::LEVELS_AT;
 use layout::MARKED;
 use layout::MOST_SOCKETS;
 ghost use mathlib.Core.Path.{_≡_};
-ghost use Prim.Native.Nat.{_+_, _<_};
+ghost use Prim.Native.Nat.{_+_, _<_, _≤_};
 ghost use lib.ListN.{length};
 ghost use Rattle.facts.specs.Table;
 ghost use Rattle.facts.specs.Says.{Says};
 ghost use Rattle.facts.specs.Packets;
 ghost use Rattle.facts.specs.Levels.{Together};
 ghost use Rattle.layout.specs.Layout.{tableSize};
-ghost use Rattle.layout.specs.Reading.{mannerOf};
-ghost use Rattle.layout.specs.Sound.{IrqPlaceSound, IrqPairSound, CountsSound, ClientsSound};
-ghost use Rattle.grants.specs.Parts.{PlacesSound, CompanySound, SocketSound, IrqsSound};
+ghost use Rattle.layout.specs.Reading.{clientsIn, mannerOf};
+ghost use Rattle.layout.specs.Sound.{IoPlaceSound, IrqPlaceSound, IrqPairSound, CountsSound, ClientsSound};
+ghost use Rattle.grants.specs.Parts.{HolderSound, PlacesSound, CompanySound, SocketSound, IosSound, IrqsSound};
 ghost use Rattle.grants.specs.Company.{MannersApart, Held, HoldingIs, CoversBelow};
 
 // The manners are 0 to 3.
@@ -31,9 +34,23 @@ const LAST_MANNER: usize = 3;
 // A level and a manner are one number: the level's manners stand side by side, so that a set of them has a bit for each.
 const ALL_MANNERS: usize = LAST_MANNER + 1;
 
+// The client and the socket of an IRQ grant, whose record stands at a place: sound where the socket's I/O grant has the same client, as most often.
+fn irq_holder_sound(t: &[u8], at: usize, s: Socket) -> bool
+    requires { ⌜ (length (now t) ≡ tableSize) × (at + 1 < tableSize) × (clientsIn (now t) ≤ Table.mostClients) ⌝ }
+    requires { ⌜ (s .0 < Table.mostSockets) × IoPlaceSound (now t) (s .0) ⌝ }
+    ensures { λ r. ⌜ Says r (HolderSound (now (t .entry)) at (s .0)) ⌝ }
+{
+    let number = s.0;
+    if same_client(t, at, IOS_AT + number * IO_SIZE) {
+        return true;
+    }
+    holder_sound(t, at, s)
+}
+
 // The IRQ grant of the socket `s`, or a record that is all zero.
 fn irq_place_sound(t: &[u8], s: Socket) -> bool
     requires { ⌜ (length (now t) ≡ tableSize) × (s .0 < Table.mostSockets) × CountsSound (now t) × ClientsSound (now t) ⌝ }
+    requires { ⌜ IoPlaceSound (now t) (s .0) ⌝ }
     ensures { λ r. ⌜ Says r (IrqPlaceSound (now (t .entry)) (s .0)) ⌝ }
 {
     let number = s.0;
@@ -51,7 +68,7 @@ fn irq_place_sound(t: &[u8], s: Socket) -> bool
     if LAST_MANNER < reading::byte(t, at + IRQ_MANNER) {
         return false;
     }
-    holder_sound(t, at, s)
+    irq_holder_sound(t, at, s)
 }
 
 // Whether the manners of the grants whose records stand at two places go together.
@@ -138,7 +155,7 @@ fn irq_company_sound(t: &[u8], s: Socket, held: u64) -> bool
 
 fn irq_socket_sound(t: &[u8], s: Socket, held: u64) -> bool
     requires { ⌜ (length (now t) ≡ tableSize) × (s .0 < Table.mostSockets) × CountsSound (now t) × ClientsSound (now t) ⌝ }
-    requires { ⌜ PlacesSound (IrqPlaceSound (now t)) (s .0) × CoversBelow held (s .0) (Held (now t)) ⌝ }
+    requires { ⌜ IoPlaceSound (now t) (s .0) × PlacesSound (IrqPlaceSound (now t)) (s .0) × CoversBelow held (s .0) (Held (now t)) ⌝ }
     ensures { λ r. ⌜ Says r (SocketSound (IrqPlaceSound (now (t .entry))) (IrqPairSound (now (t .entry))) (s .0)) ⌝ }
 {
     if !irq_place_sound(t, s) {
@@ -149,7 +166,7 @@ fn irq_socket_sound(t: &[u8], s: Socket, held: u64) -> bool
 
 // The IRQ grants of all sockets: `held` are the levels that the grants passed hold, in their manners.
 pub fn irqs_sound(t: &[u8]) -> bool
-    requires { ⌜ (length (now t) ≡ tableSize) × CountsSound (now t) × ClientsSound (now t) ⌝ }
+    requires { ⌜ (length (now t) ≡ tableSize) × CountsSound (now t) × ClientsSound (now t) × IosSound (now t) ⌝ }
     ensures { λ r. ⌜ Says r (IrqsSound (now (t .entry))) ⌝ }
 {
     if reading::zero(t, IRQS_AT, CLIENTS_AT) {

@@ -76,6 +76,18 @@ pub fn both_used(t: &[u8], at: usize, other: usize) -> bool
     client2.0 != 0
 }
 
+// Whether the records at two places have a client, and the same one.
+pub fn same_client(t: &[u8], at: usize, other: usize) -> bool
+    requires { ⌜ (at + 1 < length (now t)) × (other + 1 < length (now t)) ⌝ }
+    ensures { λ r. ⌜ Says r ((Packets.word (now (t .entry)) at ≢ 0) × (Packets.word (now (t .entry)) other ≡ Packets.word (now (t .entry)) at)) ⌝ }
+{
+    let client = reading::handle(t, at);
+    if client.0 == 0 {
+        return false;
+    }
+    reading::granted(t, other, client)
+}
+
 // The cards and the grants of all sockets.
 pub fn sockets_sound(t: &[u8]) -> bool
     requires { ⌜ (length (now t) ≡ tableSize) × CountsSound (now t) × ClientsSound (now t) × RangesSound (now t) ⌝ }

@@ -74,19 +74,19 @@ byte-requires-3 c κs = search needs
 returns-4 : tie.Need-returns-4
 returns-4 c = place-false (used (read (c .before .before .before))) (λ g. omega arith)
 
-holder-sound-requires : tie.Need-holder-sound-requires
-holder-sound-requires c κs =
+irq-holder-sound-requires : tie.Need-irq-holder-sound-requires
+irq-holder-sound-requires c κs =
     let pre = begun (read (c .before .before .before)) .pre in
-    (pre .0, omega arith, pre .2 .clients-most)
+    ((pre .0 .0, omega arith, pre .0 .2 .clients-most), (pre .0 .1, pre .1))
 
 returns-5 : tie.Need-returns-5
 returns-5 c =
     let managed = c .before .before .before in
     let begin = read (managed .before) in
     let levelled = managed .before .before in
-    place-says (used begin) (c .holder-sound .ensures)
+    place-says (used begin) (c .irq-holder-sound .ensures)
     (λ h. (
-      live-used (now (begun begin .args .t)) (begun begin .pre .3) (h .client),
+      live-used (now (begun begin .args .t)) (begun begin .pre .0 .3) (h .client),
       record {
         client = h .client;
         socket = h .socket;
@@ -116,5 +116,5 @@ irq-place-sound-spec =
     add-byte-3
     byte-requires-3
     returns-4
-    holder-sound-requires
+    irq-holder-sound-requires
     returns-5)

@@ -46,7 +46,7 @@ irq-socket-sound-requires : tie.Need-irq-socket-sound-requires Inv-loop μ-loop
 irq-socket-sound-requires c κs =
     let inv = c .before .loop .inv in
     let pre = begun (c .before .before .before) .pre in
-    ((pre .0, c .loop-test .taken, pre .1, pre .2), (λ u l. inv .0 .each u l .place, inv .1))
+    ((pre .0, c .loop-test .taken, pre .1, pre .2), (pre .3 _ (c .loop-test .taken) .place, λ u l. inv .0 .each u l .place, inv .1))
 
 returns-2 : tie.Need-returns-2 Inv-loop μ-loop
 returns-2 c = so-far-stop (c .before .before .loop-test .taken) (c .before .irq-socket-sound .ensures) (c .if2 .taken)

@@ -1,9 +1,21 @@
 -- `grants::sockets::sockets_sound` meets its contract: each part decides a field of the record.
 -- Assumes nothing.
 use borrow.Author.Needs.{needs}
+use denote.Ref.{now}
 use Rattle.facts.proofs.Says.{says-as, says-yes, says-false-by}
+use Rattle.grants.specs.Parts.{IosSound}
 use Rattle.grants.proofs.sockets.sockets_sound.Statement.{statement}
 use Rattle.grants.proofs.sockets.sockets_sound.Tie as tie
+
+-- where the cards had been found sound, and the call began
+abbrev carded : tie.Else2 → tie.Else1
+carded c = c .before .before
+
+abbrev begun : tie.Else1 → tie.Start
+begun c = c .before .before .before
+
+ios : (c : tie.Else2) → IosSound (now (begun (carded c) .args .t))
+ios c = says-yes (c .before .ios-sound .ensures) (c .if2 .left)
 
 cards-sound-requires : tie.Need-cards-sound-requires
 cards-sound-requires c κs = search needs
@@ -18,16 +30,17 @@ returns-2 : tie.Need-returns-2
 returns-2 c = says-false-by (c .before .ios-sound .ensures) (c .if2 .taken) (λ p. p .ios)
 
 irqs-sound-requires : tie.Need-irqs-sound-requires
-irqs-sound-requires c κs = search needs
+irqs-sound-requires c κs =
+    let pre = begun (carded c) .pre in
+    (pre .0, pre .1, pre .2, ios c)
 
 returns-3 : tie.Need-returns-3
 returns-3 c =
-    let placed = c .before in
-    let carded = placed .before .before in
+    let first = carded (c .before) in
     says-as (c .irqs-sound .ensures)
     (λ irqs. record {
-      cards = says-yes (carded .before .cards-sound .ensures) (carded .if1 .left);
-      ios = says-yes (placed .before .ios-sound .ensures) (placed .if2 .left);
+      cards = says-yes (first .before .cards-sound .ensures) (first .if1 .left);
+      ios = ios (c .before);
       irqs = irqs;
     })
     (λ p. p .irqs)
