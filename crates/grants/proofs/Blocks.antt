@@ -10,7 +10,7 @@ use lib.Bits.{bitAnd, bitOr}
 use lib.Pow.{field, mod-mod-pow}
 use Rattle.facts.specs.Table.{mostAsked, Ports}
 use Rattle.facts.specs.Packets.{bit}
-use Rattle.facts.specs.Ports.{Within, Meet}
+use Rattle.facts.specs.Ports.{Within}
 use Rattle.layout.specs.Reading.{ioIn}
 use Rattle.layout.specs.Sound.{IoPairSound}
 use Rattle.grants.specs.Company.{blockOf, BlocksWithin, Answers, Covers}

@@ -1,12 +1,19 @@
--- The cards are sound exactly if each mark is one and there is none from the count of sockets on. Assumes nothing.
+-- The cards are sound exactly if each mark is one and there is none from the count of sockets on; and marks or-ed together, less their lowest bits, are 0
+-- exactly if each is 0 or 1. Assumes nothing.
 use mathlib.Core.Path.{_≡_, ap, _∙_}
 use mathlib.Core.List.{List}
-use Prim.Native.Nat.{ℕ, _+_, _-_, _≤_, _<_}
+use Prim.Native.Nat.{ℕ, _+_, _-_, _/_, _≤_, _<_}
 use native.Mathlib.Decide.{decLt}
 use native.Mathlib.Omega.{arith}
+use lib.Bits.{bitOr}
+use lib.Dec.{eqb}
+use Rattle.facts.specs.Says.{Says}
 use Rattle.facts.specs.Packets.{byte}
+use Rattle.facts.proofs.Says.{says-as, says-eq}
 use Rattle.layout.specs.Layout.{cardsAt}
 use Rattle.layout.specs.Reading.{socketsIn}
+use Rattle.reading.proofs.All.{All, all-more}
+use Rattle.reading.proofs.Zeros.{or-says}
 use Rattle.grants.specs.Parts.{CardsMarked, CardsEnd, CardsSound}
 
 module _ (b : List ℕ) where
@@ -33,3 +40,15 @@ module _ (b : List ℕ) where
       go : Dec (s < socketsIn b) → byte b (cardsAt + s) ≡ 1 → s < socketsIn b
       go (yes h) k = h
       go (no h) k = absurd (omega (arith, e (cardsAt + s) (omega arith) (omega arith)))
+
+  -- a mark is 0 or 1 exactly if its half is 0
+  abbrev pub Marked : ℕ → Type 0
+  Marked s = byte b (cardsAt + s) ≤ 1
+
+  mark-says : (s : ℕ) → Says (eqb (byte b (cardsAt + s) / 2) 0) (Marked s)
+  mark-says s = says-as (says-eq (byte b (cardsAt + s) / 2) 0) (λ e. omega arith) (λ l. omega arith)
+
+  pub marks-more : (s flaws : ℕ) → Says (eqb flaws 0) (All s Marked) → Says (eqb (bitOr flaws (byte b (cardsAt + s) / 2)) 0) (All (s + 1) Marked)
+  marks-more s flaws a =
+      says-as (or-says flaws (byte b (cardsAt + s) / 2) a (mark-says s)) (λ p. all-more {P = Marked} (p .0) (p .1))
+      (λ m. (λ k l. m k (omega arith), m s (omega arith)))

@@ -2,6 +2,5 @@
 pub mod Blocks
 pub mod Cards
 pub mod Covering
-pub mod Flaws
 pub mod Manners
 pub mod Records

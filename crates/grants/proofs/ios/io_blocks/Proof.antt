@@ -1,6 +1,6 @@
 -- `grants::ios::io_blocks` meets its contract: a grant that decodes few lines may answer in any block, and another in those of its own ports.
 -- Assumes nothing.
-use mathlib.Core.Path.{sym, _∙_}
+use mathlib.Core.Path.{_∙_}
 use Prim.Native.Nat.{_+_}
 use native.Mathlib.Omega.{arith}
 use borrow.Author.Needs.{needs}

@@ -1,7 +1,7 @@
 -- `grants::irqs::irq_holding` meets its contract: a level below 16 and a manner below 4 are a number below 64, so no bit is shifted out.
 -- Assumes nothing.
 use mathlib.Core.Path.{_∙_}
-use Prim.Native.Nat.{_+_}
+use Prim.Native.Nat.{_+_, _<_}
 use native.Mathlib.Nat.{one-mul}
 use native.Mathlib.Omega.{arith}
 use borrow.Author.Needs.{needs}
@@ -10,6 +10,7 @@ use lib.Pow.{shl-exact}
 use Rattle.layout.specs.Layout.{irqSize}
 use Rattle.layout.specs.Reading.{irqPlace}
 use Rattle.layout.specs.Sound.{IrqSound}
+use Rattle.grants.specs.Company.{heldAs}
 use Rattle.grants.proofs.Manners.{own-held, apart-against}
 use Rattle.grants.proofs.Records.{used-sound}
 use Rattle.grants.proofs.irqs.irq_holding.Statement.{statement}
@@ -27,6 +28,11 @@ grant c =
     let a = begun c .args in
     let at = irqPlace (a .s .0) in
     used-sound (now (a .t)) at (at + irqSize) (omega arith) (begun c .pre .2) (λ e. c .if1 .left (c .before .word .ensures .0 ∙ e))
+
+number : (c : tie.After-byte2) → heldAs (c .byte2 .result) (c .before .byte .result) < 64
+number c =
+    let g = grant (found c) in
+    omega (arith, g .level, g .manner, c .byte2 .ensures .0, c .before .byte .ensures .0)
 
 mul-at : tie.Need-mul-at
 mul-at c = search needs
@@ -59,28 +65,25 @@ add-own : tie.Need-add-own
 add-own c = search needs
 
 shl-own : tie.Need-shl-own
-shl-own c =
-    let g = grant (found c) in
-    omega (arith, g .level, g .manner, c .before .byte .ensures .0, c .byte2 .ensures .0)
+shl-own c = number c
 
 manners-apart-requires : tie.Need-manners-apart-requires
 manners-apart-requires c κs = search needs
 
 shl-against : tie.Need-shl-against
-shl-against c = omega (arith, grant (found (c .before)) .level, c .before .byte2 .ensures .0)
+shl-against c = omega (arith, number (c .before))
 
 returns-2 : tie.Need-returns-2
 returns-2 c =
     let read = c .before in
-    let g = grant (found read) in
     let a = begun (found read) .args in
     let manner = read .before .byte .ensures .0 in
     let level = read .byte2 .ensures .0 in
     record {
-      own = own-held (now (a .t)) (a .s .0) level manner _ (shl-exact 1 _ 64 (omega arith) (omega (arith, g .level, g .manner, level, manner)) ∙ one-mul _);
+      own = own-held (now (a .t)) (a .s .0) level manner _ (shl-exact 1 _ 64 (omega arith) (omega (arith, number read)) ∙ one-mul _);
       against =
           apart-against (now (a .t)) (a .s .0) level manner _ _ (c .manners-apart .ensures)
-          (shl-exact 4 _ 64 (c .manners-apart .ensures .manners) (omega (arith, g .level, level)));
+          (shl-exact 4 _ 64 (c .manners-apart .ensures .manners) (omega (arith, number read)));
     }
 
 pub irq-holding-spec : {M : Type 1} → statement M

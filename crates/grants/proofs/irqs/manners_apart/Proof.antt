@@ -11,22 +11,22 @@ use Rattle.grants.proofs.irqs.manners_apart.Tie as tie
 
 returns : tie.Need-returns
 returns c =
-    apart-by _ 15 Exclusive (ap mannerOf (c .match .keys1)) (omega arith) ((((tt, λ n. refl), λ n. refl), λ n. refl), λ n. refl)
+    apart-by _ _ Exclusive (ap mannerOf (c .match .keys1)) (omega arith) ((((tt, λ n. refl), λ n. refl), λ n. refl), λ n. refl)
 
 returns-2 : tie.Need-returns-2
 returns-2 c =
     let own = with-itself TimeMultiplexed (omega arith) in
-    apart-by _ 13 TimeMultiplexed (ap mannerOf (c .match .keys2)) (omega arith) ((((tt, λ n. refl), λ n. absurd (n own)), λ n. refl), λ n. refl)
+    apart-by _ _ TimeMultiplexed (ap mannerOf (c .match .keys2)) (omega arith) ((((tt, λ n. refl), λ n. absurd (n own)), λ n. refl), λ n. refl)
 
 returns-3 : tie.Need-returns-3
 returns-3 c =
     let own = with-itself DynamicLevel (omega arith) in
-    apart-by _ 11 DynamicLevel (ap mannerOf (c .match .keys3)) (omega arith) ((((tt, λ n. refl), λ n. refl), λ n. absurd (n own)), λ n. refl)
+    apart-by _ _ DynamicLevel (ap mannerOf (c .match .keys3)) (omega arith) ((((tt, λ n. refl), λ n. refl), λ n. absurd (n own)), λ n. refl)
 
 returns-4 : tie.Need-returns-4
 returns-4 c =
     let own = with-itself DynamicPulse (omega arith) in
-    apart-by _ 7 DynamicPulse
+    apart-by _ _ DynamicPulse
     (simp (ne-eqb _ _ (c .match .rest .0 .0 .1), ne-eqb _ _ (c .match .rest .0 .1), ne-eqb _ _ (c .match .rest .1)))
     (omega arith) ((((tt, λ n. refl), λ n. refl), λ n. refl), λ n. absurd (n own))
 

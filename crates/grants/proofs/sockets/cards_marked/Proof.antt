@@ -1,28 +1,25 @@
 -- `grants::sockets::cards_marked` meets its contract. The loop's invariant: what is wrong is 0 exactly if the marks passed are at most 1.
 -- Assumes nothing.
-use Prim.Native.Nat.{ℕ, _+_, _-_, _/_, _≤_}
+use Prim.Native.Nat.{_-_, _≤_}
 use native.Mathlib.Omega.{arith}
+use denote.Ref.{now}
 use lib.Dec.{eqb}
 use Rattle.facts.specs.Table.{mostSockets}
-use Rattle.facts.specs.Packets.{byte}
 use Rattle.facts.specs.Says.{Says}
-use Rattle.facts.proofs.Says.{says-as, says-eq}
-use Rattle.layout.specs.Layout.{cardsAt}
-use Rattle.grants.proofs.Flaws.{Flawless, flawless-none, flawless-more, flawless-says}
+use Rattle.facts.proofs.Says.{says-true, says-as}
+use Rattle.reading.proofs.All.{All, all-none}
+use Rattle.grants.proofs.Cards.{Marked, marks-more}
 use Rattle.grants.proofs.sockets.cards_marked.Statement.{statement}
 use Rattle.grants.proofs.sockets.cards_marked.Tie as tie
 
-mark-says : (n : ℕ) → Says (eqb (n / 2) 0) (n ≤ 1)
-mark-says n = says-as (says-eq (n / 2) 0) (λ e. omega arith) (λ l. omega arith)
-
 abbrev Inv-loop : tie.InvT-loop
-Inv-loop t flaws₀ s₀ flaws s = (s ≤ mostSockets) × Flawless (λ k. byte t (cardsAt + k) ≤ 1) s flaws
+Inv-loop t flaws₀ s₀ flaws s = (s ≤ mostSockets) × Says (eqb flaws 0) (All s (Marked t))
 
 abbrev μ-loop : tie.MeasureT-loop
 μ-loop t flaws₀ s₀ flaws s = mostSockets - s
 
 loop-holds : tie.Need-loop-holds Inv-loop μ-loop
-loop-holds c = (omega arith, flawless-none _)
+loop-holds c = (omega arith, says-true (all-none _))
 
 add-flaws : tie.Need-add-flaws Inv-loop μ-loop
 add-flaws c = omega arith
@@ -37,10 +34,12 @@ loop-less : tie.Need-loop-less Inv-loop μ-loop
 loop-less c = omega arith
 
 loop-again : tie.Need-loop-again Inv-loop μ-loop
-loop-again c = (omega arith, flawless-more _ (c .before .before .loop .inv .1) (mark-says _))
+loop-again c =
+    let turn = c .before .before in
+    (omega arith, marks-more (now (turn .before .args .t)) (turn .loop .s) (turn .loop .flaws) (turn .loop .inv .1))
 
 returns : tie.Need-returns Inv-loop μ-loop
-returns c = flawless-says mostSockets (omega arith) (c .before .loop .inv .1)
+returns c = says-as (c .before .loop .inv .1) (λ m k l. m k (omega arith)) (λ m k l. m k (omega arith))
 
 pub cards-marked-spec : {M : Type 1} → statement M
 cards-marked-spec =
