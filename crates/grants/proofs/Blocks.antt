@@ -47,7 +47,7 @@ module _ (base count : ℕ) (port : 1 ≤ count) (asked : count ≤ mostAsked) w
       other e = or-right first last (blockOf p) (subst (λ (k : ℕ). bit last k ≡ 1) e (one-bit (blockOf (base + count - 1))))
 
 -- ports that are equal modulo two to so many lines are in one block
-pub same-block : (p q lines : ℕ) → 14 ≤ lines → p % 2 ^ lines ≡ q % 2 ^ lines → blockOf p ≡ blockOf q
+same-block : (p q lines : ℕ) → 14 ≤ lines → p % 2 ^ lines ≡ q % 2 ^ lines → blockOf p ≡ blockOf q
 same-block p q lines l e = sym (field p 6 8) ∙ ap (λ (n : ℕ). n / 256) (sym (low p) ∙ ap (λ (n : ℕ). n % 2 ^ 14) e ∙ low q) ∙ field q 6 8
   where
     here : lines ≡ lines - 14 + 14

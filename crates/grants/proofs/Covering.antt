@@ -1,13 +1,19 @@
 -- Sets with a bit for each number: what two of them have together, and that sets without a bit in common say nothing in common. Assumes nothing.
-use mathlib.Core.Path.{_≡_, sym, ap, _∙_}
-use Prim.Native.Nat.{ℕ, suc, _+_, _-_, _/_, _%_, _^_, _<_, min, max}
-use native.Mathlib.Nat.{one-mul, pow-suc, zero-div}
+use mathlib.Core.Path.{_≡_, refl, sym, ap, _∙_}
+use mathlib.Core.Logic.{_⊎_, inl, inr, _≢_}
+use Prim.Native.Nat.{ℕ, suc, _+_, _-_, _*_, _/_, _%_, _^_, _≤_, _<_, min, max}
+use native.Mathlib.Nat.{one-mul, mul-assoc, div-one, zero-div, div-eq-of-lt, div-div-eq-div-mul, pow-suc, pow-succ'}
+use native.Mathlib.Decide.{ℕ-discrete, decLt}
 use native.Mathlib.Omega.{arith}
-use lib.Bits.{bitAnd, bitOr, and-shr, or-shr, and-step, or-step}
-use lib.Pow.{pow-pos, shl-shr, ones-split, ones-lt, high}
+use lib.Arith.{bin-ind}
+use lib.Bits.{bitAnd, bitOr, and-shr, or-shr, and-step, or-step, shifted-even}
+use lib.Dec.{eqb}
+use lib.Pow.{pow-pos, pow-add, pow-mono, shl-shr, shr-shr, ones-split, ones-lt, high}
+use Rattle.facts.specs.Says.{Says}
 use Rattle.facts.specs.Packets.{bit}
+use Rattle.facts.proofs.Says.{says-as, says-eq}
 use Rattle.reading.proofs.All.{all-none, all-more}
-use Rattle.grants.specs.Company.{Covers, CoversBelow}
+use Rattle.grants.specs.Company.{Covers, CoversBelow, Exactly}
 
 -- the set of one number, and that of all below n
 pub one-bit : (k : ℕ) → bit (2 ^ k) k ≡ 1
@@ -40,11 +46,71 @@ module _ (x y k : ℕ) where
   pub or-right : bit y k ≡ 1 → bit (bitOr x y) k ≡ 1
   or-right e = omega (arith, bit-or)
 
+  pub or-either : bit (bitOr x y) k ≡ 1 → (bit x k ≡ 1) ⊎ (bit y k ≡ 1)
+  or-either e = go (ℕ-discrete (bit x k) 1)
+    where
+      go : Dec (bit x k ≡ 1) → (bit x k ≡ 1) ⊎ (bit y k ≡ 1)
+      go (yes f) = inl f
+      go (no f) = inr (omega (arith, bit-or, f))
+
+  and-both : bit (bitAnd x y) k ≡ 1 → (bit x k ≡ 1) × (bit y k ≡ 1)
+  and-both e = (omega (arith, bit-and), omega (arith, bit-and))
+
   both-bits : bit x k ≡ 1 → bit y k ≡ 1 → bit (bitAnd x y) k ≡ 1
   both-bits e f = omega (arith, bit-and)
 
+higher-bit : (n k : ℕ) → bit n (suc k) ≡ bit (n / 2) k
+higher-bit n k = ap (λ (x : ℕ). x % 2) (ap (λ (x : ℕ). n / x) (pow-succ' 2 k) ∙ sym (div-div-eq-div-mul n 2 (2 ^ k)))
+
 no-bit : (k : ℕ) → bit 0 k ≡ 0
 no-bit k = ap (λ (n : ℕ). n % 2) (zero-div (2 ^ k))
+
+-- a number that is not 0 has a bit
+some-bit : (n : ℕ) → n ≢ 0 → (k : ℕ) × (bit n k ≡ 1)
+some-bit =
+    bin-ind (λ (n : ℕ). n ≢ 0 → (k : ℕ) × (bit n k ≡ 1)) (λ d. absurd (d refl)) (λ n ih d. go n ih d (ℕ-discrete (n % 2) 1))
+  where
+    go : (n : ℕ) → (n / 2 ≢ 0 → (k : ℕ) × (bit (n / 2) k ≡ 1)) → n ≢ 0 → Dec (n % 2 ≡ 1) → (k : ℕ) × (bit n k ≡ 1)
+    go n ih d (yes e) = (0, ap (λ (x : ℕ). x % 2) (div-one n) ∙ e)
+    go n ih d (no e) = let higher = ih (λ z. d (omega (arith, z, e))) in (suc (higher .0), higher-bit n (higher .0) ∙ higher .1)
+
+-- a set shifted by j has each of its numbers raised by j, and no other
+pub shifted-bit : (set j m : ℕ) → bit (set * 2 ^ j) (j + m) ≡ bit set m
+shifted-bit set j m = ap (λ (n : ℕ). n % 2) (sym (shr-shr (set * 2 ^ j) j m) ∙ ap (λ (n : ℕ). n / 2 ^ m) (shl-shr set j))
+
+pub shifted-only : (set j k : ℕ) → bit (set * 2 ^ j) k ≡ 1 → (m : ℕ) × (j + m ≡ k) × (bit set m ≡ 1)
+shifted-only set j k e = go (decLt k j)
+  where
+    more : ℕ
+    more = j - k - 1
+
+    low : j ≡ suc more + k → bit (set * 2 ^ j) k ≡ 0
+    low h =
+        ap (λ (n : ℕ). bit (set * 2 ^ n) k) h ∙ ap (λ (n : ℕ). bit n k) (ap (λ (n : ℕ). set * n) (pow-add 2 (suc more) k) ∙ sym (mul-assoc set (2 ^ suc more) (2 ^ k)))
+        ∙ ap (λ (n : ℕ). n % 2) (shl-shr (set * 2 ^ suc more) k) ∙ shifted-even set more
+
+    go : Dec (k < j) → (m : ℕ) × (j + m ≡ k) × (bit set m ≡ 1)
+    go (yes l) = absurd (omega (arith, low (omega arith)))
+    go (no l) =
+        let here : j + (k - j) ≡ k = omega arith in
+        (k - j, here, sym (shifted-bit set j (k - j)) ∙ ap (bit (set * 2 ^ j)) here ∙ e)
+
+-- a set has no number past its last
+pub bit-below : (set n k : ℕ) → set < 2 ^ n → bit set k ≡ 1 → k < n
+bit-below set n k l e = go (decLt k n)
+  where
+    go : Dec (k < n) → k < n
+    go (yes h) = h
+    go (no h) =
+        let past : 2 ^ n ≤ 2 ^ k = pow-mono {i = n} {j = k} (omega arith) in
+        let none : bit set k ≡ 0 = ap (λ (m : ℕ). m % 2) (div-eq-of-lt (omega arith)) in
+        absurd (omega arith)
+
+-- the set of one number has no other
+pub one-only : (j k : ℕ) → bit (2 ^ j) k ≡ 1 → j ≡ k
+one-only j k e =
+    let m = shifted-only 1 j k (ap (λ (n : ℕ). bit n k) (one-mul (2 ^ j)) ∙ e) in
+    omega (arith, m .1, bit-below 1 1 (m .0) (omega arith) (m .2))
 
 -- sets that have no number in common say none in common
 pub none-common : (x y : ℕ) {P Q : ℕ → Type 0} → bitAnd x y ≡ 0 → Covers x P → Covers y Q → (k : ℕ) → P k → Q k → ⊥
@@ -60,3 +126,18 @@ module _ (P : ℕ → ℕ → Type 0) where
   pub covers-more : (x y n : ℕ) → CoversBelow x n P → Covers y (P n) → CoversBelow (bitOr x y) (n + 1) P
   covers-more x y n c d =
       all-more {P = λ s. Covers (bitOr x y) (P s)} (λ s l k p. or-left x y k (c s l k p)) (λ k p. or-right x y k (d k p))
+
+-- the set of no number
+pub exactly-none : {P : ℕ → Type 0} → ((k : ℕ) → P k → ⊥) → Exactly 0 P
+exactly-none n = record { has = λ k p. absurd (n k p); only = λ k e. absurd (omega (arith, no-bit k)) }
+
+-- whether two sets have a number in common
+pub common-says : (x y : ℕ) {P Q : ℕ → Type 0} → Exactly x P → Exactly y Q → Says (eqb (bitAnd x y) 0) ((k : ℕ) → P k → Q k → ⊥)
+common-says x y {P} {Q} p q = says-as (says-eq (bitAnd x y) 0) (λ e. none-common x y e (p .has) (q .has)) (λ n. go n (ℕ-discrete (bitAnd x y) 0))
+  where
+    go : ((k : ℕ) → P k → Q k → ⊥) → Dec (bitAnd x y ≡ 0) → bitAnd x y ≡ 0
+    go n (yes e) = e
+    go n (no d) =
+        let k = some-bit (bitAnd x y) d in
+        let both = and-both x y (k .0) (k .1) in
+        absurd (n (k .0) (p .only (k .0) (both .0)) (q .only (k .0) (both .1)))

@@ -1,71 +1,123 @@
--- The manners that don't go with one, each by its bit; and IRQ grants of which none holds its level in a manner that doesn't go with another's. Assumes nothing.
+-- The manners that don't go with one; what IRQ grants hold; and that a grant keeps company with those of the sockets below it exactly if none of them
+-- holds its level in a manner that doesn't go with its own. Assumes nothing.
 use mathlib.Core.Path.{_≡_, refl, sym, ap, ap₂, _∙_, subst}
+use mathlib.Core.Logic.{_⊎_, inl, inr, ⊎-elim}
 use mathlib.Core.List.{List}
-use Prim.Native.Nat.{ℕ, _+_, _*_, _/_, _%_, _^_, _≤_, _<_}
+use mathlib.Core.Bool.{Bool, not}
+use Prim.Native.Nat.{ℕ, _+_, _*_, _^_, _≤_, _<_}
+use native.Mathlib.Nat.{eq-or-lt-of-le}
+use native.Mathlib.Decide.{ℕ-discrete}
 use native.Mathlib.Omega.{arith}
-use lib.Bits.{bitAnd}
-use lib.Pow.{shl-shr, shr-shr}
+use borrow.Author.Tests.{eq-eqb, ne-eqb}
+use lib.Bits.{bitAnd, bitOr}
+use lib.Dec.{eqb}
 use Rattle.facts.specs.declared.Manner.{Manner}
+use Rattle.facts.specs.Says.{Says}
 use Rattle.facts.specs.Packets.{byte, bit}
 use Rattle.facts.specs.Levels.{Together}
-use Rattle.facts.proofs.Says.{says-dec}
+use Rattle.facts.proofs.Says.{says-as, says-not, says-dec}
 use Rattle.layout.specs.Layout.{irqSize}
 use Rattle.layout.specs.Reading.{irqPlace, irqIn, mannerOf}
-use Rattle.layout.specs.Sound.{IrqPlaceSound, IrqPairSound}
+use Rattle.layout.specs.Sound.{IrqUsed, IrqPlaceSound, IrqPairSound}
 use Rattle.layout.proofs.Parts.{Below, below-at}
-use Rattle.levels.specs.Places.{placeOf}
 use Rattle.levels.proofs.Rule.{rule-says}
-use Rattle.grants.specs.Company.{Covers, MannersApart, Held, Against, heldAs}
-use Rattle.grants.proofs.Covering.{one-bit, none-common}
+use Rattle.grants.specs.Parts.{PlacesSound, CompanySound}
+use Rattle.grants.specs.Company.{Exactly, MannersApart, Held, HeldBelow, Against, heldAs}
+use Rattle.grants.proofs.Covering.{one-bit, one-only, bit-below, shifted-bit, shifted-only, or-left, or-right, or-either, common-says}
 use Rattle.grants.proofs.Records.{used-sound}
 
--- a manner goes with itself unless it is exclusive
-pub with-itself : (m : Manner) → 1 ≤ placeOf m → Together m m
-with-itself m l = record { equal = refl; shares = λ e. let z : placeOf m ≡ 0 = ap placeOf e in omega arith }
+-- a set of manners by its bits: r says which manners go with m, and a bit is 1 exactly where r is false
+module _ (n set : ℕ) (m : Manner) (e : mannerOf n ≡ m) (l : set < 2 ^ 4) {r : ℕ → Bool} (s : (k : ℕ) → Says (r k) (Together m (mannerOf k)))
+    (a : Below 4 (λ k. eqb (bit set k) 1 ≡ not (r k))) where
+  bit-says : (k : ℕ) → k < 4 → Says (eqb (bit set k) 1) (Together (mannerOf n) (mannerOf k) → ⊥)
+  bit-says k h = rw (e, below-at 4 (λ j. eqb (bit set j) 1 ≡ not (r j)) a k h) (says-not (s k))
 
--- the set has the manner k if it doesn't go with m; and so for each of the four
-abbrev Apart : Manner → ℕ → ℕ → Type 0
-Apart m set k = (Together m (mannerOf k) → ⊥) → bit set k ≡ 1
+  has : (k : ℕ) → k < 4 → (Together (mannerOf n) (mannerOf k) → ⊥) → bit set k ≡ 1
+  has k h p = go (ℕ-discrete (bit set k) 1)
+    where
+      go : Dec (bit set k ≡ 1) → bit set k ≡ 1
+      go (yes b) = b
+      go (no d) = absurd (bit-says k h .fails (ne-eqb _ _ d) p)
 
-pub apart-by : (n set : ℕ) (m : Manner) → mannerOf n ≡ m → set < 2 ^ 4 → Below 4 (Apart m set) → MannersApart n set
-apart-by n set m e l a =
-    record {
-      manners = l;
-      covers = λ k p. below-at 4 (Apart m set) a k (omega (arith, p .0)) (subst (λ (m′ : Manner). Together m′ (mannerOf k) → ⊥) e (p .1));
-    }
-
--- a set of manners, shifted to those of a level
-shifted-bit : (set level m : ℕ) → bit (set * 2 ^ (level * 4)) (heldAs level m) ≡ bit set m
-shifted-bit set level m =
-    ap (λ (n : ℕ). n % 2) (sym (shr-shr (set * 2 ^ (level * 4)) (level * 4) m) ∙ ap (λ (n : ℕ). n / 2 ^ m) (shl-shr set (level * 4)))
+  pub apart-by : MannersApart n set
+  apart-by =
+      record {
+        manners = l;
+        apart = record {
+          has = λ k p. has k (omega (arith, p .0)) (p .1);
+          only = λ k b. let h = bit-below set 4 k l b in (omega arith, bit-says k h .holds (eq-eqb _ _ b));
+        };
+      }
 
 -- what a grant holds, by the level and the manner that its record says
-module _ (b : List ℕ) (s : ℕ) {level manner : ℕ} (l : level ≡ byte b (irqPlace s + 2)) (m : manner ≡ byte b (irqPlace s + 3)) (set : ℕ) where
-  pub own-held : set ≡ 2 ^ heldAs level manner → Covers set (Held b s)
-  own-held e k h =
-      subst (λ (j : ℕ). bit set j ≡ 1) (ap₂ heldAs l m ∙ h .number) (ap (λ (n : ℕ). bit n (heldAs level manner)) e ∙ one-bit (heldAs level manner))
+module _ (b : List ℕ) (s : ℕ) {level manner : ℕ} (l : level ≡ byte b (irqPlace s + 2)) (m : manner ≡ byte b (irqPlace s + 3)) (u : IrqUsed b s) (set : ℕ) where
+  pub own-held : set ≡ 2 ^ heldAs level manner → Exactly set (Held b s)
+  own-held e = record { has = has; only = λ k o. record { used = u; number = sym (ap₂ heldAs l m) ∙ one-only (heldAs level manner) k (ap (λ (n : ℕ). bit n k) (sym e) ∙ o) } }
+    where
+      has : (k : ℕ) → Held b s k → bit set k ≡ 1
+      has k h = ap₂ bit e (sym (ap₂ heldAs l m ∙ h .number)) ∙ one-bit (heldAs level manner)
 
-  pub apart-against : (apart : ℕ) → MannersApart manner apart → set ≡ apart * 2 ^ (level * 4) → Covers set (Against b s)
-  apart-against apart a e k g =
-      subst (λ (j : ℕ). bit set j ≡ 1) (ap (λ (n : ℕ). heldAs n (g .manner)) l ∙ g .number)
-      (ap (λ (n : ℕ). bit n (heldAs level (g .manner))) e ∙ shifted-bit apart level (g .manner) ∙ a .covers (g .manner) (g .last, rw m (g .apart)))
+  pub apart-against : (apart : ℕ) → MannersApart manner apart → set ≡ apart * 2 ^ (level * 4) → Exactly set (Against b s)
+  apart-against apart a e = record { has = has; only = only }
+    where
+      has : (k : ℕ) → Against b s k → bit set k ≡ 1
+      has k g =
+          ap₂ bit e (sym (ap (λ (n : ℕ). heldAs n (g .manner)) l ∙ g .number)) ∙ shifted-bit apart (level * 4) (g .manner)
+          ∙ a .apart .has (g .manner) (g .last, rw m (g .apart))
 
--- grants of which neither holds its level in a manner that doesn't go with the other's
-module _ (b : List ℕ) (s t x y : ℕ) (e : bitAnd x y ≡ 0) (below : Covers x (Held b t)) (against : Covers y (Against b s)) (place : IrqPlaceSound b t) where
-  pub levels-apart : IrqPairSound b s t
+      only : (k : ℕ) → bit set k ≡ 1 → Against b s k
+      only k o =
+          let at = shifted-only apart (level * 4) k (ap (λ (n : ℕ). bit n k) (sym e) ∙ o) in
+          let manners = a .apart .only (at .0) (at .2) in
+          record {
+            used = u;
+            manner = at .0;
+            last = manners .0;
+            apart = rw m at (manners .1);
+            number = ap (λ (n : ℕ). heldAs n (at .0)) (sym l) ∙ at .1;
+          }
+
+-- what the sockets passed hold, and one more
+pub held-more : (b : List ℕ) (n x y : ℕ) → Exactly x (HeldBelow b n) → Exactly y (Held b n) → Exactly (bitOr x y) (HeldBelow b (n + 1))
+held-more b n x y h o = record { has = λ k p. has k (p .0) (p .2) (eq-or-lt-of-le (omega (arith, p .1))); only = only }
+  where
+    has : (k s : ℕ) → Held b s k → (s ≡ n) ⊎ (s < n) → bit (bitOr x y) k ≡ 1
+    has k s p (inl e) = or-right x y k (o .has k (subst (λ (t : ℕ). Held b t k) e p))
+    has k s p (inr l) = or-left x y k (h .has k (s, l, p))
+
+    only : (k : ℕ) → bit (bitOr x y) k ≡ 1 → HeldBelow b (n + 1) k
+    only k e = ⊎-elim (λ p. let u = h .only k p in (u .0, omega (arith, u .1), u .2)) (λ p. (n, omega arith, o .only k p)) (or-either x y k e)
+
+module _ (b : List ℕ) (s : ℕ) (places : PlacesSound (IrqPlaceSound b) s) where
+  manner-last : (t : ℕ) → t < s → IrqUsed b t → byte b (irqPlace t + 3) ≤ 3
+  manner-last t l u = used-sound b (irqPlace t) (irqPlace t + irqSize) (omega arith) (places t l) u .manner
+
+  apart-company : ((k : ℕ) → HeldBelow b s k → Against b s k → ⊥) → CompanySound (IrqPairSound b) s
   unfolding irqIn
-  levels-apart u u′ same = go (says-dec _ (rule-says (irqIn b s .manner) (irqIn b t .manner)))
+  apart-company n t l u u′ same = go (says-dec _ (rule-says (irqIn b s .manner) (irqIn b t .manner)))
     where
       go : Dec (Together (irqIn b s .manner) (irqIn b t .manner)) → Together (irqIn b s .manner) (irqIn b t .manner)
       go (yes g) = g
-      go (no n) =
+      go (no d) =
           absurd
-          (none-common x y e below against (heldAs (byte b (irqPlace t + 2)) (byte b (irqPlace t + 3)))
-          (record { used = u′; number = refl })
+          (n (heldAs (byte b (irqPlace t + 2)) (byte b (irqPlace t + 3))) (t, l, record { used = u′; number = refl })
           (record {
             used = u;
             manner = byte b (irqPlace t + 3);
-            last = used-sound b (irqPlace t) (irqPlace t + irqSize) (omega arith) place u′ .manner;
-            apart = n;
-            number = ap (λ (l : ℕ). heldAs l (byte b (irqPlace t + 3))) same;
+            last = manner-last t l u′;
+            apart = d;
+            number = ap (λ (x : ℕ). heldAs x (byte b (irqPlace t + 3))) same;
           }))
+
+  company-apart : CompanySound (IrqPairSound b) s → (k : ℕ) → HeldBelow b s k → Against b s k → ⊥
+  unfolding irqIn
+  company-apart c k h g =
+      let t = h .0 in
+      let held = h .2 in
+      let last = manner-last t (h .1) (held .used) in
+      let level : byte b (irqPlace s + 2) ≡ byte b (irqPlace t + 2) = omega (arith, g .number, held .number, g .last) in
+      let manner : byte b (irqPlace t + 3) ≡ g .manner = omega (arith, g .number, held .number, g .last) in
+      g .apart (subst (λ (x : ℕ). Together (mannerOf (byte b (irqPlace s + 3))) (mannerOf x)) manner (c t (h .1) (g .used) (held .used) level))
+
+  pub held-says : (x y : ℕ) → Exactly x (HeldBelow b s) → Exactly y (Against b s) → Says (eqb (bitAnd x y) 0) (CompanySound (IrqPairSound b) s)
+  held-says x y h a = says-as (common-says x y h a) apart-company company-apart

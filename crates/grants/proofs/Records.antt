@@ -1,5 +1,5 @@
--- Four bytes are zero where the number that they say is; managed ports, a level and manners, read, are those that a record says; and two grants are held
--- against each other where both are there. Assumes nothing.
+-- Four bytes are zero where the number that they say is; a record that is used is sound, and records that are all zero keep company; managed ports, read,
+-- are those that a record says; and two grants are held against each other where both are there. Assumes nothing.
 use mathlib.Core.Path.{_≡_, ap, _∙_}
 use mathlib.Core.Logic.{_⊎_, inl, ⊎-elim, _≢_}
 use mathlib.Core.List.{List}
@@ -10,9 +10,7 @@ use Rattle.facts.specs.Table.{mostSockets}
 use Rattle.facts.specs.Says.{Says}
 use Rattle.facts.specs.Packets.{byte, word, long}
 use Rattle.facts.specs.Ports.{Within}
-use Rattle.facts.specs.Levels.{Together}
 use Rattle.facts.proofs.Says.{says-true, says-as, says-yes, says-no}
-use Rattle.layout.specs.Reading.{irqPlace, irqIn, mannerOf}
 use Rattle.layout.specs.Sound.{Zero, ManagedIn}
 use Rattle.reading.proofs.All.{All, all-none, all-more}
 use Rattle.grants.specs.declared.ios.Ports.{Ports}
@@ -74,17 +72,6 @@ Managed b base count = (q : ℕ) → Within q base count → ManagedIn b q
 pub managed-read : {b : List ℕ} {at : ℕ} {p : Ports} {r : Bool} → PortsAt b at p → Says r (Managed b (p .base) (p .count))
     → Says r (Managed b (word b (at + 2)) (byte b (at + 4)))
 managed-read a s = rw (a .base, a .count) at s
-
--- the level that a record says
-pub level-read : (b : List ℕ) (s : ℕ) {n : ℕ} → n ≡ byte b (irqPlace s + 2) → n ≡ irqIn b s .level
-unfolding irqIn
-level-read b s e = e
-
--- whether the manners that two records say go together
-pub manners-read : (b : List ℕ) (s t : ℕ) {r : Bool} → Says r (Together (mannerOf (byte b (irqPlace s + 3))) (mannerOf (byte b (irqPlace t + 3))))
-    → Says r (Together (irqIn b s .manner) (irqIn b t .manner))
-unfolding irqIn
-manners-read b s t a = a
 
 -- two records that may have a client each, and P where both have
 module _ {both : Bool} {A A′ P : Type 0} (used : Says both (A × A′)) where

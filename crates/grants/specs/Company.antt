@@ -18,6 +18,11 @@ Covers set P = (k : ℕ) → P k → bit set k ≡ 1
 abbrev pub CoversBelow : ℕ → ℕ → (ℕ → ℕ → Type 0) → Type 0
 CoversBelow set n P = (s : ℕ) → s < n → Covers set (P s)
 
+-- the set has just the numbers that P says
+pub record Exactly (set : ℕ) (P : ℕ → Type 0) : Type 0 where
+  pub has : Covers set P
+  pub only : (k : ℕ) → bit set k ≡ 1 → P k
+
 -- ports stand in blocks of 256, which are counted modulo 64
 abbrev pub blockOf : ℕ → ℕ
 blockOf p = p / 256 % 64
@@ -39,15 +44,19 @@ pub record Answers (b : List ℕ) (s k : ℕ) : Type 0 where
 abbrev pub heldAs : ℕ → ℕ → ℕ
 heldAs level manner = level * 4 + manner
 
--- the set, of manners alone, has each that doesn't go with the manner n
+-- the set is that of the manners that don't go with the manner n
 pub record MannersApart (n set : ℕ) : Type 0 where
   pub manners : set < 2 ^ 4
-  pub covers : Covers set (λ m. (m ≤ 3) × (Together (mannerOf n) (mannerOf m) → ⊥))
+  pub apart : Exactly set (λ m. (m ≤ 3) × (Together (mannerOf n) (mannerOf m) → ⊥))
 
 -- the IRQ grant of the socket s holds its level in its manner
 pub record Held (b : List ℕ) (s k : ℕ) : Type 0 where
   pub used : IrqUsed b s
   pub number : heldAs (byte b (irqPlace s + 2)) (byte b (irqPlace s + 3)) ≡ k
+
+-- so does that of some socket below n
+abbrev pub HeldBelow : List ℕ → ℕ → ℕ → Type 0
+HeldBelow b n k = (s : ℕ) × (s < n) × Held b s k
 
 -- the level of the IRQ grant of the socket s, in a manner that doesn't go with its own
 pub record Against (b : List ℕ) (s k : ℕ) : Type 0 where
@@ -59,5 +68,5 @@ pub record Against (b : List ℕ) (s k : ℕ) : Type 0 where
 
 -- the sets that say what the socket s holds
 pub record HoldingIs (b : List ℕ) (s : ℕ) (h : Holding) : Type 0 where
-  pub own : Covers (h .own) (Held b s)
-  pub against : Covers (h .against) (Against b s)
+  pub own : Exactly (h .own) (Held b s)
+  pub against : Exactly (h .against) (Against b s)

@@ -1,5 +1,4 @@
 // The I/O grants: a socket's record, and the company that it keeps with those of the sockets below it.
-use crate::sockets::both_used;
 use crate::sockets::holder_sound;
 use facts::Socket;
 use layout::IO_BASE;
@@ -14,6 +13,7 @@ use layout::MARKED;
 use layout::MOST_LINES;
 use layout::MOST_SOCKETS;
 ghost use mathlib.Core.Path.{_≡_};
+ghost use mathlib.Core.Logic.{_≢_};
 ghost use Prim.Native.Nat.{_+_, _^_, _<_, _≤_};
 ghost use lib.ListN.{length};
 ghost use Rattle.facts.specs.Table;
@@ -124,6 +124,19 @@ fn both_shared(t: &[u8], at: usize, other: usize) -> bool
         return false;
     }
     reading::byte(t, other + IO_SHARED) == MARKED
+}
+
+// Whether the records at two places have a client each.
+fn both_used(t: &[u8], at: usize, other: usize) -> bool
+    requires { ⌜ (at + 1 < length (now t)) × (other + 1 < length (now t)) ⌝ }
+    ensures { λ r. ⌜ Says r ((Packets.word (now (t .entry)) at ≢ 0) × (Packets.word (now (t .entry)) other ≢ 0)) ⌝ }
+{
+    let client = reading::handle(t, at);
+    if client.0 == 0 {
+        return false;
+    }
+    let client2 = reading::handle(t, other);
+    client2.0 != 0
 }
 
 // "grants meet only as demand 3 allows"

@@ -1,7 +1,5 @@
 // The IRQ grants: a socket's record, and the company that it keeps with those of the sockets below it.
-use crate::sockets::both_used;
 use crate::sockets::holder_sound;
-use crate::sockets::same_client;
 use facts::Socket;
 use layout::ALL_LEVELS;
 use layout::CLIENTS_AT;
@@ -16,23 +14,35 @@ use layout::LEVELS_AT;
 use layout::MARKED;
 use layout::MOST_SOCKETS;
 ghost use mathlib.Core.Path.{_≡_};
+ghost use mathlib.Core.Logic.{_≢_};
 ghost use Prim.Native.Nat.{_+_, _<_, _≤_};
 ghost use lib.ListN.{length};
 ghost use Rattle.facts.specs.Table;
 ghost use Rattle.facts.specs.Says.{Says};
 ghost use Rattle.facts.specs.Packets;
-ghost use Rattle.facts.specs.Levels.{Together};
 ghost use Rattle.layout.specs.Layout.{tableSize};
-ghost use Rattle.layout.specs.Reading.{clientsIn, mannerOf};
+ghost use Rattle.layout.specs.Reading.{clientsIn};
 ghost use Rattle.layout.specs.Sound.{IoPlaceSound, IrqPlaceSound, IrqPairSound, CountsSound, ClientsSound};
 ghost use Rattle.grants.specs.Parts.{HolderSound, PlacesSound, CompanySound, SocketSound, IosSound, IrqsSound};
-ghost use Rattle.grants.specs.Company.{MannersApart, Held, HoldingIs, CoversBelow};
+ghost use Rattle.grants.specs.Company.{Exactly, MannersApart, HeldBelow, HoldingIs};
 
 // The manners are 0 to 3.
 const LAST_MANNER: usize = 3;
 
 // A level and a manner are one number: the level's manners stand side by side, so that a set of them has a bit for each.
 const ALL_MANNERS: usize = LAST_MANNER + 1;
+
+// Whether the records at two places have a client, and the same one.
+fn same_client(t: &[u8], at: usize, other: usize) -> bool
+    requires { ⌜ (at + 1 < length (now t)) × (other + 1 < length (now t)) ⌝ }
+    ensures { λ r. ⌜ Says r ((Packets.word (now (t .entry)) at ≢ 0) × (Packets.word (now (t .entry)) other ≡ Packets.word (now (t .entry)) at)) ⌝ }
+{
+    let client = reading::handle(t, at);
+    if client.0 == 0 {
+        return false;
+    }
+    reading::granted(t, other, client)
+}
 
 // The client and the socket of an IRQ grant, whose record stands at a place: sound where the socket's I/O grant has the same client, as most often.
 fn irq_holder_sound(t: &[u8], at: usize, s: Socket) -> bool
@@ -71,34 +81,6 @@ fn irq_place_sound(t: &[u8], s: Socket) -> bool
     irq_holder_sound(t, at, s)
 }
 
-// Whether the manners of the grants whose records stand at two places go together.
-fn manners_share(t: &[u8], at: usize, other: usize) -> bool
-    requires { ⌜ (at + 3 < length (now t)) × (other + 3 < length (now t)) ⌝ }
-    ensures { λ r. ⌜ Says r (Together (mannerOf (Packets.byte (now (t .entry)) (at + 3))) (mannerOf (Packets.byte (now (t .entry)) (other + 3)))) ⌝ }
-{
-    let manner = reading::manner_of(reading::byte(t, at + IRQ_MANNER));
-    let manner2 = reading::manner_of(reading::byte(t, other + IRQ_MANNER));
-    levels::together(manner, manner2)
-}
-
-// "grants meet only as demand 3 allows"
-fn irq_pair_sound(t: &[u8], s: Socket, u: Socket) -> bool
-    requires { ⌜ (length (now t) ≡ tableSize) × (s .0 < Table.mostSockets) × (u .0 < Table.mostSockets) ⌝ }
-    ensures { λ r. ⌜ Says r (IrqPairSound (now (t .entry)) (s .0) (u .0)) ⌝ }
-{
-    let one = s.0;
-    let at = IRQS_AT + one * IRQ_SIZE;
-    let two = u.0;
-    let other = IRQS_AT + two * IRQ_SIZE;
-    if !both_used(t, at, other) {
-        return true;
-    }
-    if reading::byte(t, at + IRQ_LEVEL) != reading::byte(t, other + IRQ_LEVEL) {
-        return true;
-    }
-    manners_share(t, at, other)
-}
-
 // "Two manners go together by a four by four table: only equal ones, and never exclusive.": a bit for each manner that doesn't go with one.
 fn manners_apart(n: usize) -> u64
     ensures { λ r. ⌜ MannersApart n r ⌝ }
@@ -134,28 +116,19 @@ fn irq_holding(t: &[u8], s: Socket) -> Holding
     Holding { own, against }
 }
 
-// The IRQ grant of the socket `s`, held against that of each socket below it where one of them holds its level in a manner that doesn't go with its own.
+// "grants meet only as demand 3 allows": whether no socket below `s` holds its level in a manner that doesn't go with its own.
 fn irq_company_sound(t: &[u8], s: Socket, held: u64) -> bool
     requires { ⌜ (length (now t) ≡ tableSize) × (s .0 < Table.mostSockets) × PlacesSound (IrqPlaceSound (now t)) (s .0 + 1) ⌝ }
-    requires { ⌜ CoversBelow held (s .0) (Held (now t)) ⌝ }
+    requires { ⌜ Exactly held (HeldBelow (now t) (s .0)) ⌝ }
     ensures { λ r. ⌜ Says r (CompanySound (IrqPairSound (now (t .entry))) (s .0)) ⌝ }
 {
     let holding = irq_holding(t, s);
-    if held & holding.against == 0 {
-        return true;
-    }
-    let number = s.0;
-    for u in 0..number {
-        if !irq_pair_sound(t, s, Socket(u)) {
-            return false;
-        }
-    }
-    true
+    held & holding.against == 0
 }
 
 fn irq_socket_sound(t: &[u8], s: Socket, held: u64) -> bool
     requires { ⌜ (length (now t) ≡ tableSize) × (s .0 < Table.mostSockets) × CountsSound (now t) × ClientsSound (now t) ⌝ }
-    requires { ⌜ IoPlaceSound (now t) (s .0) × PlacesSound (IrqPlaceSound (now t)) (s .0) × CoversBelow held (s .0) (Held (now t)) ⌝ }
+    requires { ⌜ IoPlaceSound (now t) (s .0) × PlacesSound (IrqPlaceSound (now t)) (s .0) × Exactly held (HeldBelow (now t) (s .0)) ⌝ }
     ensures { λ r. ⌜ Says r (SocketSound (IrqPlaceSound (now (t .entry))) (IrqPairSound (now (t .entry))) (s .0)) ⌝ }
 {
     if !irq_place_sound(t, s) {

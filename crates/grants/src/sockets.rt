@@ -6,12 +6,10 @@ use layout::CARDS_AT;
 use layout::MOST_SOCKETS;
 use layout::SOCKETS_IN;
 ghost use mathlib.Core.Path.{_≡_};
-ghost use mathlib.Core.Logic.{_≢_};
 ghost use Prim.Native.Nat.{_+_, _<_, _≤_};
 ghost use lib.ListN.{length};
 ghost use Rattle.facts.specs.Table;
 ghost use Rattle.facts.specs.Says.{Says};
-ghost use Rattle.facts.specs.Packets;
 ghost use Rattle.layout.specs.Layout.{tableSize};
 ghost use Rattle.layout.specs.Reading.{clientsIn};
 ghost use Rattle.layout.specs.Sound.{CountsSound, ClientsSound, RangesSound};
@@ -61,31 +59,6 @@ pub fn holder_sound(t: &[u8], at: usize, s: Socket) -> bool
         return false;
     }
     reading::live(t, reading::handle(t, at))
-}
-
-// Whether the records at two places have a client each.
-pub fn both_used(t: &[u8], at: usize, other: usize) -> bool
-    requires { ⌜ (at + 1 < length (now t)) × (other + 1 < length (now t)) ⌝ }
-    ensures { λ r. ⌜ Says r ((Packets.word (now (t .entry)) at ≢ 0) × (Packets.word (now (t .entry)) other ≢ 0)) ⌝ }
-{
-    let client = reading::handle(t, at);
-    if client.0 == 0 {
-        return false;
-    }
-    let client2 = reading::handle(t, other);
-    client2.0 != 0
-}
-
-// Whether the records at two places have a client, and the same one.
-pub fn same_client(t: &[u8], at: usize, other: usize) -> bool
-    requires { ⌜ (at + 1 < length (now t)) × (other + 1 < length (now t)) ⌝ }
-    ensures { λ r. ⌜ Says r ((Packets.word (now (t .entry)) at ≢ 0) × (Packets.word (now (t .entry)) other ≡ Packets.word (now (t .entry)) at)) ⌝ }
-{
-    let client = reading::handle(t, at);
-    if client.0 == 0 {
-        return false;
-    }
-    reading::granted(t, other, client)
 }
 
 // The cards and the grants of all sockets.

@@ -1,6 +1,6 @@
 -- `grants::irqs::irq_holding` meets its contract: a level below 16 and a manner below 4 are a number below 64, so no bit is shifted out.
 -- Assumes nothing.
-use mathlib.Core.Path.{_∙_}
+use mathlib.Core.Path.{sym, _∙_}
 use Prim.Native.Nat.{_+_, _<_}
 use native.Mathlib.Nat.{one-mul}
 use native.Mathlib.Omega.{arith}
@@ -9,8 +9,9 @@ use denote.Ref.{now}
 use lib.Pow.{shl-exact}
 use Rattle.layout.specs.Layout.{irqSize}
 use Rattle.layout.specs.Reading.{irqPlace}
-use Rattle.layout.specs.Sound.{IrqSound}
+use Rattle.layout.specs.Sound.{IrqUsed, IrqSound}
 use Rattle.grants.specs.Company.{heldAs}
+use Rattle.grants.proofs.Covering.{exactly-none}
 use Rattle.grants.proofs.Manners.{own-held, apart-against}
 use Rattle.grants.proofs.Records.{used-sound}
 use Rattle.grants.proofs.irqs.irq_holding.Statement.{statement}
@@ -23,11 +24,14 @@ begun c = c .before .before .before
 abbrev found : tie.After-byte2 → tie.Else1
 found c = c .before .before
 
+used : (c : tie.Else1) → let a = begun c .args in IrqUsed (now (a .t)) (a .s .0)
+used c e = c .if1 .left (c .before .word .ensures .0 ∙ e)
+
 grant : (c : tie.Else1) → let a = begun c .args in IrqSound (now (a .t)) (a .s .0)
 grant c =
     let a = begun c .args in
     let at = irqPlace (a .s .0) in
-    used-sound (now (a .t)) at (at + irqSize) (omega arith) (begun c .pre .2) (λ e. c .if1 .left (c .before .word .ensures .0 ∙ e))
+    used-sound (now (a .t)) at (at + irqSize) (omega arith) (begun c .pre .2) (used c)
 
 number : (c : tie.After-byte2) → heldAs (c .byte2 .result) (c .before .byte .result) < 64
 number c =
@@ -44,7 +48,9 @@ word-requires : tie.Need-word-requires
 word-requires c κs = search needs
 
 returns : tie.Need-returns
-returns c = search needs
+returns c =
+    let none = sym (c .before .word .ensures .0) ∙ c .if1 .taken in
+    record { own = exactly-none (λ k h. h .used none); against = exactly-none (λ k g. g .used none) }
 
 add-byte : tie.Need-add-byte
 add-byte c = search needs
@@ -79,10 +85,11 @@ returns-2 c =
     let a = begun (found read) .args in
     let manner = read .before .byte .ensures .0 in
     let level = read .byte2 .ensures .0 in
+    let here = used (found read) in
     record {
-      own = own-held (now (a .t)) (a .s .0) level manner _ (shl-exact 1 _ 64 (omega arith) (omega (arith, number read)) ∙ one-mul _);
+      own = own-held (now (a .t)) (a .s .0) level manner here _ (shl-exact 1 _ 64 (omega arith) (omega (arith, number read)) ∙ one-mul _);
       against =
-          apart-against (now (a .t)) (a .s .0) level manner _ _ (c .manners-apart .ensures)
+          apart-against (now (a .t)) (a .s .0) level manner here _ _ (c .manners-apart .ensures)
           (shl-exact 4 _ 64 (c .manners-apart .ensures .manners) (omega (arith, number read)));
     }
 

@@ -11,14 +11,15 @@ use Rattle.layout.specs.Reading.{irqPlace}
 use Rattle.layout.specs.Sound.{IrqPlaceSound, IrqPairSound}
 use Rattle.reading.proofs.All.{SoFar, so-far-none, so-far-next, so-far-stop, so-far-end}
 use Rattle.grants.specs.Parts.{SocketSound}
-use Rattle.grants.specs.Company.{Held, CoversBelow}
-use Rattle.grants.proofs.Covering.{covers-none, covers-more}
+use Rattle.grants.specs.Company.{Exactly, HeldBelow}
+use Rattle.grants.proofs.Covering.{exactly-none}
+use Rattle.grants.proofs.Manners.{held-more}
 use Rattle.grants.proofs.Records.{zero-sound}
 use Rattle.grants.proofs.irqs.irqs_sound.Statement.{statement}
 use Rattle.grants.proofs.irqs.irqs_sound.Tie as tie
 
 abbrev Inv-loop : tie.InvT-loop
-Inv-loop t held₀ s₀ held s = SoFar mostSockets (SocketSound (IrqPlaceSound t) (IrqPairSound t)) s × CoversBelow held s (Held t)
+Inv-loop t held₀ s₀ held s = SoFar mostSockets (SocketSound (IrqPlaceSound t) (IrqPairSound t)) s × Exactly held (HeldBelow t s)
 
 abbrev μ-loop : tie.MeasureT-loop
 μ-loop t held₀ s₀ held s = mostSockets - s
@@ -40,7 +41,7 @@ returns c =
     (c .before .zero .ensures .holds (c .if1 .taken)))
 
 loop-holds : tie.Need-loop-holds Inv-loop μ-loop
-loop-holds c = (so-far-none, covers-none _)
+loop-holds c = (so-far-none, exactly-none (λ k h. omega (arith, h .1)))
 
 irq-socket-sound-requires : tie.Need-irq-socket-sound-requires Inv-loop μ-loop
 irq-socket-sound-requires c κs =
@@ -67,7 +68,7 @@ loop-again c =
     let passed = c .before .before in
     let inv = turn passed .before .loop .inv in (
       so-far-next (inv .0) (turn passed .loop-test .taken) (passed .before .irq-socket-sound .ensures) (passed .if2 .left),
-      covers-more _ _ _ _ (inv .1) (c .before .irq-holding .ensures .own),
+      held-more _ _ _ _ (inv .1) (c .before .irq-holding .ensures .own),
     )
 
 returns-3 : tie.Need-returns-3 Inv-loop μ-loop

@@ -1,10 +1,10 @@
--- `grants::sockets::both_used` meets its contract: a record's client is not 0.
+-- `grants::ios::both_used` meets its contract: a record's client is not 0.
 -- Assumes nothing.
 use mathlib.Core.Path.{sym, _∙_}
 use borrow.Author.Needs.{needs}
 use Rattle.facts.proofs.Says.{says-false, says-as, says-not, says-eq}
-use Rattle.grants.proofs.sockets.both_used.Statement.{statement}
-use Rattle.grants.proofs.sockets.both_used.Tie as tie
+use Rattle.grants.proofs.ios.both_used.Statement.{statement}
+use Rattle.grants.proofs.ios.both_used.Tie as tie
 
 handle-requires : tie.Need-handle-requires
 handle-requires c κs = search needs

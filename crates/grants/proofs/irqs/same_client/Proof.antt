@@ -1,10 +1,10 @@
--- `grants::sockets::same_client` meets its contract: the client read is not 0, and is the other record's too.
+-- `grants::irqs::same_client` meets its contract: the client read is not 0, and is the other record's too.
 -- Assumes nothing.
 use mathlib.Core.Path.{sym, _∙_}
 use borrow.Author.Needs.{needs}
 use Rattle.facts.proofs.Says.{says-false, says-as}
-use Rattle.grants.proofs.sockets.same_client.Statement.{statement}
-use Rattle.grants.proofs.sockets.same_client.Tie as tie
+use Rattle.grants.proofs.irqs.same_client.Statement.{statement}
+use Rattle.grants.proofs.irqs.same_client.Tie as tie
 
 handle-requires : tie.Need-handle-requires
 handle-requires c κs = search needs
