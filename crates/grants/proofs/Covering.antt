@@ -1,4 +1,5 @@
--- Sets with a bit for each number: what two of them have together, and that sets without a bit in common say nothing in common. Assumes nothing.
+-- Sets with a bit for each number: of one number, of all below a bound, shifted; what two of them have together, and whether they have a number in common.
+-- Assumes nothing.
 use mathlib.Core.Path.{_≡_, refl, sym, ap, _∙_}
 use mathlib.Core.Logic.{_⊎_, inl, inr, _≢_}
 use Prim.Native.Nat.{ℕ, suc, _+_, _-_, _*_, _/_, _%_, _^_, _≤_, _<_, min, max}
@@ -33,6 +34,7 @@ all-bits n k l =
     odd : (2 ^ suc more - 1) % 2 ≡ 1
     odd = omega (arith, pow-suc 2 more, pow-pos more)
 
+-- a number is in one of two sets, or in both
 module _ (x y k : ℕ) where
   bit-or : bit (bitOr x y) k ≡ max (bit x k) (bit y k)
   bit-or = ap (λ (n : ℕ). n % 2) (or-shr x y k) ∙ omega (arith, or-step (x / 2 ^ k) (y / 2 ^ k))
@@ -59,6 +61,7 @@ module _ (x y k : ℕ) where
   both-bits : bit x k ≡ 1 → bit y k ≡ 1 → bit (bitAnd x y) k ≡ 1
   both-bits e f = omega (arith, bit-and)
 
+-- a bit past the lowest is one of the half, and 0 has none
 higher-bit : (n k : ℕ) → bit n (suc k) ≡ bit (n / 2) k
 higher-bit n k = ap (λ (x : ℕ). x % 2) (ap (λ (x : ℕ). n / x) (pow-succ' 2 k) ∙ sym (div-div-eq-div-mul n 2 (2 ^ k)))
 
@@ -84,10 +87,12 @@ shifted-only set j k e = go (decLt k j)
     more : ℕ
     more = j - k - 1
 
+    twice : j ≡ suc more + k → set * 2 ^ j ≡ set * 2 ^ suc more * 2 ^ k
+    twice h = ap (λ (n : ℕ). set * n) (ap (λ (n : ℕ). 2 ^ n) h ∙ pow-add 2 (suc more) k) ∙ sym (mul-assoc set (2 ^ suc more) (2 ^ k))
+
     low : j ≡ suc more + k → bit (set * 2 ^ j) k ≡ 0
     low h =
-        ap (λ (n : ℕ). bit (set * 2 ^ n) k) h ∙ ap (λ (n : ℕ). bit n k) (ap (λ (n : ℕ). set * n) (pow-add 2 (suc more) k) ∙ sym (mul-assoc set (2 ^ suc more) (2 ^ k)))
-        ∙ ap (λ (n : ℕ). n % 2) (shl-shr (set * 2 ^ suc more) k) ∙ shifted-even set more
+        ap (λ (n : ℕ). bit n k) (twice h) ∙ ap (λ (n : ℕ). n % 2) (shl-shr (set * 2 ^ suc more) k) ∙ shifted-even set more
 
     go : Dec (k < j) → (m : ℕ) × (j + m ≡ k) × (bit set m ≡ 1)
     go (yes l) = absurd (omega (arith, low (omega arith)))

@@ -32,8 +32,8 @@ module _ (n set : ℕ) (m : Manner) (e : mannerOf n ≡ m) (l : set < 2 ^ 4) {r 
   bit-says : (k : ℕ) → k < 4 → Says (eqb (bit set k) 1) (Together (mannerOf n) (mannerOf k) → ⊥)
   bit-says k h = rw (e, below-at 4 (λ j. eqb (bit set j) 1 ≡ not (r j)) a k h) (says-not (s k))
 
-  has : (k : ℕ) → k < 4 → (Together (mannerOf n) (mannerOf k) → ⊥) → bit set k ≡ 1
-  has k h p = go (ℕ-discrete (bit set k) 1)
+  apart-bit : (k : ℕ) → k < 4 → (Together (mannerOf n) (mannerOf k) → ⊥) → bit set k ≡ 1
+  apart-bit k h p = go (ℕ-discrete (bit set k) 1)
     where
       go : Dec (bit set k ≡ 1) → bit set k ≡ 1
       go (yes b) = b
@@ -44,18 +44,24 @@ module _ (n set : ℕ) (m : Manner) (e : mannerOf n ≡ m) (l : set < 2 ^ 4) {r 
       record {
         manners = l;
         apart = record {
-          has = λ k p. has k (omega (arith, p .0)) (p .1);
+          has = λ k p. apart-bit k (omega (arith, p .0)) (p .1);
           only = λ k b. let h = bit-below set 4 k l b in (omega arith, bit-says k h .holds (eq-eqb _ _ b));
         };
       }
 
 -- what a grant holds, by the level and the manner that its record says
-module _ (b : List ℕ) (s : ℕ) {level manner : ℕ} (l : level ≡ byte b (irqPlace s + 2)) (m : manner ≡ byte b (irqPlace s + 3)) (u : IrqUsed b s) (set : ℕ) where
+module _ (b : List ℕ) (s : ℕ) {level manner : ℕ} (l : level ≡ byte b (irqPlace s + 2)) (m : manner ≡ byte b (irqPlace s + 3)) (u : IrqUsed b s)
+    (set : ℕ) where
   pub own-held : set ≡ 2 ^ heldAs level manner → Exactly set (Held b s)
-  own-held e = record { has = has; only = λ k o. record { used = u; number = sym (ap₂ heldAs l m) ∙ one-only (heldAs level manner) k (ap (λ (n : ℕ). bit n k) (sym e) ∙ o) } }
+  own-held e = record { has = has; only = only }
     where
       has : (k : ℕ) → Held b s k → bit set k ≡ 1
       has k h = ap₂ bit e (sym (ap₂ heldAs l m ∙ h .number)) ∙ one-bit (heldAs level manner)
+
+      only : (k : ℕ) → bit set k ≡ 1 → Held b s k
+      only k o =
+          let same = one-only (heldAs level manner) k (ap (λ (n : ℕ). bit n k) (sym e) ∙ o) in
+          record { used = u; number = sym (ap₂ heldAs l m) ∙ same }
 
   pub apart-against : (apart : ℕ) → MannersApart manner apart → set ≡ apart * 2 ^ (level * 4) → Exactly set (Against b s)
   apart-against apart a e = record { has = has; only = only }
@@ -88,6 +94,7 @@ held-more b n x y h o = record { has = λ k p. has k (p .0) (p .2) (eq-or-lt-of-
     only : (k : ℕ) → bit (bitOr x y) k ≡ 1 → HeldBelow b (n + 1) k
     only k e = ⊎-elim (λ p. let u = h .only k p in (u .0, omega (arith, u .1), u .2)) (λ p. (n, omega arith, o .only k p)) (or-either x y k e)
 
+-- the grant of the socket s, held against what the sockets below it hold
 module _ (b : List ℕ) (s : ℕ) (places : PlacesSound (IrqPlaceSound b) s) where
   manner-last : (t : ℕ) → t < s → IrqUsed b t → byte b (irqPlace t + 3) ≤ 3
   manner-last t l u = used-sound b (irqPlace t) (irqPlace t + irqSize) (omega arith) (places t l) u .manner

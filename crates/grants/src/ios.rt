@@ -209,6 +209,7 @@ fn io_company_sound(t: &[u8], s: Socket, blocks: u64) -> bool
     true
 }
 
+// The I/O record of the socket `s`, and the company that its grant keeps with those below it.
 fn io_socket_sound(t: &[u8], s: Socket, blocks: u64) -> bool
     requires { ⌜ (length (now t) ≡ tableSize) × (s .0 < Table.mostSockets) × CountsSound (now t) × ClientsSound (now t) × RangesSound (now t) ⌝ }
     requires { ⌜ PlacesSound (IoPlaceSound (now t)) (s .0) × CoversBelow blocks (s .0) (Answers (now t)) ⌝ }

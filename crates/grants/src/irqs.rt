@@ -126,6 +126,7 @@ fn irq_company_sound(t: &[u8], s: Socket, held: u64) -> bool
     held & holding.against == 0
 }
 
+// The IRQ record of the socket `s`, and the company that its grant keeps with those below it.
 fn irq_socket_sound(t: &[u8], s: Socket, held: u64) -> bool
     requires { ⌜ (length (now t) ≡ tableSize) × (s .0 < Table.mostSockets) × CountsSound (now t) × ClientsSound (now t) ⌝ }
     requires { ⌜ IoPlaceSound (now t) (s .0) × PlacesSound (IrqPlaceSound (now t)) (s .0) × Exactly held (HeldBelow (now t) (s .0)) ⌝ }
