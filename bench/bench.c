@@ -2,7 +2,7 @@
  * bench.c: what a call costs
  *
  * Times, in one run and interleaved, the median of many repetitions of each
- * call on seven tables, beside memcmp of as many bytes, beside a call that is
+ * call on nine tables, beside memcmp of as many bytes, beside a call that is
  * refused on the same table and beside model_read, the same check of the table
  * in plain C. A boot list needs a fresh table each time: what is timed is
  * cs_fresh and cs_boot, and cs_fresh's own time is taken off. A granted IRQ, I/O
@@ -19,16 +19,17 @@
 #include "layout.h"
 #include "sets.h"
 
-/* How often a call is timed, and how often it is made each time; the same of one
-   that looks at every port. */
-enum { REPETITIONS = 301, BATCH = 100, LONG_REPETITIONS = 21, LONG_BATCH = 1 };
+/* How often a call is timed, and how often it is made each time. */
+enum { REPETITIONS = 301, BATCH = 100 };
 
 /* An I/O call on a named base costs at most so many times a bad handle. */
 #define NAMED_BAR 1.2
 
-/* A search for a base costs at most so many times memcmp, some milliseconds,
-   whatever the table. */
-#define SEARCH_BAR 12000
+/* A search for a base costs at most so many times memcmp, whatever the table. */
+#define SEARCH_BAR 6
+
+/* So does looking at a table. */
+#define LOOK_BAR 2
 
 static uint8_t table[CS_TABLE_SIZE], other[CS_TABLE_SIZE];
 static volatile uint32_t answered;
@@ -214,11 +215,11 @@ struct ports_of {
 };
 static struct ports_of ports; /* of the table laid out */
 
-static uint32_t request_io(uint16_t base, uint8_t count)
+static uint32_t request_io(uint16_t base, uint8_t count, uint8_t lines)
 {
     uint8_t packet[CS_REQUEST_IO_LENGTH] = {LAST_SOCKET, 0, (uint8_t)base, (uint8_t)(base >> 8),
                                             count};
-    packet[10] = CS_LINES;
+    packet[10] = lines;
     return CS_CODE(cs_call(table, sizeof table, CS_REQUEST_IO, last_client, packet, sizeof packet));
 }
 
@@ -230,34 +231,40 @@ static void put_io_back(void)
 
 static void ask_ports(void)
 {
-    answered = request_io(ports.free, GRANT_PORTS);
+    answered = request_io(ports.free, GRANT_PORTS, CS_LINES);
     put_io_back();
 }
 
 static void ask_held_ports(void)
 {
-    answered = request_io(ports.held, GRANT_PORTS);
+    answered = request_io(ports.held, GRANT_PORTS, CS_LINES);
 }
 
 static void ask_unmanaged_ports(void)
 {
-    answered = request_io(ports.unmanaged, GRANT_PORTS);
+    answered = request_io(ports.unmanaged, GRANT_PORTS, CS_LINES);
 }
 
 static void ask_any_ports(void)
 {
-    answered = request_io(0, GRANT_PORTS);
+    answered = request_io(0, GRANT_PORTS, CS_LINES);
     put_io_back();
 }
 
 static void ask_any_255_ports(void)
 {
-    answered = request_io(0, 255);
+    answered = request_io(0, 255, CS_LINES);
 }
 
 static void ask_any_port(void)
 {
-    answered = request_io(0, 1);
+    answered = request_io(0, 1, CS_LINES);
+}
+
+/* Of a card that decodes eight lines. */
+static void ask_any_port_of_few(void)
+{
+    answered = request_io(0, 1, 8);
 }
 
 static void give_ports_back(void)
@@ -349,14 +356,27 @@ static void memcmp_8192(void)
 
 /* ---- What is timed on which tables ---- */
 
-enum { FRESH, SIXTEEN_CLIENTS, ONE_RANGE, FULL, ONE_HOLDER, ALL_HELD, ALL_BARRED, TABLES };
+enum {
+    FRESH,
+    SIXTEEN_CLIENTS,
+    ONE_RANGE,
+    FULL,
+    ONE_HOLDER,
+    ALL_HELD,
+    ALL_BARRED,
+    MISSED,
+    LAST_RANGE,
+    TABLES
+};
 enum {
     EVERYWHERE = (1 << TABLES) - 1,
     MANAGED = 1 << ONE_RANGE | 1 << FULL,
     BOOTED = 1 << FRESH,
     HELD = 1 << ONE_HOLDER | 1 << ALL_HELD,
     BARRED = 1 << ALL_BARRED,
-    NOT_HELD = EVERYWHERE & ~HELD & ~BARRED
+    HARD = 1 << MISSED,
+    LAST = 1 << LAST_RANGE,
+    NOT_HELD = EVERYWHERE & ~HELD & ~BARRED & ~HARD & ~LAST
 };
 
 /* The first rows, which others are held against. */
@@ -408,6 +428,10 @@ static const struct call {
      SEARCH_BAR, MEMCMP},
     {"RequestIO of any port, IN_USE", ask_any_port, 1, false, BARRED, CS_IN_USE, SEARCH_BAR,
      MEMCMP},
+    {"RequestIO of any port by 8 lines, IN_USE", ask_any_port_of_few, 1, false, HARD, CS_IN_USE,
+     SEARCH_BAR, MEMCMP},
+    {"cs_sharers of a table that is long to look at", sharers, 1, true, LAST, CS_SUCCESS, LOOK_BAR,
+     MEMCMP},
     {"ReleaseIO", give_ports_back, 1, true, HELD, CS_SUCCESS, NAMED_BAR, BAD_HANDLE},
     {"ReleaseIO refused with BAD_BASE", give_ports_back, 1, false, HELD, CS_BAD_BASE, NAMED_BAR,
      BAD_HANDLE_A_PLACE_FREE},
@@ -433,11 +457,12 @@ static bool after_fresh(unsigned call)
     return calls[call].on == BOOTED && call != FRESH_CALL;
 }
 
-/* ---- The tables, without a place for a client, and on the last three for a grant
-   and a mask of the last socket; and with one ---- */
+/* ---- The tables, without a place for a client, and on the held and barred ones for
+   a grant and a mask of the last socket; and with one ---- */
 
-static const char *const table_names[TABLES] = {"fresh",      "16 clients", "one range", "full",
-                                                "one holder", "all held",   "all barred"};
+static const char *const table_names[TABLES] = {"fresh",  "16 clients", "one range",
+                                                "full",   "one holder", "all held",
+                                                "barred", "missed",     "last range"};
 static uint8_t images[TABLES][2][CS_TABLE_SIZE];
 
 static void only_clients(struct model *m, unsigned clients)
@@ -509,6 +534,39 @@ static void make_barred(bool full)
     model_image(&m, images[ALL_BARRED][full]);
 }
 
+/* Few bases are free, and no range has one of these: 32 ranges that lie alike, half
+   of them reserved, and seven grants by cards of few lines. */
+static void make_missed(bool full)
+{
+    static const struct {
+        uint16_t base;
+        uint8_t count, lines;
+    } grants[] = {{0x1B1, 3, 2},  {0x9CD, 4, 6},   {0x11BE, 4, 5}, {0x19EE, 3, 7},
+                  {0x21B7, 4, 4}, {0x2A30, 1, 11}, {0x31B4, 2, 3}};
+    static struct model m;
+    only_clients(&m, CS_CLIENTS);
+    for (uint32_t i = 0; i < CS_RANGES; i++)
+        m.range[m.ranges++] = (struct range){0x1B1 + 0x800 * i, 254, i % 2 == 1};
+    for (unsigned s = 0; s < LAST_SOCKET; s++) {
+        m.card[s] = true;
+        m.io[s] = (struct io_grant){true, 1, grants[s].base, grants[s].count, grants[s].lines, true};
+    }
+    m.card[LAST_SOCKET] = true;
+    model_image(&m, images[MISSED][full]);
+}
+
+/* Eight grants of 255 ports each, by cards of 12 lines, in the last of 32 ranges. */
+static void make_last_range(bool full)
+{
+    static struct model m;
+    only_clients(&m, CS_CLIENTS);
+    for (uint32_t i = 0; i < CS_RANGES; i++)
+        m.range[m.ranges++] = (struct range){0x100 + 0x400 * i, i == 31 ? 0x1000 : 0x100, false};
+    for (unsigned s = 0; s < CS_SOCKETS; s++)
+        m.io[s] = (struct io_grant){true, CS_CLIENTS, (uint16_t)(0x7D00 + 0x100 * s), 255, 12, false};
+    model_image(&m, images[LAST_RANGE][full]);
+}
+
 static void make_tables(void)
 {
     static struct model m;
@@ -526,6 +584,8 @@ static void make_tables(void)
         model_image(&m, images[FULL][full]);
         make_held(full);
         make_barred(full);
+        make_missed(full);
+        make_last_range(full);
     }
 }
 
@@ -535,7 +595,7 @@ static void lay_out(unsigned which, const struct call *call)
     memcpy(other, table, sizeof other);
     ranges = which == FULL ? CS_RANGES : 1;
     levels = which == FULL ? CS_LEVELS : 2;
-    last_client = which == ALL_HELD || which == ALL_BARRED ? CS_CLIENTS : 1;
+    last_client = which == ALL_HELD || which >= ALL_BARRED ? CS_CLIENTS : 1;
     ports = (struct ports_of){(uint16_t)grant_base(which, LAST_SOCKET),
                               (uint16_t)grant_base(which, LAST_SOCKET - 1), 0xFF00};
     fits = which == ALL_HELD ? (struct wish){CS_IRQ_EXCLUSIVE, 0xFF00}
@@ -553,19 +613,13 @@ static double now(void)
     return (double)t.tv_sec * 1e9 + (double)t.tv_nsec;
 }
 
-static bool looks_at_every_port(unsigned which, const struct call *call)
-{
-    return which == ALL_BARRED && (call->once == ask_any_port || call->once == ask_any_255_ports);
-}
-
 /* Nanoseconds for one call. */
 static double time_batch(unsigned which, const struct call *call)
 {
-    unsigned batch = looks_at_every_port(which, call) ? LONG_BATCH : BATCH;
     lay_out(which, call);
     call->once();
     double start = now();
-    for (unsigned i = 0; i < batch; i++)
+    for (unsigned i = 0; i < BATCH; i++)
         call->once();
     double taken = now() - start;
     if (answered != call->answer) {
@@ -573,7 +627,7 @@ static double time_batch(unsigned which, const struct call *call)
                 (unsigned long)answered);
         exit(2);
     }
-    return taken / batch / call->calls;
+    return taken / BATCH / call->calls;
 }
 
 static double samples[TABLES][CALLS][REPETITIONS];
@@ -584,17 +638,11 @@ static int by_size(const void *a, const void *b)
     return (x > y) - (x < y);
 }
 
-static unsigned repetitions(unsigned which, unsigned call)
-{
-    return looks_at_every_port(which, &calls[call]) ? LONG_REPETITIONS : REPETITIONS;
-}
-
 static double median(unsigned which, unsigned call)
 {
-    unsigned many = repetitions(which, call);
     double *values = samples[which][call];
-    qsort(values, many, sizeof *values, by_size);
-    return values[many / 2];
+    qsort(values, REPETITIONS, sizeof *values, by_size);
+    return values[REPETITIONS / 2];
 }
 
 static void take_samples(void)
@@ -602,7 +650,7 @@ static void take_samples(void)
     for (unsigned r = 0; r < REPETITIONS; r++)
         for (unsigned which = 0; which < TABLES; which++)
             for (unsigned i = 0; i < CALLS; i++)
-                if (timed_on(which, i) && r < repetitions(which, i))
+                if (timed_on(which, i))
                     samples[which][i][r] = time_batch(which, &calls[i]);
 }
 

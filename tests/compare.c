@@ -129,6 +129,7 @@ static const struct {
     {"I/O grants of a full table", io_full_table, 240},
     {"I/O by chance, small worlds", io_small_worlds, 289000},
     {"I/O by chance, large worlds", io_large_worlds, 24000},
+    {"I/O by chance, few bases free", io_barred_worlds, 79000},
     {"every event mask", mask_events, 16000},
     {"a mask of no event", mask_of_no_event, 20},
     {"masks of every client and socket", masks_of_all, 1500},

@@ -138,6 +138,7 @@ void io_full_table(void);
 /* compare_io_worlds.c: RequestIO and ReleaseIO by chance */
 void io_small_worlds(void);
 void io_large_worlds(void);
+void io_barred_worlds(void);
 
 /* compare_masks.c: RequestSocketMask and ReleaseSocketMask */
 void mask_events(void);

@@ -9,9 +9,10 @@
    most ranges are near each other or each other's images; in a large one counts
    and lines are any. Grants are made by the calls themselves. */
 
-/* How many worlds, and how many questions in each: a search for a base that finds
-   none looks at up to 65,535 candidates. */
+/* How many worlds, and how many questions in each: the model's search for a base
+   that finds none looks at up to 65,535 candidates, port by port. */
 enum { SMALL_WORLDS = 1600, IN_SMALL = 40, LARGE_WORLDS = 60, IN_LARGE = 60 };
+enum { BARRED_WORLDS = 400, IN_BARRED = 24 };
 
 struct world {
     uint32_t low, ports; /* the ports that are spoken of: so many from low on */
@@ -185,4 +186,64 @@ void io_large_worlds(void)
         end_log();
     }
     each_came_about(60);
+}
+
+/* ---- Bases that are chosen where few are free ---- */
+
+/* Ranges of one size, so far apart that they lie alike modulo a power of two, or
+   each a little further on. */
+static void manage_alike(struct chance *c)
+{
+    struct model m;
+    uint32_t apart = 256u << pick(c, 3), from = pick(c, apart / 2), ranges = 2 + pick(c, 15);
+    uint32_t count = 1 + pick(c, apart - from), slip = one_in(c, 2) ? 0 : pick(c, 9);
+    ready_set(&m, 0, 0);
+    for (uint32_t i = 0; i < ranges; i++)
+        manage(&m, i * (apart + slip) + from, count, one_in(c, 2));
+    lend_set(&m);
+}
+
+/* Shared grants on all sockets but the last, of cards that decode few lines: each
+   bars the same bases again and again. */
+static void bar_some(struct chance *c)
+{
+    for (uint8_t s = 0; s < CS_SOCKETS - 1; s++) {
+        const struct model *m = lent_facts();
+        const struct range *r = &m->range[pick(c, m->ranges)];
+        uint8_t lines = (uint8_t)(one_in(c, 8) ? 1 + pick(c, 16) : 5 + pick(c, 7));
+        uint32_t most = (uint32_t)1 << lines;
+        most = most < r->count ? most : r->count;
+        uint32_t count = 1 + pick(c, most < 255 ? most : 255);
+        uint32_t base = r->base + pick(c, r->count - count + 1);
+        request_io(1, s, (uint16_t)base, (uint8_t)count, SHARED, lines);
+    }
+}
+
+/* The last socket asks for any base, and gives it back. */
+static void ask_chosen(struct chance *c)
+{
+    const uint8_t last = CS_SOCKETS - 1;
+    uint8_t count = (uint8_t)(one_in(c, 2) ? 1 + pick(c, 8) : 1 + pick(c, 255));
+    uint8_t lines = (uint8_t)(8 + pick(c, 9));
+    uint32_t code = CS_CODE(request_io(2, last, 0, count, one_in(c, 2) ? SHARED : ALONE, lines));
+    seen.chosen += code == CS_SUCCESS;
+    seen.none += code == CS_IN_USE;
+    if (code == CS_SUCCESS)
+        release_io(2, last, lent_facts()->io[last].base, count);
+}
+
+void io_barred_worlds(void)
+{
+    struct chance c = {43};
+    memset(&seen, 0, sizeof seen);
+    for (unsigned i = 0; i < BARRED_WORLDS; i++) {
+        manage_alike(&c);
+        begin_log(i % 100 == 0 ? AFTER_EACH : AT_THE_END);
+        bar_some(&c);
+        for (unsigned k = 0; k < IN_BARRED; k++)
+            ask_chosen(&c);
+        end_log();
+    }
+    must_hold("ports were chosen where few bases are free", seen.chosen >= 1500);
+    must_hold("there was no candidate where few bases are free", seen.none >= 5000);
 }

@@ -50,7 +50,7 @@ refused() {
 refused clients lib.rt 'holds(t, i, h)' 'holds(t, i, i)' Handle usize
 refused clients lib.rt 'enter(t, n, handle,' 'enter(t, handle, n,' usize Handle
 refused clients lib.rt 'grant_on(t, Socket(s), h)' 'grant_on(t, h, h)' Socket Handle
-refused grants sockets.rt 'pair_sound(t, s, Socket(u))' 'pair_sound(t, s, u)' Socket usize
+refused grants ios.rt 'io_pair_sound(t, s, Socket(u))' 'io_pair_sound(t, s, u)' Socket usize
 refused sharers lib.rt 'sharer(t, level, Socket(s))' 'sharer(t, level, s)' Socket usize
 refused keeper lib.rt 'clients::deregister(table, Handle(handle), packet)' \
     'clients::deregister(table, Socket(3), packet)' Handle Socket
@@ -70,7 +70,7 @@ refused irq lib.rt 'enter(t, socket, h, level, levels::place(manner))' \
 refused fitting lib.rt 'mark(t, p, m, Socket(s), &mut way)' 'mark(t, p, m, s, &mut way)' Socket usize
 refused keeper lib.rt 'irq::request(table, Handle(handle), packet)' \
     'irq::request(table, handle, packet)' Handle u16
-refused meeting lib.rt 'on(t, base, count, lines, Socket(s))' 'on(t, base, count, lines, s)' Socket usize
+refused obstacles lib.rt 'met(t, Socket(s), count, lines, most)' 'met(t, s, count, lines, most)' Socket usize
 refused bases lib.rt 'stands(t, p, Socket(s))' 'stands(t, p, s)' Socket usize
 refused io_ports lib.rt 'grant_of(t, socket, h, base, count)' 'grant_of(t, h, socket, base, count)' Socket Handle
 refused io_ports lib.rt 'enter_asked(t, socket, h, base, p)' 'enter_asked(t, socket, base, h, p)' Handle usize

@@ -3,7 +3,7 @@ use mathlib.Core.Path.{_≡_, refl, ap, ap₂, sym, _∙_, subst}
 use mathlib.Core.Logic.{_↔_, _≢_}
 use mathlib.Core.Bool.{Bool, true, false}
 use Prim.Native.Nat.{ℕ, zero, suc, _+_, _-_, _*_, _/_, _%_, _^_, _≤_, _<_}
-use native.Mathlib.Nat.{div-one, div-eq-of-lt, zero-div, mod-eq-of-lt, mul-assoc, div-div-eq-div-mul, pow-succ', two-pow-succ}
+use native.Mathlib.Nat.{div-eq-of-lt, mod-eq-of-lt, mul-assoc, pow-succ', two-pow-succ}
 use native.Mathlib.Decide.{decLt}
 use native.Mathlib.Omega.{arith}
 use lib.Count.{trailingZeros, under}
@@ -12,20 +12,12 @@ use Rattle.facts.specs.Says.{Says}
 use Rattle.facts.specs.Table
 use Rattle.facts.specs.Packets.{bit}
 use Rattle.layout.specs.Layout.{mark}
+use Rattle.reading.proofs.Bits.{lowest-bit, higher-bit, no-bit}
 use Rattle.fitting.specs.Fitting.{BitsAre}
 
--- the lowest bit, the others by halving, and none past the number
-lowest-bit : (m : ℕ) → bit m 0 ≡ m % 2
-lowest-bit m = ap (λ (x : ℕ). x % 2) (div-one m)
-
-higher-bit : (m k : ℕ) → bit m (suc k) ≡ bit (m / 2) k
-higher-bit m k = ap (λ (x : ℕ). x % 2) (ap (λ (x : ℕ). m / x) (pow-succ' 2 k) ∙ sym (div-div-eq-div-mul m 2 (2 ^ k)))
-
+-- none is past the number
 bit-past : (m k : ℕ) → m < 2 ^ k → bit m k ≡ 0
 bit-past m k l = ap (λ (x : ℕ). x % 2) (div-eq-of-lt l)
-
-no-bit : (k : ℕ) → bit 0 k ≡ 0
-no-bit k = ap (λ (x : ℕ). x % 2) (zero-div (2 ^ k))
 
 -- a number below 2 ^ 16 has no bit past its sixteenth
 within : (m : ℕ) → m < 2 ^ Table.allLevels → {k : ℕ} → bit m k ≡ 1 → k < Table.allLevels

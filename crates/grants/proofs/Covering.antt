@@ -3,7 +3,7 @@
 use mathlib.Core.Path.{_≡_, refl, sym, ap, _∙_}
 use mathlib.Core.Logic.{_⊎_, inl, inr, _≢_}
 use Prim.Native.Nat.{ℕ, suc, _+_, _-_, _*_, _/_, _%_, _^_, _≤_, _<_, min, max}
-use native.Mathlib.Nat.{one-mul, mul-assoc, div-one, zero-div, div-eq-of-lt, div-div-eq-div-mul, pow-suc, pow-succ'}
+use native.Mathlib.Nat.{one-mul, mul-assoc, div-eq-of-lt, pow-suc}
 use native.Mathlib.Decide.{ℕ-discrete, decLt}
 use native.Mathlib.Omega.{arith}
 use lib.Arith.{bin-ind}
@@ -14,6 +14,7 @@ use Rattle.facts.specs.Says.{Says}
 use Rattle.facts.specs.Packets.{bit}
 use Rattle.facts.proofs.Says.{says-as, says-eq}
 use Rattle.reading.proofs.All.{all-none, all-more}
+use Rattle.reading.proofs.Bits.{lowest-bit, higher-bit, no-bit}
 use Rattle.grants.specs.Company.{Covers, CoversBelow, Exactly}
 
 -- the set of one number, and that of all below n
@@ -61,20 +62,13 @@ module _ (x y k : ℕ) where
   both-bits : bit x k ≡ 1 → bit y k ≡ 1 → bit (bitAnd x y) k ≡ 1
   both-bits e f = omega (arith, bit-and)
 
--- a bit past the lowest is one of the half, and 0 has none
-higher-bit : (n k : ℕ) → bit n (suc k) ≡ bit (n / 2) k
-higher-bit n k = ap (λ (x : ℕ). x % 2) (ap (λ (x : ℕ). n / x) (pow-succ' 2 k) ∙ sym (div-div-eq-div-mul n 2 (2 ^ k)))
-
-no-bit : (k : ℕ) → bit 0 k ≡ 0
-no-bit k = ap (λ (n : ℕ). n % 2) (zero-div (2 ^ k))
-
 -- a number that is not 0 has a bit
 some-bit : (n : ℕ) → n ≢ 0 → (k : ℕ) × (bit n k ≡ 1)
 some-bit =
     bin-ind (λ (n : ℕ). n ≢ 0 → (k : ℕ) × (bit n k ≡ 1)) (λ d. absurd (d refl)) (λ n ih d. go n ih d (ℕ-discrete (n % 2) 1))
   where
     go : (n : ℕ) → (n / 2 ≢ 0 → (k : ℕ) × (bit (n / 2) k ≡ 1)) → n ≢ 0 → Dec (n % 2 ≡ 1) → (k : ℕ) × (bit n k ≡ 1)
-    go n ih d (yes e) = (0, ap (λ (x : ℕ). x % 2) (div-one n) ∙ e)
+    go n ih d (yes e) = (0, lowest-bit n ∙ e)
     go n ih d (no e) = let higher = ih (λ z. d (omega (arith, z, e))) in (suc (higher .0), higher-bit n (higher .0) ∙ higher .1)
 
 -- a set shifted by j has each of its numbers raised by j, and no other

@@ -20,11 +20,11 @@ use Rattle.layout.specs.Layout.{irqSize}
 use Rattle.layout.specs.Reading.{irqPlace, irqIn, mannerOf}
 use Rattle.layout.specs.Sound.{IrqUsed, IrqPlaceSound, IrqPairSound}
 use Rattle.layout.proofs.Parts.{Below, below-at}
+use Rattle.layout.proofs.Grants.{used-sound}
 use Rattle.levels.proofs.Rule.{rule-says}
 use Rattle.grants.specs.Parts.{PlacesSound, CompanySound}
 use Rattle.grants.specs.Company.{Exactly, MannersApart, Held, HeldBelow, Against, heldAs}
 use Rattle.grants.proofs.Covering.{one-bit, one-only, bit-below, shifted-bit, shifted-only, or-left, or-right, or-either, common-says}
-use Rattle.grants.proofs.Records.{used-sound}
 
 -- a set of manners by its bits: r says which manners go with m, and a bit is 1 exactly where r is false
 module _ (n set : ℕ) (m : Manner) (e : mannerOf n ≡ m) (l : set < 2 ^ 4) {r : ℕ → Bool} (s : (k : ℕ) → Says (r k) (Together m (mannerOf k)))
@@ -97,7 +97,7 @@ held-more b n x y h o = record { has = λ k p. has k (p .0) (p .2) (eq-or-lt-of-
 -- the grant of the socket s, held against what the sockets below it hold
 module _ (b : List ℕ) (s : ℕ) (places : PlacesSound (IrqPlaceSound b) s) where
   manner-last : (t : ℕ) → t < s → IrqUsed b t → byte b (irqPlace t + 3) ≤ 3
-  manner-last t l u = used-sound b (irqPlace t) (irqPlace t + irqSize) (omega arith) (places t l) u .manner
+  manner-last t l u = used-sound b (irqPlace t) irqSize (omega arith) (places t l) u .manner
 
   apart-company : ((k : ℕ) → HeldBelow b s k → Against b s k → ⊥) → CompanySound (IrqPairSound b) s
   unfolding irqIn

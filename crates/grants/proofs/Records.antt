@@ -1,7 +1,7 @@
 -- Four bytes are zero where the number that they say is; a record that is used is sound, and records that are all zero keep company; managed ports, read,
 -- are those that a record says; and two grants are held against each other where both are there. Assumes nothing.
 use mathlib.Core.Path.{_≡_, ap, _∙_}
-use mathlib.Core.Logic.{_⊎_, inl, ⊎-elim, _≢_}
+use mathlib.Core.Logic.{_⊎_, inl, _≢_}
 use mathlib.Core.List.{List}
 use mathlib.Core.Bool.{Bool, true, false, not}
 use Prim.Native.Nat.{ℕ, _+_, _-_, _≤_, _<_}
@@ -42,11 +42,6 @@ module _ (b : List ℕ) (at to : ℕ) (n : to ≡ at + 4) where
         z (at + 2) (omega arith) (omega arith),
         z (at + 2 + 1) (omega arith) (omega arith),
       )
-
--- the record of a grant that is there is sound
-pub used-sound : (b : List ℕ) (at to : ℕ) {P : Type 0} → at + 2 ≤ to → Zero b at to ⊎ ((word b at ≢ 0) × P) → word b at ≢ 0 → P
-used-sound b at to h =
-    ⊎-elim (λ z u. absurd (u (omega (arith, z at (omega arith) (omega arith), z (at + 1) (omega arith) (omega arith))))) (λ g u. g .1)
 
 -- records that are all zero are sound and keep company: there is no grant
 module _ (b : List ℕ) (from to size : ℕ) (place : ℕ → ℕ) (two : 2 ≤ size) (starts : (s : ℕ) → from ≤ place s)

@@ -3,6 +3,7 @@ use crate::ios::ios_sound;
 use crate::irqs::irqs_sound;
 use facts::Socket;
 use layout::CARDS_AT;
+use layout::MARKS;
 use layout::MOST_SOCKETS;
 use layout::SOCKETS_IN;
 ghost use mathlib.Core.Path.{_≡_};
@@ -14,9 +15,6 @@ ghost use Rattle.layout.specs.Layout.{tableSize};
 ghost use Rattle.layout.specs.Reading.{clientsIn};
 ghost use Rattle.layout.specs.Sound.{CountsSound, ClientsSound, RangesSound};
 ghost use Rattle.grants.specs.Parts.{HolderSound, CardsMarked, CardsEnd, CardsSound, SocketsSound};
-
-// A mark is one of two numbers, 0 and 1.
-const MARKS: u8 = 2;
 
 // What is wrong with any card's mark or-ed together, with no early exit.
 fn cards_marked(t: &[u8]) -> bool

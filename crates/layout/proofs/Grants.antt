@@ -1,6 +1,6 @@
 -- A socket's grant and its record: what holds of I/O and of IRQ grants alike. Assumes nothing.
 use mathlib.Core.Path.{_≡_, refl, ap, sym, _∙_}
-use mathlib.Core.Logic.{_⊎_, inl, inr, _≢_}
+use mathlib.Core.Logic.{_⊎_, inl, inr, ⊎-elim, _≢_}
 use mathlib.Core.List.{List}
 use mathlib.Core.Bool.{cond}
 use mathlib.Core.Option.{Option, none, some, Option·some-injective, Option·none-ne-some}
@@ -29,6 +29,10 @@ module _ (b : List ℕ) (place k : ℕ) (big : 2 ≤ k) where
   -- zero bytes say no client
   pub no-client : Zero b place (place + k) → word b place ≡ 0
   no-client z = omega (arith, z place (omega arith) (omega arith), z (place + 1) (omega arith) (omega arith))
+
+  -- the record of a grant that is there is what S says
+  pub used-sound : {S : Type 0} → Placed S → word b place ≢ 0 → S
+  used-sound = ⊎-elim (λ z u. absurd (u (no-client z))) (λ g u. g .1)
 
   module _ {G S : Type 0} where
     -- the record of a grant, or of none

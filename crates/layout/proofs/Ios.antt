@@ -35,6 +35,9 @@ module _ (b : List ℕ) (s : ℕ) where
   unfolding ioIn
   ports-are = refl
 
+  pub lines-are : ioIn b s .ports .lines ≡ byte b (ioPlace s + 5)
+  lines-are = ap (λ (g : Ports). g .lines) ports-are
+
   -- its ports, read one by one
   pub ports-read : {base count lines : ℕ} → base ≡ word b (ioPlace s + 2) → count ≡ byte b (ioPlace s + 4) → lines ≡ byte b (ioPlace s + 5)
       → _≡_ {A = Ports} (record { base = base; count = count; lines = lines }) (ioIn b s .ports)

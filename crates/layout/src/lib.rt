@@ -17,8 +17,10 @@ pub const ALL_PORTS: usize = 65536;
 
 pub const MOST_LINES: usize = 16;
 
-// A mark is 0 or 1.
+// A mark is 0 or 1, one of two numbers.
 pub const MARKED: usize = 1;
+
+pub const MARKS: u8 = 2;
 
 // Where each part of the table begins, and the size of its records.
 pub const TABLE_SIZE: usize = 8192;

@@ -3,6 +3,7 @@ use layout::ALL_LEVELS;
 use layout::LEVEL_RESERVED;
 use layout::LEVEL_SIZE;
 use layout::LEVELS_AT;
+use layout::MARKS;
 ghost use mathlib.Core.Path.{_≡_};
 ghost use Prim.Native.Nat.{_≤_};
 ghost use lib.Dec.{eqb};
@@ -10,9 +11,6 @@ ghost use lib.ListN.{length};
 ghost use Rattle.facts.specs.Says.{Says};
 ghost use Rattle.layout.specs.Layout.{tableSize};
 ghost use Rattle.lists.specs.Parts.{LevelsSound};
-
-// A mark is one of two numbers, 0 and 1.
-pub const MARKS: u8 = 2;
 
 // "an unmanaged level isn't reserved": what is wrong with a level's two marks, 0 if nothing is.
 fn level_flaw(managed: u8, reserved: u8) -> u8

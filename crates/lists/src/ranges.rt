@@ -1,6 +1,6 @@
 // The managed ranges: their records, in the order of their ports.
-use crate::levels::MARKS;
 use layout::ALL_PORTS;
+use layout::MARKS;
 use layout::RANGE_COUNT;
 use layout::RANGE_RESERVED;
 use layout::RANGE_SIZE;

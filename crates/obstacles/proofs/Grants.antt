@@ -1,6 +1,6 @@
 -- The bases at which ports meet a grant are a stretch. Assumes nothing.
-use mathlib.Core.Path.{_≡_, ap, sym, subst}
-use mathlib.Core.Logic.{_⊎_, inl, inr, ⊎-elim}
+use mathlib.Core.Path.{_≡_, sym, subst}
+use mathlib.Core.Logic.{_⊎_, inl, inr}
 use mathlib.Core.List.{List}
 use Prim.Native.Nat.{ℕ, _+_, _-_, _%_, _^_, _≤_, _<_, min}
 use native.Mathlib.Nat.{eq-or-lt-of-le}
@@ -10,23 +10,12 @@ use lib.Seq.{getD-set-same, getD-set-other}
 use Rattle.facts.specs.Table
 use Rattle.facts.specs.Table.{Ports}
 use Rattle.facts.specs.Ports.{Meet}
-use Rattle.facts.specs.Packets.{byte}
-use Rattle.layout.specs.Reading.{ioPlace, ioIn}
-use Rattle.layout.specs.Sound.{IoSound, IoUsed, IoPlaceSound}
-use Rattle.layout.proofs.Ios.{ports-are}
+use Rattle.layout.specs.Reading.{ioIn}
+use Rattle.layout.specs.Sound.{IoUsed}
 use Rattle.ports.proofs.Remainders.{meet-near, near-meet}
 use Rattle.reading.proofs.All.{All}
 use Rattle.obstacles.specs.declared.Stretch.{Stretch}
-use Rattle.obstacles.specs.Obstacles.{around, Power, Lies, Fits, stretchAt, portsFrom, MetOn, StretchIs}
-
--- a socket that has a grant has a sound one
-pub used-sound : (b : List ℕ) (s : ℕ) → IoPlaceSound b s → IoUsed b s → IoSound b s
-used-sound b s p used =
-    ⊎-elim (λ z. absurd (used (omega (arith, z (ioPlace s) (omega arith) (omega arith), z (ioPlace s + 1) (omega arith) (omega arith))))) (λ g. g .1) p
-
--- the lines that its card decodes
-pub lines-are : (b : List ℕ) (s : ℕ) → ioIn b s .ports .lines ≡ byte b (ioPlace s + 5)
-lines-are b s = ap (λ (g : Ports). g .lines) (ports-are b s)
+use Rattle.obstacles.specs.Obstacles.{around, Lies, Fits, stretchAt, portsFrom, MetOn, StretchIs}
 
 -- the stretch that has no base
 abbrev pub Nowhere : Stretch → Type 0

@@ -7,7 +7,6 @@ use native.Mathlib.Nat.{mod-le, mod-add-mod, eq-or-lt-of-le}
 use native.Mathlib.Decide.{decLt}
 use native.Mathlib.Omega.{arith}
 use lib.Bits.{bitAnd, and-mask}
-use lib.Pow.{suc-ones}
 use Rattle.obstacles.specs.declared.Stretch.{Stretch}
 use Rattle.obstacles.specs.Obstacles.{around, Power, Lies, Fits, stretchAt, LiesInFirst, Leaps, LeapsFirst}
 

@@ -1,7 +1,7 @@
 -- The bases at which ports meet live grants repeat: where a period has none that is free, there is none, and what a search has passed it need not pass
 -- again. Assumes nothing.
 use mathlib.Core.Path.{_≡_, ap, sym, subst, _∙_}
-use mathlib.Core.Logic.{_⊎_, inl, inr}
+use mathlib.Core.Logic.{inl, inr}
 use mathlib.Core.List.{List}
 use Prim.Native.Nat.{ℕ, _+_, _-_, _%_, _^_, _≤_, _<_, max}
 use native.Mathlib.Nat.{mod-lt, mod-mod, add-mod-mod}

@@ -1,8 +1,8 @@
 -- A search from one multiple of the step to the next that may be free. Assumes nothing.
 use mathlib.Core.Path.{_≡_, subst}
-use mathlib.Core.Logic.{inl, inr, ⊎-elim}
+use mathlib.Core.Logic.{inl, inr, ⊎-elim, _≢_}
 use mathlib.Core.List.{List}
-use Prim.Native.Nat.{ℕ, _+_, _-_, _≤_, _<_, max}
+use Prim.Native.Nat.{ℕ, _+_, _-_, _≤_, _<_}
 use native.Mathlib.Decide.{decLt}
 use native.Mathlib.Omega.{arith}
 use Rattle.facts.specs.Table
@@ -10,18 +10,14 @@ use Rattle.obstacles.specs.declared.Stretch.{Stretch}
 use Rattle.obstacles.specs.Obstacles.{around, Multiple, FirstMultiple, Fits, LiesIn, Leaps, LeapsFirst, LeapsIn, Opened}
 
 module _ (all : List Stretch) (more : Stretch) where
-  -- the farthest end of all the stretches, and of one more
-  pub leap-in : (x far d : ℕ) → Fits more → LeapsFirst all Table.mostSockets x far → Leaps more x d → LeapsIn all more x (max far d)
-  leap-in x far d fit first next =
-      record {
-        none = λ z. ⊎-elim (first .none (omega arith)) (next .none (omega arith));
-        each = λ e l. go e l (decLt e far);
-        most = omega (arith, first .most, next .most, fit .width);
-      }
-    where
-      go : (e : ℕ) → e < max far d → Dec (e < far) → LiesIn all more (x + e)
-      go e l (yes m) = inl (first .each e m)
-      go e l (no m) = inr (next .each e (omega arith))
+  -- the base lies in the one that is known, or else in none but one of the others
+  pub leap-known : (x d : ℕ) → Fits more → d ≢ 0 → Leaps more x d → LeapsIn all more x d
+  leap-known x d fit n known =
+      record { none = λ z. absurd (n z); each = λ e l. inr (known .each e l); most = omega (arith, known .most, fit .width) }
+
+  pub leap-other : (x far d : ℕ) → d ≡ 0 → Leaps more x d → LeapsFirst all Table.mostSockets x far → LeapsIn all more x far
+  leap-other x far d e known first =
+      record { none = λ z. ⊎-elim (first .none z) (known .none e); each = λ i l. inl (first .each i l); most = first .most }
 
   module _ (count step from end : ℕ) where
     -- the search has come to a multiple: every one before it lies in a stretch

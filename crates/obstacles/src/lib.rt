@@ -124,13 +124,17 @@ fn leap(all: [Stretch; 8], base: u32) -> u32
     far
 }
 
-// The same of one stretch more.
-fn leap_past(all: [Stretch; 8], more: Stretch, base: usize) -> usize
-    requires { ⌜ AllFit all × Fits more × (base ≤ Table.allPorts) ⌝ }
-    ensures { λ r. ⌜ LeapsIn all more base r ⌝ }
+// How far a search can leap from a base: to the end of the stretch that is known, or else to the farthest of the others.
+fn leap_past(all: [Stretch; 8], known: Stretch, base: usize) -> usize
+    requires { ⌜ AllFit all × Fits known × (base ≤ Table.allPorts) ⌝ }
+    ensures { λ r. ⌜ LeapsIn all known base r ⌝ }
 {
     let from = base as u32;
-    larger(leap(all, from), ahead(more, from)) as usize
+    let far = ahead(known, from);
+    if far != 0 {
+        return far as usize;
+    }
+    leap(all, from) as usize
 }
 
 // The first multiple of the step at or past a number.
@@ -146,19 +150,19 @@ pub fn up(from: usize, step: usize) -> usize
 // does, the search goes on at the first past the end of its stretch.
 pub fn lowest(
     all: [Stretch; 8],
-    more: Stretch,
+    known: Stretch,
     count: usize,
     step: usize,
     from: usize,
     end: usize,
 ) -> usize
-    requires { ⌜ AllFit all × Fits more × Power step × Multiple step from × (from ≤ around + around) ⌝ }
+    requires { ⌜ AllFit all × Fits known × Power step × Multiple step from × (from ≤ around + around) ⌝ }
     requires { ⌜ (count ≤ Table.allPorts) × (end < Table.allPorts + count) ⌝ }
-    ensures { λ r. ⌜ Opened all more count step from end r ⌝ }
+    ensures { λ r. ⌜ Opened all known count step from end r ⌝ }
 {
     let mut base = from;
     while base + count <= end {
-        let far = leap_past(all, more, base);
+        let far = leap_past(all, known, base);
         if far == 0 {
             return base;
         }

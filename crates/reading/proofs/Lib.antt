@@ -1,5 +1,6 @@
 -- Laws of what holds below a bound, of managed ports, and of bytes that are zero. Assumes nothing.
 pub mod All
+pub mod Bits
 pub mod Some
 pub mod Passing
 pub mod Zeros

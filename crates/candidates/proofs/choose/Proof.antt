@@ -7,7 +7,7 @@ use native.Mathlib.Omega.{arith}
 use denote.Ref.{now}
 use borrow.Author.Needs.{needs}
 use Rattle.facts.specs.Table
-use Rattle.facts.specs.Io.{countAsked, linesAsked, SmallestPower}
+use Rattle.facts.specs.Io.{countAsked, SmallestPower}
 use Rattle.obstacles.specs.Obstacles.{Power, Closed}
 use Rattle.candidates.specs.Candidates.{FirstIs}
 use Rattle.candidates.proofs.Steps.{smallest-power-lines}

@@ -1,10 +1,10 @@
 -- `obstacles::deciding` meets its contract: the lines are those that the grant's record says.
 -- Assumes nothing.
 use mathlib.Core.Path.{ap, sym, _∙_}
-use Prim.Native.Nat.{ℕ, min}
+use Prim.Native.Nat.{min}
 use denote.Ref.{now}
 use borrow.Author.Needs.{needs}
-use Rattle.obstacles.proofs.Grants.{lines-are}
+use Rattle.layout.proofs.Ios.{lines-are}
 use Rattle.obstacles.proofs.deciding.Statement.{statement}
 use Rattle.obstacles.proofs.deciding.Tie as tie
 

@@ -2,17 +2,16 @@
 -- Assumes nothing.
 use Prim.Native.Nat.{_+_, _-_}
 use native.Mathlib.Omega.{arith}
-use borrow.Author.Needs.{needs}
-use Rattle.obstacles.proofs.Steps.{power-positive, power-most}
+use Rattle.obstacles.proofs.Steps.{power-most}
 use Rattle.obstacles.proofs.Searching.{Gone, gone-start, gone-on, gone-free, gone-past}
 use Rattle.obstacles.proofs.lowest.Statement.{statement}
 use Rattle.obstacles.proofs.lowest.Tie as tie
 
 abbrev Inv-loop : tie.InvT-loop
-Inv-loop all more count step from end base₀ base = Gone all more count step from end base
+Inv-loop all known count step from end base₀ base = Gone all known count step from end base
 
 abbrev μ-loop : tie.MeasureT-loop
-μ-loop all more count step from end base₀ base = end + 1 - base
+μ-loop all known count step from end base₀ base = end + 1 - base
 
 -- where the call began, and the turn in which a leap was tried
 abbrev start : tie.At-loop Inv-loop μ-loop → tie.Start Inv-loop μ-loop

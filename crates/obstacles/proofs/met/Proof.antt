@@ -1,6 +1,6 @@
 -- `obstacles::met` meets its contract: the ports meet the grant just where they reach its first port and do not pass its last.
 -- Assumes nothing.
-use mathlib.Core.Path.{_≡_, sym, _∙_}
+use mathlib.Core.Path.{sym, _∙_}
 use mathlib.Core.List.{List}
 use Prim.Native.Nat.{ℕ, _^_, _≤_}
 use native.Mathlib.Omega.{arith}
@@ -8,10 +8,12 @@ use denote.Ref.{now}
 use borrow.Author.Needs.{needs}
 use lib.Pow.{pow-pos, pow-mono}
 use Rattle.facts.specs.Table
-use Rattle.layout.specs.Reading.{ioIn}
+use Rattle.layout.specs.Layout.{ioSize}
+use Rattle.layout.specs.Reading.{ioPlace, ioIn}
 use Rattle.layout.specs.Sound.{IoUsed}
-use Rattle.layout.proofs.Ios.{ports-read}
-use Rattle.obstacles.proofs.Grants.{used-sound, lines-are, nowhere-is, grant-is}
+use Rattle.layout.proofs.Grants.{used-sound}
+use Rattle.layout.proofs.Ios.{lines-are, ports-read}
+use Rattle.obstacles.proofs.Grants.{nowhere-is, grant-is}
 use Rattle.obstacles.proofs.met.Statement.{statement}
 use Rattle.obstacles.proofs.met.Tie as tie
 
@@ -120,7 +122,7 @@ returns-3 c =
     let b = table at in
     let ground = c .before .before .word2 in
     let lines = k .deciding in
-    let sound = used-sound b (s .args .s .0) (s .pre .0 .2) (used held) in
+    let sound = used-sound b (ioPlace (s .args .s .0)) ioSize (omega arith) (s .pre .0 .2) (used held) in
     grant-is b (s .args .count) (s .args .lines) (s .args .most) (s .args .s .0)
     (record { base = ground .result; count = c .byte .result; lines = ioIn b (s .args .s .0) .ports .lines })
     (ports-read b (s .args .s .0) (ground .ensures .0) (c .byte .ensures .0) (lines-are b (s .args .s .0))) (used held) (s .pre .1 .0) (s .pre .1 .1)

@@ -1,7 +1,6 @@
 -- `grants::ios::io_blocks` meets its contract: a grant that decodes few lines may answer in any block, and another in those of its own ports.
 -- Assumes nothing.
 use mathlib.Core.Path.{_∙_}
-use Prim.Native.Nat.{_+_}
 use native.Mathlib.Omega.{arith}
 use borrow.Author.Needs.{needs}
 use denote.Ref.{now}
@@ -9,9 +8,9 @@ use Rattle.layout.specs.Layout.{ioSize}
 use Rattle.layout.specs.Reading.{ioPlace}
 use Rattle.layout.specs.Sound.{IoSound}
 use Rattle.layout.proofs.Ios.{ports-read}
+use Rattle.layout.proofs.Grants.{used-sound}
 use Rattle.grants.proofs.Covering.{all-bits}
 use Rattle.grants.proofs.Blocks.{own-blocks}
-use Rattle.grants.proofs.Records.{used-sound}
 use Rattle.grants.proofs.ios.io_blocks.Statement.{statement}
 use Rattle.grants.proofs.ios.io_blocks.Tie as tie
 
@@ -26,7 +25,7 @@ grant : (c : tie.Else1) → let a = begun c .args in IoSound (now (a .t)) (a .s 
 grant c =
     let a = begun c .args in
     let at = ioPlace (a .s .0) in
-    used-sound (now (a .t)) at (at + ioSize) (omega arith) (begun c .pre .2) (λ e. c .if1 .left (c .before .word .ensures .0 ∙ e))
+    used-sound (now (a .t)) at ioSize (omega arith) (begun c .pre .2) (λ e. c .if1 .left (c .before .word .ensures .0 ∙ e))
 
 mul-at : tie.Need-mul-at
 mul-at c = search needs

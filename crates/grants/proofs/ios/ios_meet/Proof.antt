@@ -36,7 +36,7 @@ meets-requires c κs =
       omega (arith, lines-most b _ (start .pre .1 .0), one .lines),
       other .base-most,
       omega (arith, lines-most b _ (start .pre .1 .1), other .lines),
-      other .count-most,
+      omega (arith, other .count-most),
     )
 
 returns : tie.Need-returns

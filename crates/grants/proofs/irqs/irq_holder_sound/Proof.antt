@@ -1,14 +1,13 @@
 -- `grants::irqs::irq_holder_sound` meets its contract: a client that holds the socket's I/O grant is live, and the socket is below the count.
 -- Assumes nothing.
 use mathlib.Core.Path.{sym, _∙_}
-use Prim.Native.Nat.{_+_}
 use native.Mathlib.Omega.{arith}
 use borrow.Author.Needs.{needs}
 use denote.Ref.{now}
 use Rattle.facts.proofs.Says.{says-true}
 use Rattle.layout.specs.Layout.{ioSize}
 use Rattle.layout.specs.Reading.{ioPlace}
-use Rattle.grants.proofs.Records.{used-sound}
+use Rattle.layout.proofs.Grants.{used-sound}
 use Rattle.grants.proofs.irqs.irq_holder_sound.Statement.{statement}
 use Rattle.grants.proofs.irqs.irq_holder_sound.Tie as tie
 
@@ -27,7 +26,7 @@ returns c =
     let b = now (start .args .t) in
     let io = ioPlace (start .args .s .0) in
     let same = c .before .same-client .ensures .holds (c .if1 .taken) in
-    let grant = used-sound b io (io + ioSize) (omega arith) (start .pre .1 .1) (λ e. same .0 (sym (same .1) ∙ e)) in
+    let grant = used-sound b io ioSize (omega arith) (start .pre .1 .1) (λ e. same .0 (sym (same .1) ∙ e)) in
     says-true (record { client = rw (same .1) at (grant .client); socket = grant .socket })
 
 holder-sound-requires : tie.Need-holder-sound-requires

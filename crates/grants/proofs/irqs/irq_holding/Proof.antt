@@ -1,7 +1,7 @@
 -- `grants::irqs::irq_holding` meets its contract: a level below 16 and a manner below 4 are a number below 64, so no bit is shifted out.
 -- Assumes nothing.
 use mathlib.Core.Path.{sym, _∙_}
-use Prim.Native.Nat.{_+_, _<_}
+use Prim.Native.Nat.{_<_}
 use native.Mathlib.Nat.{one-mul}
 use native.Mathlib.Omega.{arith}
 use borrow.Author.Needs.{needs}
@@ -10,10 +10,10 @@ use lib.Pow.{shl-exact}
 use Rattle.layout.specs.Layout.{irqSize}
 use Rattle.layout.specs.Reading.{irqPlace}
 use Rattle.layout.specs.Sound.{IrqUsed, IrqSound}
+use Rattle.layout.proofs.Grants.{used-sound}
 use Rattle.grants.specs.Company.{heldAs}
 use Rattle.grants.proofs.Covering.{exactly-none}
 use Rattle.grants.proofs.Manners.{own-held, apart-against}
-use Rattle.grants.proofs.Records.{used-sound}
 use Rattle.grants.proofs.irqs.irq_holding.Statement.{statement}
 use Rattle.grants.proofs.irqs.irq_holding.Tie as tie
 
@@ -31,7 +31,7 @@ grant : (c : tie.Else1) → let a = begun c .args in IrqSound (now (a .t)) (a .s
 grant c =
     let a = begun c .args in
     let at = irqPlace (a .s .0) in
-    used-sound (now (a .t)) at (at + irqSize) (omega arith) (begun c .pre .2) (used c)
+    used-sound (now (a .t)) at irqSize (omega arith) (begun c .pre .2) (used c)
 
 number : (c : tie.After-byte2) → heldAs (c .byte2 .result) (c .before .byte .result) < 64
 number c =
