@@ -1,10 +1,10 @@
--- Two ranges have ports that are equal modulo a number exactly if one base lies within the other range, modulo that number; and one look decides
--- it: whether the last port of the first range lies, modulo that number, among the ports from the second base on, one fewer than both ranges have.
--- Over plain numbers. Assumes nothing.
+-- Two ranges have ports that are equal modulo a number exactly if the distance from one base to the other, modulo that number, is below the first
+-- count, or the other way round; and one look decides both ways: how far the last port of the first range lies past the second base. Over plain
+-- numbers. Assumes nothing.
 use mathlib.Core.Path.{_≡_, ap, sym, _∙_}
-use mathlib.Core.Logic.{_⊎_, inl, inr}
-use Prim.Native.Nat.{ℕ, _+_, _-_, _*_, _%_, _≤_}
-use native.Mathlib.Nat.{mod-add-mod, add-mul-mod-self-right, le-mul-of-pos-right}
+use mathlib.Core.Logic.{_⊎_, inl, inr, _↔_}
+use Prim.Native.Nat.{ℕ, _+_, _-_, _*_, _%_, _≤_, _<_}
+use native.Mathlib.Nat.{add-zero, mod-le, mod-add-mod, add-mod-mod, add-mul-mod-self-right, le-mul-of-pos-right}
 use native.Mathlib.Decide.{decLe}
 use native.Mathlib.Omega.{arith}
 use Rattle.facts.specs.Ports.{Within}
@@ -18,7 +18,7 @@ pub record Common (a n b n′ m : ℕ) : Type 0 where
   pub equal : one % m ≡ other % m
 
 -- some port of the count from base on equals p modulo m
-pub record Hit (p base count m : ℕ) : Type 0 where
+record Hit (p base count m : ℕ) : Type 0 where
   pub port : ℕ
   pub inside : Within port base count
   pub equal : p % m ≡ port % m
@@ -38,8 +38,8 @@ module _ (m : ℕ) where
           ap (λ (k : ℕ). k % m) s ∙ add-mul-mod-self-right n j m
 
   module _ (a n b n′ : ℕ) where
-    -- the distance of one base past the other is below that one's count
-    pub common-near : 1 ≤ m → Common a n b n′ m → Hit b a n m ⊎ Hit a b n′ m
+    -- one of the two bases lies within the other range
+    common-near : 1 ≤ m → Common a n b n′ m → Hit b a n m ⊎ Hit a b n′ m
     common-near h c = go (decLe (c .one - a) (c .other - b))
       where
         go : Dec (c .one - a ≤ c .other - b) → Hit b a n m ⊎ Hit a b n′ m
@@ -63,7 +63,7 @@ module _ (m : ℕ) where
             })
 
     module _ (some : 1 ≤ n) (some′ : 1 ≤ n′) where
-      pub near-common : Hit b a n m ⊎ Hit a b n′ m → Common a n b n′ m
+      near-common : Hit b a n m ⊎ Hit a b n′ m → Common a n b n′ m
       near-common (inl r) =
           record {
             one = r .port;
@@ -81,8 +81,8 @@ module _ (m : ℕ) where
             equal = r .equal;
           }
 
-      -- one look for both: the common ports are moved on until the first is the last of its range
-      pub common-reached : Common a n b n′ m → Hit (a + n - 1) b (n + n′ - 1) m
+      -- the common ports are moved on until the first is the last of its range
+      common-reached : Common a n b n′ m → Hit (a + n - 1) b (n + n′ - 1) m
       common-reached c =
           let j : ℕ = a + n - 1 - c .one in
           let last : a + n - 1 ≡ c .one + j = omega (arith, c .one-in .below) in
@@ -96,7 +96,7 @@ module _ (m : ℕ) where
           }
 
       -- and moved back until the second is one of its own
-      pub reached-common : 1 ≤ m → Hit (a + n - 1) b (n + n′ - 1) m → Common a n b n′ m
+      reached-common : 1 ≤ m → Hit (a + n - 1) b (n + n′ - 1) m → Common a n b n′ m
       reached-common h r = go (decLe (r .port) (b + n′ - 1))
         where
           go : Dec (r .port ≤ b + n′ - 1) → Common a n b n′ m
@@ -119,3 +119,48 @@ module _ (m : ℕ) where
                 other-in = record { from = omega arith; below = omega arith };
                 equal = moved-back (a + n - 1 - j) (b + n′ - 1) j h e;
               }
+
+  -- a distance is taken past a multiple of m, so that it doesn't go below 0
+  module _ (whole : ℕ) (h : 1 ≤ m) (z : whole % m ≡ 0) where
+    turned : (x : ℕ) → (x + whole) % m ≡ x % m
+    turned x = sym (add-mod-mod x whole m) ∙ ap (λ (k : ℕ). (x + k) % m) z ∙ ap (λ (k : ℕ). k % m) (add-zero x)
+
+    module _ (p base count : ℕ) (b : base ≤ whole) where
+      -- how far p lies past the base is below the count exactly if some port of so many from there on equals it
+      near-hit : (p + whole - base) % m < count → Hit p base count m
+      near-hit l =
+          let e : base + (p + whole - base) ≡ p + whole = omega arith in
+          record {
+            port = base + (p + whole - base) % m;
+            inside = record { from = omega arith; below = omega arith };
+            equal = sym (add-mod-mod base (p + whole - base) m ∙ ap (λ (k : ℕ). k % m) e ∙ turned p);
+          }
+
+      hit-near : Hit p base count m → (p + whole - base) % m < count
+      hit-near r =
+          let past : ℕ = whole - base in
+          let e₁ : p + whole - base ≡ p + past = omega arith in
+          let e₂ : r .port + past ≡ r .port - base + whole = omega (arith, r .inside .from) in
+          let e₃ : (p + whole - base) % m ≡ (r .port - base) % m =
+          ap (λ (k : ℕ). k % m) e₁ ∙ moved p (r .port) past (r .equal) ∙ ap (λ (k : ℕ). k % m) e₂ ∙ turned (r .port - base) in
+          omega (arith, e₃, mod-le (r .port - base) m, r .inside .below, r .inside .from)
+
+    module _ (a n b n′ : ℕ) (some : 1 ≤ n) (some′ : 1 ≤ n′) (lb : b ≤ whole) where
+      -- the distance from one base to the other is below the first count, or the other way round
+      pub common-distance : a ≤ whole → Common a n b n′ m ↔ (((b + whole - a) % m < n) ⊎ ((a + whole - b) % m < n′))
+      common-distance la = (λ c. to (common-near a n b n′ h c), λ d. near-common a n b n′ some some′ (from d))
+        where
+          to : Hit b a n m ⊎ Hit a b n′ m → ((b + whole - a) % m < n) ⊎ ((a + whole - b) % m < n′)
+          to (inl r) = inl (hit-near b a n la r)
+          to (inr r) = inr (hit-near a b n′ lb r)
+
+          from : ((b + whole - a) % m < n) ⊎ ((a + whole - b) % m < n′) → Hit b a n m ⊎ Hit a b n′ m
+          from (inl l) = inl (near-hit b a n la l)
+          from (inr l) = inr (near-hit a b n′ lb l)
+
+      -- one look for both: how far the last port of the first range lies past the second base
+      pub common-look : Common a n b n′ m ↔ ((a + n - 1 + whole - b) % m < n + n′ - 1)
+      common-look = (
+        λ c. hit-near (a + n - 1) b (n + n′ - 1) lb (common-reached a n b n′ some some′ c),
+        λ l. reached-common a n b n′ some some′ h (near-hit (a + n - 1) b (n + n′ - 1) lb l),
+      )

@@ -1,8 +1,9 @@
--- A remainder decides whether a port meets a range, modulo any power of two that divides the number of all ports, and whether two ranges meet; and
--- where they do, they do again after a period. Assumes nothing.
+-- A remainder by two to the smaller line count decides whether two ranges of ports meet; and where they do, they do again after a period. Assumes
+-- nothing.
 use mathlib.Core.Path.{_≡_, sym, ap, subst, _∙_}
+use mathlib.Core.Logic.{_↔_}
 use Prim.Native.Nat.{ℕ, _+_, _-_, _*_, _%_, _^_, _≤_, _<_, min}
-use native.Mathlib.Nat.{mod-le, mod-add-mod, add-mod-mod, add-mul-mod-self-right}
+use native.Mathlib.Nat.{add-mul-mod-self-right, mul-mod-left}
 use native.Mathlib.Omega.{arith}
 use lib.Dec.{ltb}
 use lib.Pow.{pow-add, pow-pos, mod-mod-pow}
@@ -10,7 +11,7 @@ use Rattle.facts.specs.Says.{Says}
 use Rattle.facts.specs.Table.{allPorts, mostLines, Ports}
 use Rattle.facts.specs.Ports.{Meet}
 use Rattle.facts.proofs.Says.{says-as, says-lt}
-use Rattle.ports.proofs.Meeting.{Common, Hit, moved, common-reached, reached-common}
+use Rattle.ports.proofs.Meeting.{Common, moved, common-look}
 
 module _ (k : ℕ) (h : k ≤ mostLines) where
   all-ports : allPorts ≡ 2 ^ (mostLines - k) * 2 ^ k
@@ -19,29 +20,10 @@ module _ (k : ℕ) (h : k ≤ mostLines) where
   pub all-ports-mod : (n : ℕ) → (n + allPorts) % 2 ^ k ≡ n % 2 ^ k
   all-ports-mod n = ap (λ (x : ℕ). (n + x) % 2 ^ k) all-ports ∙ add-mul-mod-self-right n (2 ^ (mostLines - k)) (2 ^ k)
 
-  module _ (p base count : ℕ) (b : base < allPorts) where
-    hit : (p + allPorts - base) % 2 ^ k < count → Hit p base count (2 ^ k)
-    hit l =
-        record {
-          port = base + (p + allPorts - base) % 2 ^ k;
-          inside = record { from = omega arith; below = omega arith };
-          equal =
-              let e : base + (p + allPorts - base) ≡ p + allPorts = omega arith in
-              sym (add-mod-mod base (p + allPorts - base) (2 ^ k) ∙ ap (λ (n : ℕ). n % 2 ^ k) e ∙ all-ports-mod p);
-        }
+  whole : allPorts % 2 ^ k ≡ 0
+  whole = ap (λ (x : ℕ). x % 2 ^ k) all-ports ∙ mul-mod-left (2 ^ (mostLines - k)) (2 ^ k)
 
-    near : Hit p base count (2 ^ k) → (p + allPorts - base) % 2 ^ k < count
-    near r =
-        let y : ℕ = allPorts - base in
-        let e₁ : p + allPorts - base ≡ p + y = omega arith in
-        let e₂ : r .port + y ≡ r .port - base + allPorts = omega arith in
-        let e₃ : (p + allPorts - base) % 2 ^ k ≡ (r .port - base) % 2 ^ k =
-        ap (λ (n : ℕ). n % 2 ^ k) e₁ ∙ sym (mod-add-mod p (2 ^ k) y) ∙ ap (λ (n : ℕ). (n + y) % 2 ^ k) (r .equal) ∙ mod-add-mod (r .port) (2 ^ k) y
-        ∙ ap (λ (n : ℕ). n % 2 ^ k) e₂
-        ∙ all-ports-mod (r .port - base) in
-        omega (arith, mod-le (r .port - base) (2 ^ k))
-
--- so one remainder decides whether two ranges meet
+-- one remainder decides whether two ranges meet
 module _ (a b : Ports) (k : ℕ) (e : k ≡ min (a .lines) (b .lines)) (h : k ≤ mostLines) where
   meet-common : Meet a b → Common (a .base) (a .count) (b .base) (b .count) (2 ^ k)
   meet-common m =
@@ -64,16 +46,15 @@ module _ (a b : Ports) (k : ℕ) (e : k ≡ min (a .lines) (b .lines)) (h : k �
       }
 
   module _ (n : 1 ≤ a .count) (n′ : 1 ≤ b .count) (l : b .base < allPorts) where
+    look : Common (a .base) (a .count) (b .base) (b .count) (2 ^ k)
+        ↔ ((a .base + a .count - 1 + allPorts - b .base) % 2 ^ k < a .count + b .count - 1)
+    look = common-look (2 ^ k) allPorts (pow-pos k) (whole k h) (a .base) (a .count) (b .base) (b .count) n n′ (omega arith)
+
     pub meet-near : Meet a b → (a .base + a .count - 1 + allPorts - b .base) % 2 ^ k < a .count + b .count - 1
-    meet-near m =
-        near k h (a .base + a .count - 1) (b .base) (a .count + b .count - 1) l
-        (common-reached (2 ^ k) (a .base) (a .count) (b .base) (b .count) n n′ (meet-common m))
+    meet-near m = look .0 (meet-common m)
 
     pub near-meet : (a .base + a .count - 1 + allPorts - b .base) % 2 ^ k < a .count + b .count - 1 → Meet a b
-    near-meet r =
-        common-meet
-        (reached-common (2 ^ k) (a .base) (a .count) (b .base) (b .count) n n′ (pow-pos k)
-        (hit k h (a .base + a .count - 1) (b .base) (a .count + b .count - 1) l r))
+    near-meet r = common-meet (look .1 r)
 
     pub meet-says : Says (ltb ((a .base + a .count - 1 + allPorts - b .base) % 2 ^ k) (a .count + b .count - 1)) (Meet a b)
     meet-says = says-as (says-lt _ _) near-meet meet-near
