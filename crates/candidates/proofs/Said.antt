@@ -17,8 +17,9 @@ use Rattle.layout.specs.Reading.{rangesIn, rangeIn, ioIn, marked}
 use Rattle.layout.specs.Sound.{Accepted, RangesSound}
 use Rattle.layout.proofs.Of
 use Rattle.layout.proofs.Managed.{HasPort}
-use Rattle.meeting.specs.Meeting.{MeetsSome}
-use Rattle.obstacles.specs.Obstacles.{Multiple, portsFrom}
+use Rattle.obstacles.specs.declared.Stretch.{Stretch}
+use Rattle.obstacles.specs.Obstacles.{Lies, Barring}
+use Rattle.obstacles.proofs.Periods.{met-some}
 use Rattle.candidates.specs.declared.Taken.{Taken}
 use Rattle.candidates.specs.declared.Taken.the-variants.{Base, Nothing}
 use Rattle.candidates.specs.Candidates.{reserveMark, Counts, Free, CandidateIn, LowestIs, FirstIs, TakenIs}
@@ -142,9 +143,12 @@ module _ (b p : List ℕ) (step : ℕ) (align : SmallestPower (countAsked p) ste
   first-taken (Base x) (inr late) = λ a. taken-late b a p step align one (late .0) x (late .1)
   first-taken Nothing none = λ a x c. none x (candidate-found b a p step align one x c)
 
-  -- where every multiple is barred, nothing is
-  pub closed-taken : ((x : ℕ) → Multiple step x → MeetsSome b (portsFrom (countAsked p) (linesAsked p) x)) → TakenIs b p Nothing
-  closed-taken met a x c = let free = candidate-free b a p step align one x c in free .meets-none (met x (free .multiple))
+  -- where every base lies in a stretch that is barred, nothing is
+  pub barred-taken : (most : ℕ) (known : Stretch) → Barring b (countAsked p) (linesAsked p) most step known → ((x : ℕ) → Lies known x)
+      → TakenIs b p Nothing
+  barred-taken most known bars all a x c =
+      let free = candidate-free b a p step align one x c in
+      free .meets-none (met-some b (countAsked p) (linesAsked p) most x (bars .barred x (free .multiple) (all x)))
 
 -- the two searches, one after the other
 module _ (b : List ℕ) (count lines step : ℕ) where

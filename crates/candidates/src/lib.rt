@@ -14,7 +14,7 @@ ghost use Rattle.facts.specs.Says.{Says};
 ghost use Rattle.facts.specs.Io.{requestIoLength, countAsked, linesAsked, SmallestPower};
 ghost use Rattle.layout.specs.Reading.{rangesIn};
 ghost use Rattle.layout.specs.Sound.{Accepted, rangeBase};
-ghost use Rattle.obstacles.specs.Obstacles.{Power, Bars};
+ghost use Rattle.obstacles.specs.Obstacles.{Power, Barring, Bars};
 ghost use Rattle.candidates.specs.Candidates.{Follows, ReachIs, CandidateIn, StartsIn, Searched, FirstIs, TakenIs};
 
 // "candidates are the positive multiples".
@@ -151,23 +151,15 @@ fn first_of(
 }
 
 // "Candidates wholly in unreserved ranges come first, then the lowest": what the search in them finds, or else what the search in all ranges does.
-fn first(t: &[u8], count: usize, lines: usize, step: usize) -> Taken
+fn first(t: &[u8], count: usize, lines: usize, step: usize, known: Stretch) -> Taken
     requires { ⌜ Accepted (now t) × (1 ≤ count) × (count < 256) × (lines ≤ Table.mostLines) × Power step ⌝ }
+    requires { ⌜ Barring (now t) count lines Table.mostLines step known ⌝ }
     ensures { λ r. ⌜ FirstIs (now (t .entry)) count lines step r ⌝ }
 {
     let most = obstacles::lines_met(t, lines);
     let period = obstacles::period(most, step);
     let all = obstacles::stretches(t, count, lines, most);
-    let early = first_of(
-        t,
-        UNRESERVED,
-        count,
-        lines,
-        step,
-        period,
-        all,
-        obstacles::nowhere(),
-    );
+    let early = first_of(t, UNRESERVED, count, lines, step, period, all, known);
     let taken = early.taken;
     if let Taken::Base(base) = taken {
         return Taken::Base(base);
@@ -185,8 +177,9 @@ pub fn choose(t: &[u8], p: &[u8]) -> Taken
     let count = io_packets::count_asked(p);
     let lines = io_packets::lines_asked(p);
     let step = align(count);
-    if obstacles::closed(t, count, lines, step) {
+    let known = obstacles::passed(t, count, lines, step);
+    if obstacles::everywhere(known) {
         return Taken::Nothing;
     }
-    first(t, count, lines, step)
+    first(t, count, lines, step, known)
 }

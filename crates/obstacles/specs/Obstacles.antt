@@ -116,6 +116,11 @@ pub record Period (most step period : ℕ) : Type 0 where
   pub decides : most ≤ power .lines
   pub steps : step-power .lines ≤ power .lines
 
+-- a stretch that is barred: at every multiple of the step that lies in it, the ports meet a grant that no more than `most` lines decide
+pub record Barring (b : List ℕ) (count lines most step : ℕ) (r : Stretch) : Type 0 where
+  pub fits : Fits r
+  pub barred : (x : ℕ) → Multiple step x → Lies r x → MetUpTo b count lines most x
+
 -- the search in one period: at every multiple before r the ports meet a grant that no more than `most` lines decide
 pub record OpenIn (b : List ℕ) (count lines most step from r : ℕ) : Type 0 where
   pub multiple : Multiple step r
@@ -123,9 +128,9 @@ pub record OpenIn (b : List ℕ) (count lines most step from r : ℕ) : Type 0 w
   pub near : r ≤ around + around
   pub barred : (y : ℕ) → Multiple step y → from ≤ y → y < r → MetUpTo b count lines most y
 
--- a yes says that the ports meet a live grant at every multiple of the step, and a no says nothing
-abbrev pub Closed : List ℕ → ℕ → ℕ → ℕ → Bool → Type 0
-Closed b count lines step r = r ≡ true → (x : ℕ) → Multiple step x → MeetsSome b (portsFrom count lines x)
+-- a yes says that every base lies in the stretch, and a no says nothing
+abbrev pub Everywhere : Stretch → Bool → Type 0
+Everywhere s r = r ≡ true → (x : ℕ) → Lies s x
 
 -- what the stretches bar: every base at which the ports meet a live grant lies in one of them, and every multiple of the step that lies in one of them
 -- or in one more is such a base; and these repeat

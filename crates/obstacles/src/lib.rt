@@ -17,7 +17,7 @@ ghost use Rattle.layout.specs.Layout.{tableSize};
 ghost use Rattle.layout.specs.Reading.{ioIn};
 ghost use Rattle.layout.specs.Sound.{Accepted, IoPlaceSound};
 ghost use Rattle.obstacles.specs.Obstacles.{around, Power, Multiple, FirstMultiple, Fits, AllFit, StretchIs, StretchesAre};
-ghost use Rattle.obstacles.specs.Obstacles.{Leaps, LeapsFirst, LeapsIn, Opened, LinesMet, Period, OpenIn, Closed, LearntIs};
+ghost use Rattle.obstacles.specs.Obstacles.{Leaps, LeapsFirst, LeapsIn, Opened, LinesMet, Period, Barring, OpenIn, Everywhere, LearntIs};
 
 // Twice all ports: a multiple of every period, from which a start is taken away.
 const AROUND: u32 = 131072;
@@ -30,7 +30,7 @@ pub struct Stretch {
 }
 
 // The stretch that has no base.
-pub fn nowhere() -> Stretch
+fn nowhere() -> Stretch
     ensures { λ r. ⌜ (r .start ≡ 0) × (r .mask ≡ 0) × (r .width ≡ 0) ⌝ }
 {
     Stretch {
@@ -224,15 +224,24 @@ fn numbers(t: &[u8], lines: usize) -> usize
 }
 
 // The first multiple from one on, in one period, at which the ports meet no grant that no more than `most` lines decide.
-fn open_in(t: &[u8], count: usize, lines: usize, most: usize, step: usize, from: usize) -> usize
+fn open_in(
+    t: &[u8],
+    count: usize,
+    lines: usize,
+    most: usize,
+    step: usize,
+    known: Stretch,
+    from: usize,
+) -> usize
     requires { ⌜ Accepted (now t) × (1 ≤ count) × (count < 256) × (lines ≤ Table.mostLines) ⌝ }
     requires { ⌜ (most ≤ Table.mostLines) × Power step × Multiple step from × (from ≤ around + around) ⌝ }
+    requires { ⌜ Barring (now t) count lines most step known ⌝ }
     ensures { λ r. ⌜ OpenIn (now (t .entry)) count lines most step from r ⌝ }
 {
     let all = stretches(t, count, lines, most);
     lowest(
         all,
-        nowhere(),
+        known,
         count,
         step,
         from,
@@ -240,22 +249,30 @@ fn open_in(t: &[u8], count: usize, lines: usize, most: usize, step: usize, from:
     )
 }
 
-// Whether the grants that few lines decide bar every base, as one period of them shows: the fewest lines first, and for more lines the search goes on
-// where it stands. That they don't says nothing.
-pub fn closed(t: &[u8], count: usize, lines: usize, step: usize) -> bool
+// Whether the stretch has every base.
+pub fn everywhere(s: Stretch) -> bool
+    ensures { λ r. ⌜ Everywhere s r ⌝ }
+{
+    s.mask < s.width
+}
+
+// The bases from 0 on that grants bar which few lines decide: the fewest lines first, and for more lines the search goes on where it stands.
+pub fn passed(t: &[u8], count: usize, lines: usize, step: usize) -> Stretch
     requires { ⌜ Accepted (now t) × (1 ≤ count) × (count < 256) × (lines ≤ Table.mostLines) × Power step ⌝ }
-    ensures { λ r. ⌜ Closed (now (t .entry)) count lines step r ⌝ }
+    ensures { λ r. ⌜ Barring (now (t .entry)) count lines Table.mostLines step r ⌝ }
 {
     let some = numbers(t, lines);
+    let mut known = nowhere();
     let mut base = 0;
     for most in 1..MOST_LINES {
         if !reading::is_set(some, most) {
             continue;
         }
-        base = open_in(t, count, lines, most, step, base);
-        if period(most, step) <= base {
-            return true;
+        base = open_in(t, count, lines, most, step, known, base);
+        known = learnt(known, 0, base, period(most, step));
+        if everywhere(known) {
+            return known;
         }
     }
-    false
+    known
 }

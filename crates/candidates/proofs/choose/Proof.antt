@@ -8,10 +8,10 @@ use denote.Ref.{now}
 use borrow.Author.Needs.{needs}
 use Rattle.facts.specs.Table
 use Rattle.facts.specs.Io.{countAsked, SmallestPower}
-use Rattle.obstacles.specs.Obstacles.{Power, Closed}
+use Rattle.obstacles.specs.Obstacles.{Power, Barring}
 use Rattle.candidates.specs.Candidates.{FirstIs}
 use Rattle.candidates.proofs.Steps.{smallest-power-lines}
-use Rattle.candidates.proofs.Said.{first-taken, closed-taken}
+use Rattle.candidates.proofs.Said.{first-taken, barred-taken}
 use Rattle.candidates.proofs.choose.Statement.{statement}
 use Rattle.candidates.proofs.choose.Tie as tie
 
@@ -60,24 +60,29 @@ lines-asked-requires c κs = search needs
 align-requires : tie.Need-align-requires
 align-requires c κs = search needs
 
-closed-requires : tie.Need-closed-requires
-closed-requires c κs = let k = counted c in (start c .pre .0 .0, k .0, k .1, k .2, k .3)
+passed-requires : tie.Need-passed-requires
+passed-requires c κs = let k = counted c in (start c .pre .0 .0, k .0, k .1, omega (arith, k .2), k .3)
+
+everywhere-requires : tie.Need-everywhere-requires
+everywhere-requires c κs = search needs
 
 returns : tie.Need-returns
 returns c =
-    let k = c .before .before in
-    closed-taken (table k) (packet k) (step k) (aligned k) (start k .pre .1 .0)
-    (subst₂ (λ (m n : ℕ). Closed (table k) m n (step k) (c .before .closed .result)) (read k .count-asked .ensures .0)
-    (k .before .lines-asked .ensures .0) (c .before .closed .ensures) (c .if1 .taken))
+    let at = c .before .before in
+    let k = at .before in
+    barred-taken (table k) (packet k) (step k) (aligned k) (start k .pre .1 .0) Table.mostLines (at .passed .result)
+    (subst₂ (λ (m n : ℕ). Barring (table k) m n Table.mostLines (step k) (at .passed .result)) (read k .count-asked .ensures .0)
+    (k .before .lines-asked .ensures .0) (at .passed .ensures)) (c .before .everywhere .ensures (c .if1 .taken))
 
 first-requires : tie.Need-first-requires
 first-requires c κs =
     let at = c .before .before in
-    let k = counted at in (start at .pre .0 .0, k .0, k .1, k .2, k .3)
+    let k = counted (at .before) in ((start (at .before) .pre .0 .0, k .0, k .1, k .2, k .3), at .passed .ensures)
 
 returns-2 : tie.Need-returns-2
 returns-2 c =
-    let k = c .before .before .before in
+    let at = c .before .before .before in
+    let k = at .before in
     first-taken (table k) (packet k) (step k) (aligned k) (start k .pre .1 .0) (c .first .result)
     (subst₂ (λ (m n : ℕ). FirstIs (table k) m n (step k) (c .first .result)) (read k .count-asked .ensures .0) (k .before .lines-asked .ensures .0)
     (c .first .ensures))
@@ -89,7 +94,8 @@ choose-spec =
     count-asked-requires
     lines-asked-requires
     align-requires
-    closed-requires
+    passed-requires
+    everywhere-requires
     returns
     first-requires
     returns-2)

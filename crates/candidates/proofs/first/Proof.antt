@@ -14,26 +14,26 @@ use Rattle.candidates.proofs.first.Statement.{statement}
 use Rattle.candidates.proofs.first.Tie as tie
 
 -- where the lines that decide were told, the call began, and its table
-abbrev told : tie.After-nowhere → tie.After-lines-met
-told c = c .before .before .before
+abbrev told : tie.After-stretches → tie.After-lines-met
+told c = c .before .before
 
-abbrev start : tie.After-nowhere → tie.Start
+abbrev start : tie.After-stretches → tie.Start
 start c = told c .before .before
 
-abbrev table : tie.After-nowhere → List ℕ
+abbrev table : tie.After-stretches → List ℕ
 table c = now (start c .args .t)
 
 -- what the live grants bar
-bars : (c : tie.After-nowhere)
+bars : (c : tie.After-stretches)
     → let a = start c .args in
-    Bars (table c) (a .count) (a .lines) (a .step) (c .before .before .period .result) (c .before .stretches .result) (c .nowhere .result)
+    Bars (table c) (a .count) (a .lines) (a .step) (c .before .period .result) (c .stretches .result) (a .known)
 bars c =
     let a = start c .args in
-    bars-made (told c .lines-met .result) (a .step) (c .before .before .period .result) (c .before .before .period .ensures) (table c) (a .count)
-    (a .lines) (c .before .stretches .result) (c .nowhere .result) (c .nowhere .ensures) (c .before .stretches .ensures) (told c .lines-met .ensures)
+    bars-made (told c .lines-met .result) (a .step) (c .before .period .result) (c .before .period .ensures) (table c) (a .count) (a .lines)
+    (c .stretches .result) _ (a .known) (start c .pre .1) (c .stretches .ensures) (told c .lines-met .ensures)
 
 -- the candidates of the first search; where it found one, and where it found none
-abbrev Early : tie.After-nowhere → ℕ → Type 0
+abbrev Early : tie.After-stretches → ℕ → Type 0
 Early c = let a = start c .args in CandidateIn (table c) 0 (a .count) (a .lines) (a .step)
 
 abbrev found : tie.After-known-told → tie.After-first-of
@@ -54,12 +54,9 @@ period-requires c κs = search needs
 stretches-requires : tie.Need-stretches-requires
 stretches-requires c κs = search needs
 
-nowhere-requires : tie.Need-nowhere-requires
-nowhere-requires c κs = search needs
-
 first-of-requires : tie.Need-first-of-requires
 first-of-requires c κs =
-    let pre = start c .pre in ((pre .0, pre .1, pre .2), (pre .4, bars c))
+    let pre = start c .pre .0 in ((pre .0, pre .1, pre .2), (pre .4, bars c))
 
 enum-known-taken : tie.Need-enum-known-taken
 enum-known-taken c = search needs
@@ -87,7 +84,6 @@ first-spec =
     lines-met-requires
     period-requires
     stretches-requires
-    nowhere-requires
     first-of-requires
     enum-known-taken
     returns

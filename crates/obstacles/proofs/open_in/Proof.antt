@@ -3,7 +3,6 @@
 use native.Mathlib.Omega.{arith}
 use denote.Ref.{now}
 use borrow.Author.Needs.{needs}
-use Rattle.obstacles.proofs.Grants.{nowhere-fits}
 use Rattle.obstacles.proofs.Steps.{power-most}
 use Rattle.obstacles.proofs.Periods.{open-in-is}
 use Rattle.obstacles.proofs.open_in.Statement.{statement}
@@ -14,13 +13,10 @@ abbrev start : tie.After-stretches → tie.Start
 start c = c .before .before
 
 abbrev made : tie.After-period → tie.After-stretches
-made c = c .before .before
+made c = c .before
 
 stretches-requires : tie.Need-stretches-requires
 stretches-requires c κs = search needs
-
-nowhere-requires : tie.Need-nowhere-requires
-nowhere-requires c κs = search needs
 
 period-requires : tie.Need-period-requires
 period-requires c κs = search needs
@@ -34,7 +30,7 @@ sub-lowest c = search needs
 lowest-requires : tie.Need-lowest-requires
 lowest-requires c κs =
     let s = start (made c) in (
-      (λ i l. made c .stretches .ensures i l .fits, nowhere-fits _ (c .before .nowhere .ensures), s .pre .1 .1, s .pre .1 .2, s .pre .1 .3),
+      (λ i l. made c .stretches .ensures i l .fits, s .pre .1 .1 .fits, s .pre .1 .0 .1, s .pre .1 .0 .2, s .pre .1 .0 .3),
       (omega (arith, s .pre .0 .2), omega (arith, power-most _ (c .period .ensures .power), s .pre .0 .1)),
     )
 
@@ -42,15 +38,14 @@ returns : tie.Need-returns
 returns c =
     let k = made (c .before) in
     let a = start k .args in
-    open-in-is (now (a .t)) (a .count) (a .lines) (a .most) (a .step) (a .from) _ (k .stretches .result) (c .before .before .nowhere .result)
-    (c .before .before .nowhere .ensures) (k .stretches .ensures) (c .lowest .result) (c .lowest .ensures)
+    open-in-is (now (a .t)) (a .count) (a .lines) (a .most) (a .step) (a .from) _ (k .stretches .result) (a .known)
+    (start k .pre .1 .1) (k .stretches .ensures) (c .lowest .result) (c .lowest .ensures)
 
 pub open-in-spec : {M : Type 1} → statement M
 open-in-spec =
     tie.close
     (tie.spec
     stretches-requires
-    nowhere-requires
     period-requires
     add-lowest
     sub-lowest

@@ -1,0 +1,122 @@
+-- `obstacles::passed` meets its contract: for so many lines, the search has passed every multiple before `base`, and what is known is barred.
+-- Assumes nothing.
+use Prim.Native.Nat.{_-_, _≤_}
+use native.Mathlib.Omega.{arith}
+use denote.Ref.{now}
+use borrow.Author.Needs.{needs}
+use Rattle.facts.specs.Table
+use Rattle.obstacles.proofs.Periods.{Passed, passed-none, passed-more, passed-on, barring-more}
+use Rattle.obstacles.proofs.passed.Statement.{statement}
+use Rattle.obstacles.proofs.passed.Tie as tie
+
+abbrev Inv-loop : tie.InvT-loop
+Inv-loop t count lines step some known₀ base₀ most₀ known base most = (most ≤ Table.mostLines) × Passed t count lines step most base known
+
+abbrev μ-loop : tie.MeasureT-loop
+μ-loop t count lines step some known₀ base₀ most₀ known base most = Table.mostLines - most
+
+-- where the call began, and the turn in which a number of lines was looked up
+abbrev begun : tie.After-numbers Inv-loop μ-loop → tie.Start Inv-loop μ-loop
+begun c = c .before .before
+
+abbrev start : tie.At-loop Inv-loop μ-loop → tie.Start Inv-loop μ-loop
+start c = begun (c .before .before)
+
+abbrev turn : tie.After-is-set Inv-loop μ-loop → tie.At-loop Inv-loop μ-loop
+turn c = c .before .before
+
+-- where one period was searched, from there on, and what the search passed was learnt
+abbrev searched : tie.After-open-in Inv-loop μ-loop → tie.At-loop Inv-loop μ-loop
+searched c = turn (c .before .before)
+
+abbrev found : tie.After-learnt Inv-loop μ-loop → tie.After-open-in Inv-loop μ-loop
+found c = c .before .before
+
+gone : (c : tie.After-learnt Inv-loop μ-loop)
+    → let k = searched (found c) in
+    let a = start k .args in Passed (now (a .t)) (a .count) (a .lines) (a .step) (k .loop .most) (found c .open-in .result) (c .learnt .result)
+gone c =
+    let k = searched (found c) in
+    passed-on _ _ _ _ (k .loop .most) (k .loop .base) (found c .open-in .result) (c .before .period .result) (k .loop .known) (c .learnt .result)
+    (k .loop .inv .1) (found c .open-in .ensures) (c .before .period .ensures) (c .learnt .ensures)
+
+numbers-requires : tie.Need-numbers-requires Inv-loop μ-loop
+numbers-requires c κs = let pre = c .before .pre in (pre .0, pre .3)
+
+nowhere-requires : tie.Need-nowhere-requires Inv-loop μ-loop
+nowhere-requires c κs = search needs
+
+loop-holds : tie.Need-loop-holds Inv-loop μ-loop
+loop-holds c = (omega arith, passed-none _ _ _ _ _ (c .nowhere .result) (c .nowhere .ensures))
+
+is-set-requires : tie.Need-is-set-requires Inv-loop μ-loop
+is-set-requires c κs = omega arith
+
+add-most : tie.Need-add-most Inv-loop μ-loop
+add-most c = omega arith
+
+loop-less : tie.Need-loop-less Inv-loop μ-loop
+loop-less c = omega arith
+
+loop-again : tie.Need-loop-again Inv-loop μ-loop
+loop-again c = let k = turn (c .before) in (omega arith, passed-more _ _ _ _ (k .loop .most) _ _ _ (omega arith) (k .loop .inv .1))
+
+open-in-requires : tie.Need-open-in-requires Inv-loop μ-loop
+open-in-requires c κs =
+    let k = turn (c .before) in
+    let pre = start k .pre in
+    let p = k .loop .inv .1 in ((pre .0, pre .1, pre .2, pre .3), ((k .loop .inv .0, pre .4, p .multiple, p .near), p .bars))
+
+period-requires : tie.Need-period-requires Inv-loop μ-loop
+period-requires c κs = let k = searched c in (k .loop .inv .0, start k .pre .4)
+
+learnt-requires : tie.Need-learnt-requires Inv-loop μ-loop
+learnt-requires c κs = c .period .ensures .power
+
+everywhere-requires : tie.Need-everywhere-requires Inv-loop μ-loop
+everywhere-requires c κs = search needs
+
+returns : tie.Need-returns Inv-loop μ-loop
+returns c =
+    let at = c .before .before in
+    let k = searched (found at) in
+    barring-more _ _ _ _ (k .loop .most) _ _ (k .loop .inv .0) (gone at .bars)
+
+add-most-2 : tie.Need-add-most-2 Inv-loop μ-loop
+add-most-2 c = omega arith
+
+loop-less-2 : tie.Need-loop-less-2 Inv-loop μ-loop
+loop-less-2 c = omega arith
+
+loop-again-2 : tie.Need-loop-again-2 Inv-loop μ-loop
+loop-again-2 c =
+    let at = c .before .before in
+    (omega arith, passed-more _ _ _ _ (searched (found at) .loop .most) _ _ _ (omega arith) (gone at))
+
+returns-2 : tie.Need-returns-2 Inv-loop μ-loop
+returns-2 c =
+    let k = c .before in
+    barring-more _ _ _ _ (k .loop .most) _ _ (k .loop .inv .0) (k .loop .inv .1 .bars)
+
+pub passed-spec : {M : Type 1} → statement M
+passed-spec =
+    tie.close
+    (tie.spec
+    Inv-loop
+    μ-loop
+    numbers-requires
+    nowhere-requires
+    loop-holds
+    is-set-requires
+    add-most
+    loop-less
+    loop-again
+    open-in-requires
+    period-requires
+    learnt-requires
+    everywhere-requires
+    returns
+    add-most-2
+    loop-less-2
+    loop-again-2
+    returns-2)
