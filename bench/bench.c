@@ -26,7 +26,7 @@ enum { REPETITIONS = 301, BATCH = 100 };
 #define NAMED_BAR 1.2
 
 /* A search for a base costs at most so many times memcmp, whatever the table. */
-#define SEARCH_BAR 6
+#define SEARCH_BAR 8
 
 /* So does looking at a table. */
 #define LOOK_BAR 2

@@ -1,6 +1,7 @@
 // The base that a request for I/O ports without a base takes, on a table that is the image of a well-formed set.
 use layout::MARKED;
 use layout::MOST_LINES;
+use layout::MOST_SOCKETS;
 use layout::RANGE_RESERVED;
 use layout::RANGE_SIZE;
 use layout::RANGES_AT;
@@ -93,7 +94,7 @@ fn first_in(
     lines: usize,
     step: usize,
     period: usize,
-    all: [Stretch; 8],
+    all: [Stretch; MOST_SOCKETS],
     known: Stretch,
 ) -> Search
     requires { ⌜ Accepted (now t) × (i < rangesIn (now t)) × (1 ≤ count) × (count < 256) ⌝ }
@@ -124,7 +125,7 @@ fn first_of(
     lines: usize,
     step: usize,
     period: usize,
-    all: [Stretch; 8],
+    all: [Stretch; MOST_SOCKETS],
     known: Stretch,
 ) -> Search
     requires { ⌜ Accepted (now t) × (1 ≤ count) × (count < 256) ⌝ }

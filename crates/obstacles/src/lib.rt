@@ -78,11 +78,11 @@ fn met(t: &[u8], s: Socket, count: usize, lines: usize, most: usize) -> Stretch
 }
 
 // The stretches of all live grants.
-pub fn stretches(t: &[u8], count: usize, lines: usize, most: usize) -> [Stretch; 8]
+pub fn stretches(t: &[u8], count: usize, lines: usize, most: usize) -> [Stretch; MOST_SOCKETS]
     requires { ⌜ Accepted (now t) × (1 ≤ count) × (count < 256) × (lines ≤ Table.mostLines) ⌝ }
     ensures { λ r. ⌜ StretchesAre (now (t .entry)) count lines most r ⌝ }
 {
-    let mut all = [nowhere(); 8];
+    let mut all = [nowhere(); MOST_SOCKETS];
     for s in 0..MOST_SOCKETS {
         all[s] = met(t, Socket(s), count, lines, most);
     }
@@ -112,7 +112,7 @@ fn larger(a: u32, b: u32) -> u32
 }
 
 // How far the farthest end lies ahead, of the stretches that have the base.
-fn leap(all: [Stretch; 8], base: u32) -> u32
+fn leap(all: [Stretch; MOST_SOCKETS], base: u32) -> u32
     requires { ⌜ AllFit all × (base ≤ Table.allPorts) ⌝ }
     ensures { λ r. ⌜ LeapsFirst all Table.mostSockets base r ⌝ }
 {
@@ -125,7 +125,7 @@ fn leap(all: [Stretch; 8], base: u32) -> u32
 }
 
 // How far a search can leap from a base: to the end of the stretch that is known, or else to the farthest of the others.
-fn leap_past(all: [Stretch; 8], known: Stretch, base: usize) -> usize
+fn leap_past(all: [Stretch; MOST_SOCKETS], known: Stretch, base: usize) -> usize
     requires { ⌜ AllFit all × Fits known × (base ≤ Table.allPorts) ⌝ }
     ensures { λ r. ⌜ LeapsIn all known base r ⌝ }
 {
@@ -149,7 +149,7 @@ pub fn up(from: usize, step: usize) -> usize
 // The lowest multiple of the step from a first one on that lies in no stretch, or the first whose ports don't end at or before a number: from one that
 // does, the search goes on at the first past the end of its stretch.
 pub fn lowest(
-    all: [Stretch; 8],
+    all: [Stretch; MOST_SOCKETS],
     known: Stretch,
     count: usize,
     step: usize,
