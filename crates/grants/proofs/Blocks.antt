@@ -7,12 +7,13 @@ use native.Mathlib.Nat.{min-eq-left, min-eq-right}
 use native.Mathlib.Decide.{ℕ-discrete, decLt}
 use native.Mathlib.Omega.{arith}
 use lib.Bits.{bitAnd, bitOr}
-use lib.Pow.{field, mod-mod-pow}
+use lib.Pow.{field}
 use Rattle.facts.specs.Table.{mostAsked, Ports}
 use Rattle.facts.specs.Packets.{bit}
 use Rattle.facts.specs.Ports.{Within}
 use Rattle.layout.specs.Reading.{ioIn}
 use Rattle.layout.specs.Sound.{IoPairSound}
+use Rattle.ports.proofs.Remainders.{mod-fewer}
 use Rattle.grants.specs.Company.{blockOf, BlocksWithin, Answers, Covers}
 use Rattle.grants.proofs.Covering.{one-bit, or-left, or-right, none-common}
 
@@ -48,13 +49,7 @@ module _ (base count : ℕ) (port : 1 ≤ count) (asked : count ≤ mostAsked) w
 
 -- ports that are equal modulo two to so many lines are in one block
 same-block : (p q lines : ℕ) → 14 ≤ lines → p % 2 ^ lines ≡ q % 2 ^ lines → blockOf p ≡ blockOf q
-same-block p q lines l e = sym (field p 6 8) ∙ ap (λ (n : ℕ). n / 256) (sym (low p) ∙ ap (λ (n : ℕ). n % 2 ^ 14) e ∙ low q) ∙ field q 6 8
-  where
-    here : lines ≡ lines - 14 + 14
-    here = omega arith
-
-    low : (n : ℕ) → n % 2 ^ lines % 2 ^ 14 ≡ n % 2 ^ 14
-    low n = ap (λ (m : ℕ). n % 2 ^ m % 2 ^ 14) here ∙ mod-mod-pow n (lines - 14) 14
+same-block p q lines l e = sym (field p 6 8) ∙ ap (λ (n : ℕ). n / 256) (mod-fewer p q 14 lines l e) ∙ field q 6 8
 
 -- the blocks of a grant's own ports are those in which it answers, where it decodes so many lines
 pub own-blocks : (b : List ℕ) (s set : ℕ) (p : Ports) → p ≡ ioIn b s .ports → 14 ≤ p .lines → BlocksWithin set (p .base) (p .count)
