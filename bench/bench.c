@@ -28,7 +28,7 @@ enum { REPETITIONS = 301, BATCH = 100 };
 /* A search for a base costs at most so many times memcmp, whatever the table. */
 #define SEARCH_BAR 8
 
-/* So does looking at a table. */
+/* And so does looking at a table. */
 #define LOOK_BAR 2
 
 static uint8_t table[CS_TABLE_SIZE], other[CS_TABLE_SIZE];

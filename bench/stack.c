@@ -2,7 +2,7 @@
  * stack.c: the stack that a call takes
  *
  * Makes each call on a painted stack and looks how far down the paint is gone:
- * on a fresh table, on full ones, on one where a search looks at every port and
+ * on a fresh table, on full ones, on some where a search for a base goes far and
  * on random ones, each also broken. Ends with status 1 if a call takes as much as
  * card_services.h says it doesn't (CS_STACK), or as much as the bar for every
  * entry.
@@ -310,7 +310,7 @@ static void measure_places(struct model *m)
 
 /* All ports are managed, and seven cards of eight lines hold ports: 255 of 256 or,
    with the last socket's, all that eight lines tell apart. A search for one more
-   looks at many of the ports, or at all. */
+   passes many of the ports, or finds that all are barred. */
 static void measure_searches(void)
 {
     static struct model m;
