@@ -552,10 +552,17 @@ uint32_t cs_call(uint8_t *table, size_t len, uint16_t service, uint16_t handle,
  *  9. the socket has an IRQ grant, whoever holds it: CS_IN_USE
  * 10. no level fits: CS_BAD_IRQ
  *
- * The level granted is one that fits: an unreserved one before a reserved one,
- * then the lowest. Writes the grant (client, level, manner); into the packet
- * AssignedIRQ and, for dynamic pulse alone, CS_IRQ_PULSE_ALLOCATED. Answers
- * the handle given. cs_card_out takes no grant away.
+ * The level granted is one that fits. A request that is not exclusive, without
+ * CS_IRQ_FIRST_SHARED, joins: it is granted the lowest level named that already
+ * has grants of its manner, reserved or not. Where there is none, and for every
+ * other request, an unreserved level comes before a reserved one, then the
+ * lowest. So with several levels named, links that share take one between them;
+ * a link that is to have a level of its own asks for CS_IRQ_FIRST_SHARED, or
+ * names the level.
+ *
+ * Writes the grant (client, level, manner); into the packet AssignedIRQ and,
+ * for dynamic pulse alone, CS_IRQ_PULSE_ALLOCATED. Answers the handle given.
+ * cs_card_out takes no grant away.
  *
  * The packet's first CS_RELEASE_IRQ_LENGTH bytes, as they are left, are the
  * packet that releases the grant.

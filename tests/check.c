@@ -13,7 +13,7 @@
 enum { MOST_REPORTS = 40, MOST_PRINTED = 32, CODES = 256, NUMBERED = 256 };
 
 static const char *running = "";
-static unsigned long checks, differ, seen[CODES];
+static unsigned long checks, by_log, differ, seen[CODES];
 static unsigned long seen_of[NUMBERED][CODES]; /* of cs_call, by service */
 static char description[200];
 
@@ -113,6 +113,7 @@ void run_group(const char *name, void (*group)(void), unsigned long least)
 
 int end_checks(void)
 {
+    printf("compare: with the model %lu checks, with the log %lu\n", checks - by_log, by_log);
     printf("compare: %lu checks, %lu differ\n", checks, differ);
     return differ == 0 ? 0 : 1;
 }
@@ -245,6 +246,7 @@ static bool judged_after_each;
 static void take_verdict(const struct verdict *v)
 {
     checks += v->compared;
+    by_log += v->compared;
     for (unsigned long i = 0; i < v->wrong; i++)
         if (reports() && i < MOST_TOLD) {
             printf("compare: %s: the log: ", running);

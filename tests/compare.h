@@ -99,6 +99,12 @@ void irq_cases(void);
 void irq_bytes(void);
 void irq_full_table(void);
 
+/* compare_irq_joining.c: levels that a sharing request joins before others */
+void irq_joins_of_two(void);
+void irq_joins_of_many(void);
+void irq_joins_by_calls(void);
+void irq_joins_to_the_last(void);
+
 /* compare_io.c: RequestIO with a base that is named */
 void io_attributes(void);
 void io_counts(void);

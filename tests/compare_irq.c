@@ -37,23 +37,11 @@ static uint8_t manner_of(char letter)
                            : DYNAMIC_PULSE;
 }
 
-static uint8_t lowest_bit(uint16_t bits)
-{
-    uint8_t bit = 0;
-    while ((bits >> bit & 1) == 0)
-        bit++;
-    return bit;
-}
-
 static void granted(uint16_t client, uint8_t socket, uint16_t attributes, uint8_t info_1,
                     uint16_t info_2, uint8_t level)
 {
-    char letter = by_hand[attributes][info_1 >> 5];
-    if (letter == 'p')
-        pulse_granted(client, socket, attributes, info_1, info_2, level);
-    else
-        irq_granted(client, socket, attributes, info_1, info_2, level);
-    irq_grant_bytes(socket, client, level, manner_of(letter));
+    manner_granted(client, socket, attributes, info_1, info_2, level,
+                   manner_of(by_hand[attributes][info_1 >> 5]));
 }
 
 /* "Mask set with any of IRQInfo1's bits 0 to 3, or with IRQInfo2 0"; "With Mask
@@ -68,7 +56,7 @@ static void try_attributes(uint16_t attributes, uint8_t info_1, uint16_t info_2)
     else if (letter == 'a' || (mask && (low != 0 || info_2 == 0)))
         irq_refused(4, 1, attributes, info_1, info_2, CS_BAD_ARGS);
     else
-        granted(4, 1, attributes, info_1, info_2, mask ? lowest_bit(info_2) : low);
+        granted(4, 1, attributes, info_1, info_2, mask ? lowest_level(info_2) : low);
 }
 
 /* Every IRQInfo1 with every attribute that there is. */
@@ -173,13 +161,6 @@ void irq_choice_of_two(void)
         }
 }
 
-/* Of those that fit; 16 if there is none. */
-static uint8_t first_of(uint16_t fit, uint16_t reserved)
-{
-    uint16_t unreserved = fit & (uint16_t)~reserved;
-    return unreserved != 0 ? lowest_bit(unreserved) : fit != 0 ? lowest_bit(fit) : 16;
-}
-
 /* Up to seven levels held, exclusively, from sockets 1 to 7. */
 static void choose_by_chance(struct chance *c)
 {
@@ -199,7 +180,7 @@ static void choose_by_chance(struct chance *c)
     }
     lend_set(&m);
     describe("managed %04X, reserved %04X, held %04X", managed, reserved, held);
-    uint8_t level = first_of(named & managed & (uint16_t)~held, reserved);
+    uint8_t level = first_level(named & managed & (uint16_t)~held, reserved);
     if (level < CS_LEVELS)
         irq_granted(7, 0, 0, 0x70, named, level);
     else
@@ -226,19 +207,6 @@ void irq_choice_of_many(void)
 }
 
 /* ---- Who goes together ---- */
-
-/* How each manner is asked for: exclusive, time-multiplexed, dynamic level, and
-   dynamic pulse in both ways. */
-static const struct {
-    uint8_t manner;
-    uint16_t attributes;
-    uint8_t info_1;
-} asked[] = {{EXCLUSIVE, 0, 0xE0},
-             {TIME_MULTIPLEXED, 1, 0xE0},
-             {DYNAMIC_LEVEL, 2, 0xE0},
-             {DYNAMIC_PULSE, 6, 0xE0},
-             {DYNAMIC_PULSE, 2, 0xC0}};
-enum { ASKED = sizeof asked / sizeof *asked };
 
 /* "only equal ones, and never exclusive"; "either has no grant or, without First
    Shared, all its grants go together with this manner." So many hold the level,
@@ -303,12 +271,13 @@ static void each_goes_to(uint16_t reserved, const uint8_t levels[ASKED],
     }
 }
 
-/* Of levels that fit, one without a grant and one that is shared are alike. */
+/* A level of the manner asked for comes first, reserved or not (K1); with First
+   Shared, and for Exclusive, one without a grant. */
 void irq_each_manner(void)
 {
     each_goes_to(1u << 11, (const uint8_t[]){13, 3, 5, 7, 7}, (const uint8_t[]){0, 13, 13, 13, 13});
     each_goes_to(0, (const uint8_t[]){11, 3, 5, 7, 7}, (const uint8_t[]){0, 11, 11, 11, 11});
-    each_goes_to(1u << 3 | 1u << 5 | 1u << 7, (const uint8_t[]){11, 11, 11, 11, 11},
+    each_goes_to(1u << 3 | 1u << 5 | 1u << 7, (const uint8_t[]){11, 3, 5, 7, 7},
                  (const uint8_t[]){0, 11, 11, 11, 11});
     each_goes_to(0x2AA8, (const uint8_t[]){11, 3, 5, 7, 7}, (const uint8_t[]){0, 11, 11, 11, 11});
     each_goes_to(1u << 11 | 1u << 13, (const uint8_t[]){11, 3, 5, 7, 7},

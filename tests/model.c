@@ -358,8 +358,8 @@ static bool fits(const struct model *m, unsigned level, unsigned named, uint8_t 
 
 /* "An unreserved level comes before a reserved one, then the lowest." CS_LEVELS
    if none fits. */
-static unsigned choose_level(const struct model *m, unsigned named, uint8_t manner,
-                             bool first_shared)
+static unsigned first_fitting(const struct model *m, unsigned named, uint8_t manner,
+                              bool first_shared)
 {
     unsigned lowest_reserved = CS_LEVELS;
     for (unsigned level = 0; level < CS_LEVELS; level++) {
@@ -371,6 +371,30 @@ static unsigned choose_level(const struct model *m, unsigned named, uint8_t mann
             lowest_reserved = level;
     }
     return lowest_reserved;
+}
+
+/* K1: "the lowest named level that already has grants of its manner". CS_LEVELS
+   if there is none. */
+static unsigned lowest_of_manner(const struct model *m, unsigned named, uint8_t manner)
+{
+    unsigned lowest = CS_LEVELS;
+    for (unsigned s = 0; s < CS_SOCKETS; s++) {
+        const struct irq_grant *g = &m->irq[s];
+        if (g->live && g->manner == manner && (named >> g->level & 1) != 0 && g->level < lowest)
+            lowest = g->level;
+    }
+    return lowest;
+}
+
+/* K1: "only if none exists, the old choice. Exclusive and First Shared requests
+   keep the old choice." */
+static unsigned choose_level(const struct model *m, unsigned named, uint8_t manner,
+                             bool first_shared)
+{
+    unsigned joined = CS_LEVELS;
+    if (manner != EXCLUSIVE && !first_shared)
+        joined = lowest_of_manner(m, named, manner);
+    return joined < CS_LEVELS ? joined : first_fitting(m, named, manner, first_shared);
 }
 
 static uint32_t request_irq(struct model *m, struct call *call)

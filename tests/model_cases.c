@@ -389,7 +389,7 @@ static void irq_order(void)
     request_irq(&m, 3, 6, 0xF0, 0x0028, &assigned);
     expect("dynamic pulse does not join dynamic level", assigned == 0xFF);
     request_irq(&m, 3, 2, 0xF0, 0x0028, &assigned);
-    expect("dynamic level joins the unreserved level", assigned == 3);
+    expect("dynamic level joins the lowest", assigned == 3);
 }
 
 static void irq_choice(void)
@@ -405,6 +405,44 @@ static void irq_choice(void)
     expect("an unreserved level before a lower reserved one", assigned == 9);
     request_irq(&m, 2, 0, 0x30, 0x1220, &assigned);
     expect("then the lowest reserved one", assigned == 5);
+}
+
+/* K1, on N6's table: the level of the manner asked for, reserved or not; the
+   lowest of two; not with First Shared, not for Exclusive, and not unnamed. */
+static void irq_preferred(void)
+{
+    struct model m;
+    uint8_t assigned;
+    ready_n6(&m);
+    request_irq(&m, 0, 2, 0xA5, 0, &assigned);
+    expect("5 named alone", assigned == 5);
+    request_irq(&m, 1, 2, 0xB0, 0x0028, &assigned);
+    expect("a reserved level with a sharer before a free one", assigned == 5);
+    request_irq(&m, 2, 10, 0xB0, 0x0028, &assigned);
+    expect("First Shared takes the free one", assigned == 3);
+    request_irq(&m, 3, 2, 0xB0, 0x0028, &assigned);
+    expect("the lowest of two", assigned == 3);
+    request_irq(&m, 4, 1, 0xB0, 0x0028, &assigned);
+    expect("time-multiplexed joins neither", assigned == 0xFF);
+    ready_n6(&m);
+    request_irq(&m, 0, 6, 0xE5, 0, &assigned);
+    request_irq(&m, 1, 2, 0xB0, 0x0028, &assigned);
+    expect("dynamic level beside dynamic pulse", assigned == 3);
+    ready_n6(&m);
+    request_irq(&m, 0, 2, 0xA5, 0, &assigned);
+    request_irq(&m, 1, 0, 0xB0, 0x0028, &assigned);
+    expect("Exclusive beside a sharer", assigned == 3);
+    ready_n6(&m);
+    request_irq(&m, 0, 2, 0xA5, 0, &assigned);
+    request_irq(&m, 1, 2, 0xB0, 0x0008, &assigned);
+    expect("a level of its manner that isn't named", assigned == 3);
+    ready(&m);
+    add_irq(&m, 3, CS_RESERVE);
+    add_irq(&m, 5, 0);
+    request_irq(&m, 0, 1, 0x23, 0, &assigned);
+    request_irq(&m, 1, 9, 0x25, 0, &assigned);
+    request_irq(&m, 2, 1, 0x30, 0x0028, &assigned);
+    expect("the lowest of two, though reserved", assigned == 3);
 }
 
 static void irq_release(void)
@@ -759,6 +797,7 @@ int main(void)
     request_irq_codes();
     irq_order();
     irq_choice();
+    irq_preferred();
     irq_release();
     adjust_codes();
     shown();

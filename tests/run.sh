@@ -46,7 +46,7 @@ run model_cases
 # shellcheck disable=SC2086
 build compare tests/compare.c tests/compare_calls.c tests/compare_resources.c \
     tests/compare_holders.c tests/compare_boot.c tests/compare_sockets.c tests/compare_irq.c \
-    tests/compare_io.c tests/compare_io_choice.c tests/compare_io_held.c \
+    tests/compare_irq_joining.c tests/compare_io.c tests/compare_io_choice.c tests/compare_io_held.c \
     tests/compare_io_worlds.c tests/compare_masks.c tests/compare_runs.c tests/compare_tables.c \
     tests/resources.c tests/sockets.c tests/clauses.c tests/check.c tests/log.c $model "$archive"
 run compare

@@ -92,6 +92,38 @@ void irq_refused(uint16_t client, uint8_t socket, uint16_t attributes, uint8_t i
     packet_left(socket, attributes, NOT_ASSIGNED, info_1, info_2);
 }
 
+void manner_granted(uint16_t client, uint8_t socket, uint16_t attributes, uint8_t info_1,
+                    uint16_t info_2, uint8_t level, uint8_t manner)
+{
+    if (manner == DYNAMIC_PULSE)
+        pulse_granted(client, socket, attributes, info_1, info_2, level);
+    else
+        irq_granted(client, socket, attributes, info_1, info_2, level);
+    irq_grant_bytes(socket, client, level, manner);
+}
+
+const struct asked asked[ASKED] = {{EXCLUSIVE, 0, 0xE0},
+                                   {TIME_MULTIPLEXED, 1, 0xE0},
+                                   {DYNAMIC_LEVEL, 2, 0xE0},
+                                   {DYNAMIC_PULSE, 6, 0xE0},
+                                   {DYNAMIC_PULSE, 2, 0xC0}};
+
+uint8_t lowest_level(uint16_t levels)
+{
+    uint8_t level = 0;
+    while ((levels >> level & 1) == 0)
+        level++;
+    return level;
+}
+
+uint8_t first_level(uint16_t levels, uint16_t reserved)
+{
+    uint16_t unreserved = levels & (uint16_t)~reserved;
+    return unreserved != 0 ? lowest_level(unreserved)
+           : levels != 0   ? lowest_level(levels)
+                           : CS_LEVELS;
+}
+
 void irq_grant_bytes(unsigned socket, uint16_t client, uint8_t level, uint8_t manner)
 {
     uint8_t by_hand[] = {(uint8_t)client, (uint8_t)(client >> 8), level, manner};

@@ -45,6 +45,25 @@ void pulse_granted(uint16_t client, uint8_t socket, uint16_t attributes, uint8_t
 void irq_refused(uint16_t client, uint8_t socket, uint16_t attributes, uint8_t info_1,
                  uint16_t info_2, uint32_t code);
 
+/* The level granted in this manner, with the grant's bytes. */
+void manner_granted(uint16_t client, uint8_t socket, uint16_t attributes, uint8_t info_1,
+                    uint16_t info_2, uint8_t level, uint8_t manner);
+
+/* How each manner is asked for, the level apart: exclusive, time-multiplexed,
+   dynamic level, and dynamic pulse in both ways. */
+enum { ASKED = 5 };
+extern const struct asked {
+    uint8_t manner;
+    uint16_t attributes;
+    uint8_t info_1;
+} asked[ASKED];
+
+/* Of levels that are bits: the lowest, and the one that comes first by "An
+   unreserved level comes before a reserved one, then the lowest.", CS_LEVELS if
+   there is none. */
+uint8_t lowest_level(uint16_t levels);
+uint8_t first_level(uint16_t levels, uint16_t reserved);
+
 /* RequestIO with the answer, the packet and the grant's bytes worked out by hand:
    a named base granted, base 0 with the base chosen, or the packet as it was
    asked. */

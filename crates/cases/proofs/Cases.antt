@@ -8,7 +8,7 @@ use native.Mathlib.Omega.{arith}
 use lib.ListN.{length}
 use Rattle.facts.specs.declared.Width.the-variants.{Short}
 use Rattle.facts.specs.declared.Code.the-variants.{BadBase}
-use Rattle.facts.specs.declared.Manner.the-variants.{Exclusive, DynamicLevel}
+use Rattle.facts.specs.declared.Manner.the-variants.{Exclusive}
 use Rattle.facts.specs.Table.{Facts, Range, IrqGrant, fresh}
 use Rattle.facts.specs.WellFormed.{Apart}
 use Rattle.facts.specs.Levels.{typeOf}
@@ -20,7 +20,7 @@ use Rattle.cases.specs.Cases.{halfHeld, unheldRange, oneClient, noClient
 use Rattle.facts.proofs.Unique.{register-unique, deregister-unique, sharers-unique, adjust-unique}
 use Rattle.cases.proofs.Permitted.{exactly, as-left, as-kept, _then_, _nor_, listed-alone}
 use Rattle.cases.proofs.Ports.{meet-equal, gives-308, half-meets-none, half-leaves-308}
-use Rattle.cases.proofs.Levels.{bits-B0, bits-D0, bits-A3, gives-3, gives-5, gives-none, held-fits-not, level-fits, only-grant}
+use Rattle.cases.proofs.Levels.{bits-B0, bits-D0, bits-A3, gives-3, gives-5, gives-none, joins-at, none-to-join, held-fits-not, level-fits, only-grant}
 
 -- AdjustResourceInfo with a short packet for I/O is what AdjustIo says
 module _ (F : Facts) (apart : Apart 0 (F .ranges)) (a b c d e f : ℕ) (action : a ≤ 3) where
@@ -122,8 +122,9 @@ cases =
       n4 = record { one = 0x100; other = 0x200; one-in = omega arith; other-in = omega arith; equal = refl };
       n5 = (adds 0xF8 (omega arith), adds-not 0xF9 (omega arith));
       n6 = (
-        gives-3 (twoLevels .irq) 0 0x00 bits-B0 (omega arith) refl refl (level-fits (inl (refl, refl)) refl),
-        gives-5 (threeHeld .irq) 1 0x00 bits-B0 (omega arith) refl refl (held-fits-not 0 refl refl (λ t. t .shares refl))
+        gives-3 (twoLevels .irq) 0 0x00 bits-B0 (omega arith) refl refl (none-to-join (λ s. refl)) (level-fits (inl (refl, refl)) refl),
+        gives-5 (threeHeld .irq) 1 0x00 bits-B0 (omega arith) refl refl (λ l j. j .joining .shares refl)
+            (held-fits-not 0 refl refl (λ t. t .shares refl))
             (record {
               named = inl (refl, refl);
               managed = refl;
@@ -133,19 +134,10 @@ cases =
             (held-fits-not 1 refl refl (λ t. t .shares refl)),
       );
       n7 = (
-        gives-3 (twoLevels .irq) 0 0x02 bits-A3 (omega arith) refl refl (level-fits (inr (omega arith, refl)) refl),
+        gives-3 (twoLevels .irq) 0 0x02 bits-A3 (omega arith) refl refl (none-to-join (λ s. refl)) (level-fits (inr (omega arith, refl)) refl),
         gives-none (oneSharer .irq) 1 0x01 bits-A3 (omega arith) refl refl (held-fits-not 0 refl refl (λ t. omega (arith, ap typeOf (t .equal))))
             (λ f. (omega arith nor omega arith) (f .named)),
-        gives-3 (oneSharer .irq) 1 0x02 bits-A3 (omega arith) refl refl
-            (record {
-              named = inr (omega arith, refl);
-              managed = refl;
-              free =
-                  inr (
-                    omega arith,
-                    λ s g h. rw (only-grant 3 DynamicLevel 3 s g h) (record { equal = refl; shares = λ e. omega (arith, ap typeOf e) }),
-                  );
-            }),
+        joins-at 3 bits-A3 refl (inr (omega arith, refl)) refl,
         exactly (sharers-unique twoSharers 3) (inr (omega arith, (refl, refl))),
       );
       n8 = gives-308 (halfHeld .io) (range 0x300 16) 8 (omega arith) refl (omega arith) half-meets-none half-leaves-308;
@@ -154,8 +146,8 @@ cases =
           (λ b t e inside meets-none. omega arith);
       n10 = (registers (fresh 2) (omega arith), deregisters, registers noClient (omega arith));
       n11 = (
-        gives-3 (twoLevels .irq) 0 0x02 bits-B0 (omega arith) refl refl (level-fits (inl (refl, refl)) refl),
-        gives-3 (twoLevels .irq) 0 0x02 bits-D0 (omega arith) refl refl (level-fits (inl (refl, refl)) refl),
+        gives-3 (twoLevels .irq) 0 0x02 bits-B0 (omega arith) refl refl (none-to-join (λ s. refl)) (level-fits (inl (refl, refl)) refl),
+        gives-3 (twoLevels .irq) 0 0x02 bits-D0 (omega arith) refl refl (none-to-join (λ s. refl)) (level-fits (inl (refl, refl)) refl),
       );
       n12 =
           adjusts unheldRange (omega arith) 0x02 0x00 0x00 0x00 0x00 0x00 (omega arith)

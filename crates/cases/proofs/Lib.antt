@@ -3,3 +3,4 @@ pub mod Permitted
 pub mod Ports
 pub mod Levels
 pub mod Cases
+pub mod Joining

@@ -1,2 +1,3 @@
--- The cases by number. Assumes nothing.
+-- The cases by number, and those of later requests. Assumes nothing.
 pub mod Cases
+pub mod Joining

@@ -12,6 +12,7 @@ use Rattle.facts.specs.Checks.{Check, _gives_, Outcome, Passed, Decided}
 use Rattle.facts.specs.Irq.{RequestIrq, NoLevelFits, irqAheadChecks, levelChecks}
 use Rattle.facts.specs.Io.{RequestIo, NotAllManaged, InTheWay, NoCandidate, baseAsked, ioAheadChecks, baseChecks}
 use Rattle.facts.specs.Laws.{ExactlyWhen}
+use Rattle.facts.proofs.Joining.{taken-fits}
 
 -- where the checks ahead pass, the rest decide
 ahead-decided : (ahead own : List Check) (code : Code) {kept done : Type 0} → Passed ahead → Decided (ahead ++ own) code kept done
@@ -84,6 +85,7 @@ exactly-when =
     record {
       irq = λ F h p o ahead r. irq-decides F h p o ahead r .0;
       irq-refused = λ F h p o ahead r. irq-decides F h p o ahead r .1;
+      irq-taken = λ F p l w. taken-fits F w p l;
       io-base = λ F h p o ahead ne r. io-named F h p o ahead ne r .0;
       io-named = λ F h p o ahead ne r. io-named F h p o ahead ne r .1;
       io-chosen = λ F h p o ahead z r. io-chosen F h p o ahead z r .0;

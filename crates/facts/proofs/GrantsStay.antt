@@ -12,13 +12,14 @@ use Rattle.facts.specs.Table.{Facts, IoGrant, IrqGrant}
 use Rattle.facts.specs.Packets.{bit, Bytes}
 use Rattle.facts.specs.Ports.{Meet, AllManaged}
 use Rattle.facts.specs.WellFormed.{WellFormed, IoFits, IrqFits, IoCompany, IrqCompany}
-use Rattle.facts.specs.Levels.{Holds}
+use Rattle.facts.specs.Levels.{Together, Holds}
 use Rattle.facts.specs.Checks.{Outcome, Passed}
 use Rattle.facts.specs.Sockets.{socketOf, requestChecks}
 use Rattle.facts.specs.Irq.{RequestIrq, ReleaseIrq, GrantsIrq, ownIrqChecks, levelChecks, irqGrant, mannerAsked, requestIrqLength}
 use Rattle.facts.specs.Io.{RequestIo, ReleaseIo, GrantsIo, BaseTaken, ownIoChecks, baseChecks, ioGrant, portsAt, requestIoLength}
 use Rattle.facts.specs.Io.{baseAsked, countAsked, linesAsked, ioAttributes}
 use Rattle.facts.proofs.Company.{together-symmetric}
+use Rattle.facts.proofs.Joining.{joined-together}
 use Rattle.facts.proofs.Told.{told, both-told, true-told, all-managed-told}
 use Rattle.facts.proofs.Formed.{io-formed, irq-formed}
 use Rattle.facts.proofs.ClientsStay.{live-passed, socket-passed, request-passed}
@@ -45,15 +46,17 @@ module _ (F : Facts) (h : ℕ) (p : List ℕ) (o : Outcome) (w : WellFormed F) w
           record {
             client = live-passed requestIrqLength F h p (ownIrqChecks F p (levelChecks F p)) passed;
             socket = socket-passed requestIrqLength F h p (ownIrqChecks F p (levelChecks F p)) passed;
-            managed = granted .taken .fits .managed;
+            managed = ⊎-elim (λ joined. joined .fits .managed) (λ old. old .1 .fits .managed) (granted .taken);
           }
 
-      -- the level has no grant, or all its grants go together with this manner
+      -- the level is joined, or it has no grant, or all its grants go together with this manner
+      together : (t : ℕ) (g : IrqGrant) → Holds F (granted .level) t g → Together (g .manner) (mannerAsked p)
+      together t g holds =
+          ⊎-elim (λ joined. joined-together F w p (granted .level) (joined .fits) t g holds)
+          (λ old. ⊎-elim (λ free. absurd (free t g holds)) (λ all. all .1 t g holds) (old .1 .fits .free)) (granted .taken)
+
       company : (t : ℕ) (g : IrqGrant) → F .irq t ≡ some g → IrqCompany new g
-      company t g e q =
-          let holds : Holds F (granted .level) t g = record { live = e; at = sym q } in
-          ⊎-elim (λ free. absurd (free t g holds)) (λ all. together-symmetric (g .manner) (mannerAsked p) (all .1 t g holds))
-          (granted .taken .fits .free)
+      company t g e q = together-symmetric (g .manner) (mannerAsked p) (together t g (record { live = e; at = sym q }))
 
   pub release-irq-stays : ReleaseIrq F h p o → WellFormed (o .facts)
   release-irq-stays (inl r) = subst WellFormed (sym (r .1 .facts)) w

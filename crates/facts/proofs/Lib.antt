@@ -4,6 +4,7 @@ pub mod Sets
 pub mod Codes
 pub mod Choices
 pub mod Company
+pub mod Joining
 pub mod Unique
 pub mod Refusals
 pub mod Sharing

@@ -28,7 +28,7 @@ use Rattle.facts.specs.Resources.{showRangeChecks, showingLevel, showing
 use Rattle.facts.specs.Levels.{typeOf}
 use Rattle.facts.specs.Packets.{withWord}
 use Rattle.facts.specs.Irq.{RequestIrq, ReleaseIrq, Sharers, Count, irqRequestChecks, irqReleaseChecks, sharersChecks, irqGrant, assigning}
-use Rattle.facts.specs.Irq.{withIrq}
+use Rattle.facts.specs.Irq.{LevelTaken, withIrq}
 use Rattle.facts.specs.Io.{RequestIo, ReleaseIo, BaseTaken, ioRequestChecks, ioReleaseChecks, ioGrant, withIo}
 use Rattle.facts.specs.Boot.{Boot, Booted, done, broken, refused, added, stopped, recordOf, recordChecks}
 use Rattle.facts.specs.Services.{Service, registerClient, deregisterClient, adjustResourceInfo, requestIrq, releaseIrq, requestIo, releaseIo}
@@ -111,6 +111,13 @@ chosen-unique {Fit} {Early} {x} {y} c d = before-both Early x y (c .first y (d .
 
 pub lowest-unique : {Fit : ℕ → Type 0} {x y : ℕ} → Lowest Fit x → Lowest Fit y → x ≡ y
 lowest-unique {Fit} {x} {y} c d = omega (arith, c .least y (d .fits), d .least x (c .fits))
+
+-- the level that is taken is one
+level-taken-unique : (F : Facts) (p : List ℕ) (x y : ℕ) → LevelTaken F p x → LevelTaken F p y → x ≡ y
+level-taken-unique F p x y (inl t) (inl t′) = lowest-unique t t′
+level-taken-unique F p x y (inl t) (inr t′) = absurd (t′ .0 x (t .fits))
+level-taken-unique F p x y (inr t) (inl t′) = absurd (t .0 y (t′ .fits))
+level-taken-unique F p x y (inr t) (inr t′) = chosen-unique (t .1) (t′ .1)
 
 -- the base that is taken is one
 base-taken-unique : (F : Facts) (p : List ℕ) (x y : ℕ) → BaseTaken F p x → BaseTaken F p y → x ≡ y
@@ -234,7 +241,7 @@ module _ (F : Facts) (h : ℕ) (p : List ℕ) where
   pub request-irq-unique : Coincide (RequestIrq F h p)
   request-irq-unique =
       ruled-coincide (irqRequestChecks F h p) λ o o′ d d′.
-      let e = chosen-unique (d .taken) (d′ .taken) in
+      let e = level-taken-unique F p (d .level) (d′ .level) (d .taken) (d′ .taken) in
       leaves-same refl (ap (assigning p) e) (ap (λ (l : ℕ). withIrq F (socketOf p) (some (irqGrant h p l))) e) (d .leaves) (d′ .leaves)
 
   pub release-irq-unique : Coincide (ReleaseIrq F h p)

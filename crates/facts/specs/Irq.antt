@@ -14,7 +14,7 @@ use Rattle.facts.specs.declared.Code.the-variants.{BadAttribute, BadArgs
 use Rattle.facts.specs.Table
 use Rattle.facts.specs.Table.{Facts, IrqGrant}
 use Rattle.facts.specs.Sets.{put}
-use Rattle.facts.specs.Choice.{Chosen}
+use Rattle.facts.specs.Choice.{Chosen, Lowest}
 use Rattle.facts.specs.Levels.{Together, Holds, typeOf, exclusiveType, timeMultiplexedType, dynamicType}
 use Rattle.facts.specs.Packets.{byte, word, withWord, bit}
 use Rattle.facts.specs.Sockets.{socketOf, requestChecks, releaseChecks}
@@ -101,8 +101,31 @@ abbrev pub NoLevelFits : Facts → List ℕ → Type 0
 NoLevelFits F p = (l : ℕ) → Fits F p l → ⊥
 
 -- "An unreserved level comes before a reserved one, then the lowest."
+abbrev pub FirstFitting : Facts → List ℕ → ℕ → Type 0
+FirstFitting F p = Chosen (Fits F p) (λ l. F .level l .reserved ≡ false)
+
+-- K1: "A sharing request without First Shared"
+pub record Joining (p : List ℕ) : Type 0 where
+  pub shares : mannerAsked p ≢ Exclusive
+  pub not-first : IrqFirstShared p → ⊥
+
+-- K1: "the lowest named level that already has grants of its manner": one of these, reserved or not
+pub record Joins (F : Facts) (p : List ℕ) (l : ℕ) : Type 0 where
+  pub joining : Joining p
+  pub named : Named p l
+  pub managed : F .level l .managed ≡ true
+  pub socket : ℕ
+  pub grant : IrqGrant
+  pub holds : Holds F l socket grant
+  pub manner : grant .manner ≡ mannerAsked p
+
+-- "none exists"
+abbrev pub NoLevelJoined : Facts → List ℕ → Type 0
+NoLevelJoined F p = (l : ℕ) → Joins F p l → ⊥
+
+-- K1: it takes "the lowest" of them; "only if none exists, the old choice"
 abbrev pub LevelTaken : Facts → List ℕ → ℕ → Type 0
-LevelTaken F p = Chosen (Fits F p) (λ l. F .level l .reserved ≡ false)
+LevelTaken F p l = Lowest (Joins F p) l ⊎ (NoLevelJoined F p × FirstFitting F p l)
 
 abbrev pub withIrq : Facts → ℕ → Option IrqGrant → Facts
 withIrq F s g =

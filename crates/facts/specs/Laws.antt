@@ -16,7 +16,7 @@ use Rattle.facts.specs.Clients.{registerChecks, deregisterChecks}
 use Rattle.facts.specs.Sockets.{CardOutcome, CardTo, cardChecks, requestMaskChecks, releaseMaskChecks}
 use Rattle.facts.specs.Resources.{adjustChecks, addLevelChecks, removeLevelChecks, showLevelChecks, addRangeChecks, removeRangeChecks}
 use Rattle.facts.specs.Resources.{showRangeChecks}
-use Rattle.facts.specs.Irq.{Count, Sharers, RequestIrq, NoLevelFits, irqAheadChecks, irqRequestChecks, irqReleaseChecks, sharersChecks}
+use Rattle.facts.specs.Irq.{Count, Sharers, RequestIrq, Fits, NoLevelFits, LevelTaken, irqAheadChecks, irqRequestChecks, irqReleaseChecks, sharersChecks}
 use Rattle.facts.specs.Io.{RequestIo, NotAllManaged, InTheWay, NoCandidate, baseAsked, ioAheadChecks, ioRequestChecks, ioReleaseChecks}
 use Rattle.facts.specs.Boot.{Booted, Boot, recordSize, recordsAdded}
 use Rattle.facts.specs.Services.{Service, ruleOf}
@@ -78,6 +78,8 @@ pub record ExactlyWhen : Type 0 where
       → (o .code ≡ BadIrq) ↔ NoLevelFits F p
   pub irq-refused : (F : Facts) (h : ℕ) (p : List ℕ) (o : Outcome) → Passed (irqAheadChecks F h p []) → RequestIrq F h p o
       → (o .code ≢ Success) ↔ NoLevelFits F p
+  -- and the level that it takes is one that fits
+  pub irq-taken : (F : Facts) (p : List ℕ) (l : ℕ) → WellFormed F → LevelTaken F p l → Fits F p l
   -- RequestIO with a named base answers BAD_BASE exactly if it isn't all managed, and is refused exactly for that or if it meets what it may not
   pub io-base : (F : Facts) (h : ℕ) (p : List ℕ) (o : Outcome) → Passed (ioAheadChecks F h p []) → baseAsked p ≢ 0 → RequestIo F h p o
       → (o .code ≡ BadBase) ↔ NotAllManaged F p

@@ -3,7 +3,7 @@ use mathlib.Core.Path.{_≡_, refl, ap, ap₂, sym, _∙_, subst}
 use mathlib.Core.Logic.{_↔_, _≢_}
 use mathlib.Core.Bool.{Bool, true, false}
 use Prim.Native.Nat.{ℕ, zero, suc, _+_, _-_, _*_, _/_, _%_, _^_, _≤_, _<_}
-use native.Mathlib.Nat.{div-eq-of-lt, mod-eq-of-lt, mul-assoc, pow-succ', two-pow-succ}
+use native.Mathlib.Nat.{mod-eq-of-lt, mul-assoc, pow-succ', two-pow-succ}
 use native.Mathlib.Decide.{decLt}
 use native.Mathlib.Omega.{arith}
 use lib.Count.{trailingZeros, under}
@@ -11,23 +11,12 @@ use lib.Pow.{pow-mono}
 use Rattle.facts.specs.Says.{Says}
 use Rattle.facts.specs.Table
 use Rattle.facts.specs.Packets.{bit}
+use Rattle.facts.specs.Choice.{Lowest}
 use Rattle.layout.specs.Layout.{mark}
+use Rattle.reading.specs.Sets.{Exactly}
 use Rattle.reading.proofs.Bits.{lowest-bit, higher-bit, no-bit}
+use Rattle.reading.proofs.Sets.{bit-below}
 use Rattle.fitting.specs.Fitting.{BitsAre}
-
--- none is past the number
-bit-past : (m k : ℕ) → m < 2 ^ k → bit m k ≡ 0
-bit-past m k l = ap (λ (x : ℕ). x % 2) (div-eq-of-lt l)
-
--- a number below 2 ^ 16 has no bit past its sixteenth
-within : (m : ℕ) → m < 2 ^ Table.allLevels → {k : ℕ} → bit m k ≡ 1 → k < Table.allLevels
-within m l {k} e = go (decLt k Table.allLevels)
-  where
-    go : Dec (k < Table.allLevels) → k < Table.allLevels
-    go (yes h) = h
-    go (no h) =
-        let past : 2 ^ Table.allLevels ≤ 2 ^ k = pow-mono {i = Table.allLevels} {j = k} (omega arith) in
-        absurd (omega (arith, e, bit-past m k (omega (arith, past))))
 
 not-below : {k : ℕ} (j : ℕ) → (j < k → ⊥) → k ≤ j
 not-below j d = omega (arith, d)
@@ -140,6 +129,12 @@ trailing (suc d) m n l =
         below (suc j) h x = f e .clear j (omega arith) (sym (higher-bit m j) ∙ x)
     go (suc r) e f = record { set = lowest-bit m ∙ omega (arith, e); clear = λ j h. absurd (omega arith) }
 
+-- the lowest of the numbers that a set has
+pub lowest-of : {P : ℕ → Type 0} (d set : ℕ) → Exactly set P → set ≢ 0 → set < 2 ^ d → Lowest P (trailingZeros d set)
+lowest-of d set is n l =
+    let low = trailing d set n l in
+    record { fits = is .only _ (low .set); least = λ y p. not-below y (λ h. low .clear y h (is .has y p)) }
+
 -- a number in two halves of c bits: the bits of the low half, and those of the high one
 low-bit : (c low high k : ℕ) → low < 2 ^ c → k < c → bit (low + 2 ^ c * high) k ≡ bit low k
 low-bit zero low high k l h = absurd (omega arith)
@@ -197,7 +192,7 @@ module _ (Q R : ℕ → Type 0) (low high : ℕ) (q : BitsAre Q low) (r : BitsAr
             least = λ j h x. not-below j (λ d. low-place .clear j d (low-bit Table.allLevels low high j (q .below) h ∙ q .bits j h .1 x));
           })
       go (no l) =
-          let k : trailingZeros 32 low < Table.allLevels = within low (q .below) (first .set) in
+          let k : trailingZeros 32 low < Table.allLevels = bit-below low Table.allLevels (trailingZeros 32 low) (q .below) (first .set) in
           absurd (low-place .clear (trailingZeros 32 low) (omega arith)
           (low-bit Table.allLevels low high (trailingZeros 32 low) (q .below) k ∙ first .set))
 
@@ -212,7 +207,7 @@ module _ (Q R : ℕ → Type 0) (low high : ℕ) (q : BitsAre Q low) (r : BitsAr
           let x : bit low place ≡ 1 = sym (low-bit Table.allLevels low high place (q .below) l) ∙ high-place .set in
           absurd (omega (arith, x, ap (λ (m : ℕ). bit m place) z ∙ no-bit place))
       go (no l) =
-          let k : place - Table.allLevels < Table.allLevels = within high (r .below) set in
+          let k : place - Table.allLevels < Table.allLevels = bit-below high Table.allLevels (place - Table.allLevels) (r .below) set in
           let e : place - Table.allLevels ≡ place % Table.allLevels = omega arith in
           subst (LowestOf R) e
           (record {

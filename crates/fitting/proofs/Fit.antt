@@ -13,7 +13,7 @@ use Rattle.facts.specs.Table
 use Rattle.facts.specs.Table.{Level, IrqGrant}
 use Rattle.facts.specs.Packets.{byte, bit}
 use Rattle.facts.specs.Levels.{Holds, Together}
-use Rattle.facts.specs.Irq.{attributesOf, IrqFirstShared, mannerAsked, Fits, LevelTaken, NoLevelFits}
+use Rattle.facts.specs.Irq.{attributesOf, IrqFirstShared, mannerAsked, Fits, FirstFitting, NoLevelFits}
 use Rattle.facts.proofs.Choices.{chosen-first, chosen-then}
 use Rattle.facts.proofs.Says.{says-true, says-false, says-dec}
 use Rattle.layout.specs.Layout.{mark}
@@ -142,7 +142,7 @@ module _ (b p : List ℕ) (a : Accepted b) where
       go (inr e) = absurd (reserved-said y (level-fits y x) e early)
 
   -- an unreserved level fits: the lowest of them is taken
-  unreserved-taken : (l : ℕ) → LowestOf (FitsAs b p 0) l → LevelTaken (a .facts) p l
+  unreserved-taken : (l : ℕ) → LowestOf (FitsAs b p 0) l → FirstFitting (a .facts) p l
   unreserved-taken l low =
       chosen-first early-decided
       (record {
@@ -159,7 +159,7 @@ module _ (b p : List ℕ) (a : Accepted b) where
         go (inl e) = absurd (none y (level-fits y x) (as-marked y 0 x e))
         go (inr e) = e
 
-    reserved-taken : (l : ℕ) → LowestOf (FitsAs b p 1) l → LevelTaken (a .facts) p l
+    reserved-taken : (l : ℕ) → LowestOf (FitsAs b p 1) l → FirstFitting (a .facts) p l
     reserved-taken l low =
         chosen-then (λ y x. reserved-said y (level-fits y x) (late y x))
         (record { fits = fits-said 1 l (low .level) (low .holds); least = λ y x. low .least y (level-fits y x) (as-marked y 1 x (late y x)) })
@@ -169,11 +169,11 @@ module _ (b p : List ℕ) (a : Accepted b) where
     no-unreserved : is .low ≡ 0 → (y : ℕ) → y < Table.allLevels → FitsAs b p 0 y → ⊥
     no-unreserved e = bits-none (FitsAs b p 0) (is .low) (is .unreserved) e
 
-    pub level-taken : mask ≢ 0 → LevelTaken (a .facts) p (trailingZeros 32 mask % Table.allLevels)
-    level-taken n =
-        subst (λ (m : ℕ). LevelTaken (a .facts) p (trailingZeros 32 m % Table.allLevels)) (sym (is .sum)) (go (ℕ-discrete (is .low) 0))
+    pub first-taken : mask ≢ 0 → FirstFitting (a .facts) p (trailingZeros 32 mask % Table.allLevels)
+    first-taken n =
+        subst (λ (m : ℕ). FirstFitting (a .facts) p (trailingZeros 32 m % Table.allLevels)) (sym (is .sum)) (go (ℕ-discrete (is .low) 0))
       where
-        go : Dec (is .low ≡ 0) → LevelTaken (a .facts) p (trailingZeros 32 (is .low + 2 ^ Table.allLevels * is .high) % Table.allLevels)
+        go : Dec (is .low ≡ 0) → FirstFitting (a .facts) p (trailingZeros 32 (is .low + 2 ^ Table.allLevels * is .high) % Table.allLevels)
         go (yes e) =
             reserved-taken (no-unreserved e) _
             (in-high (FitsAs b p 0) (FitsAs b p 1) (is .low) (is .high) (is .unreserved) (is .reserved) e

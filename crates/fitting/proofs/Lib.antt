@@ -1,4 +1,5 @@
--- The levels that fit, and the lowest bit of a mask. Assumes nothing.
+-- The levels that fit, those that can be joined, and the lowest bit of a mask. Assumes nothing.
 pub mod Bits
 pub mod Fit
+pub mod Joined
 pub mod Way

@@ -9,10 +9,11 @@ use Rattle.facts.specs.Says.{Says}
 use Rattle.facts.specs.Table
 use Rattle.facts.specs.Packets.{byte, bit}
 use Rattle.facts.specs.Levels.{Together}
-use Rattle.facts.specs.Irq.{Named, IrqFirstShared, mannerAsked, LevelTaken, NoLevelFits}
+use Rattle.facts.specs.Irq.{Named, IrqFirstShared, mannerAsked, NoLevelFits, FirstFitting, Joins, LevelTaken}
 use Rattle.layout.specs.Layout.{mark}
 use Rattle.layout.specs.Reading.{levelPlace, irqPlace, mannerOf}
 use Rattle.layout.specs.Sound.{Accepted, IrqUsed}
+use Rattle.reading.specs.Sets.{Exactly}
 use Rattle.fitting.specs.declared.Taken.{Taken}
 use Rattle.fitting.specs.declared.Taken.the-variants.{Level, Nothing}
 
@@ -57,6 +58,22 @@ pub record MaskIs (b p : List ℕ) (mask : ℕ) : Type 0 where
   pub sum : mask ≡ low + 2 ^ Table.allLevels * high
   pub unreserved : BitsAre (FitsAs b p 0) low
   pub reserved : BitsAre (FitsAs b p 1) high
+
+-- the first of the levels that fit, or none does
+abbrev pub FirstIs : List ℕ → List ℕ → Taken → Type 0
+FirstIs b p (Level l) = (a : Accepted b) → FirstFitting (a .facts) p l
+FirstIs b p Nothing = (a : Accepted b) → NoLevelFits (a .facts) p
+
+-- the grant of the socket s is one of the level l, which is named, and its manner goes together with the one asked for
+pub record JoinedAt (b p : List ℕ) (s l : ℕ) : Type 0 where
+  pub used : IrqUsed b s
+  pub together : Together (mannerOf (byte b (irqPlace s + 3))) (mannerAsked p)
+  pub level : byte b (irqPlace s + 2) ≡ l
+  pub named : Named p l
+
+-- the mask of the levels that the request can join
+abbrev pub JoinableIs : List ℕ → List ℕ → ℕ → Type 0
+JoinableIs b p mask = (a : Accepted b) → Exactly mask (Joins (a .facts) p)
 
 -- the level that is taken, or none fits
 abbrev pub TakenIs : List ℕ → List ℕ → Taken → Type 0

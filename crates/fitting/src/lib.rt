@@ -16,10 +16,11 @@ ghost use Prim.Native.Nat.{_+_, _<_};
 ghost use lib.ListN.{length};
 ghost use Rattle.facts.specs.Table;
 ghost use Rattle.facts.specs.Says.{Says};
-ghost use Rattle.facts.specs.Irq.{requestIrqLength, mannerAsked};
+ghost use Rattle.facts.specs.Irq.{requestIrqLength, mannerAsked, Joining};
 ghost use Rattle.layout.specs.Layout.{tableSize};
 ghost use Rattle.layout.specs.Sound.{Accepted};
-ghost use Rattle.fitting.specs.Fitting.{Stands, WayIs, Adds, MaskIs, TakenIs};
+ghost use Rattle.reading.specs.Sets.{Exactly};
+ghost use Rattle.fitting.specs.Fitting.{Stands, WayIs, Adds, MaskIs, FirstIs, JoinedAt, JoinableIs, TakenIs};
 
 // Whether the socket has a grant that stands in the way of the request on its level: "without First Shared, all its grants go together with this
 // manner".
@@ -112,15 +113,16 @@ fn mask(t: &[u8], p: &[u8], way: &[bool]) -> u32
     mask
 }
 
-// "An unreserved level comes before a reserved one, then the lowest.": the mask's lowest bit.
+// The level that a request takes, or none fits.
 pub enum Taken {
     Level(usize),
     Nothing,
 }
 
-pub fn choose(t: &[u8], p: &[u8]) -> Taken
+// "An unreserved level comes before a reserved one, then the lowest.": the mask's lowest bit.
+fn first_fitting(t: &[u8], p: &[u8]) -> Taken
     requires { ⌜ Accepted (now t) × (length (now p) ≡ requestIrqLength) ⌝ }
-    ensures { λ r. ⌜ TakenIs (now (t .entry)) (now (p .entry)) r ⌝ }
+    ensures { λ r. ⌜ FirstIs (now (t .entry)) (now (p .entry)) r ⌝ }
 {
     let way = in_the_way(t, p);
     let fitting = mask(t, p, &way);
@@ -128,4 +130,64 @@ pub fn choose(t: &[u8], p: &[u8]) -> Taken
         return Taken::Nothing;
     }
     Taken::Level((u32::trailing_zeros(fitting) % UNRESERVED_LEVELS) as usize)
+}
+
+// K1: "A sharing request without First Shared". Exclusive doesn't go with itself.
+fn joining(p: &[u8], m: Manner) -> bool
+    requires { ⌜ (length (now p) ≡ requestIrqLength) × (m ≡ mannerAsked (now p)) ⌝ }
+    ensures { λ r. ⌜ Says r (Joining (now (p .entry))) ⌝ }
+{
+    if !levels::together(m, m) {
+        return false;
+    }
+    !irq_packets::first_shared(p)
+}
+
+// The level of the socket's grant as a bit, where it is named and the grant is of the manner asked for.
+fn joined_at(t: &[u8], p: &[u8], m: Manner, s: Socket) -> u32
+    requires { ⌜ Accepted (now t) × (s .0 < Table.mostSockets) × (length (now p) ≡ requestIrqLength) × (m ≡ mannerAsked (now p)) ⌝ }
+    ensures { λ r. ⌜ Exactly r (JoinedAt (now (t .entry)) (now (p .entry)) (s .0)) ⌝ }
+{
+    let number = s.0;
+    let at = IRQS_AT + number * IRQ_SIZE;
+    if reading::word(t, at) == 0 {
+        return 0;
+    }
+    let held = reading::manner_of(reading::byte(t, at + IRQ_MANNER));
+    if !levels::together(held, m) {
+        return 0;
+    }
+    let level = reading::byte(t, at + IRQ_LEVEL);
+    if !irq_packets::names(p, level) {
+        return 0;
+    }
+    1 << level
+}
+
+// K1: the levels that the request can join, "named" and with "grants of its manner": a bit for each, in one pass over the sockets.
+fn joinable(t: &[u8], p: &[u8]) -> u32
+    requires { ⌜ Accepted (now t) × (length (now p) ≡ requestIrqLength) ⌝ }
+    ensures { λ r. ⌜ JoinableIs (now (t .entry)) (now (p .entry)) r ⌝ }
+{
+    let m = irq_packets::manner_asked(p);
+    if !joining(p, m) {
+        return 0;
+    }
+    let mut joined: u32 = 0;
+    for s in 0..MOST_SOCKETS {
+        joined = joined | joined_at(t, p, m, Socket(s));
+    }
+    joined
+}
+
+// K1: "the lowest" level that the request can join; "only if none exists, the old choice".
+pub fn choose(t: &[u8], p: &[u8]) -> Taken
+    requires { ⌜ Accepted (now t) × (length (now p) ≡ requestIrqLength) ⌝ }
+    ensures { λ r. ⌜ TakenIs (now (t .entry)) (now (p .entry)) r ⌝ }
+{
+    let joined = joinable(t, p);
+    if joined == 0 {
+        return first_fitting(t, p);
+    }
+    Taken::Level(u32::trailing_zeros(joined) as usize)
 }

@@ -14,8 +14,10 @@ use Rattle.facts.specs.Ports.{Within}
 use Rattle.layout.specs.Reading.{ioIn}
 use Rattle.layout.specs.Sound.{IoPairSound}
 use Rattle.ports.proofs.Remainders.{mod-fewer}
-use Rattle.grants.specs.Company.{blockOf, BlocksWithin, Answers, Covers}
-use Rattle.grants.proofs.Covering.{one-bit, or-left, or-right, none-common}
+use Rattle.reading.specs.Sets.{Covers}
+use Rattle.reading.proofs.Sets.{one-bit, or-left, or-right}
+use Rattle.grants.specs.Company.{blockOf, BlocksWithin, Answers}
+use Rattle.grants.proofs.Covering.{none-common}
 
 -- of few ports each is in the block of the first or of the last
 module _ (base count : ℕ) (port : 1 ≤ count) (asked : count ≤ mostAsked) where

@@ -1,15 +1,13 @@
 -- The manners that don't go with one; what IRQ grants hold; and that a grant keeps company with those of the sockets below it exactly if none of them
 -- holds its level in a manner that doesn't go with its own. Assumes nothing.
 use mathlib.Core.Path.{_≡_, refl, sym, ap, ap₂, _∙_, subst}
-use mathlib.Core.Logic.{_⊎_, inl, inr, ⊎-elim}
 use mathlib.Core.List.{List}
 use mathlib.Core.Bool.{Bool, not}
 use Prim.Native.Nat.{ℕ, _+_, _*_, _^_, _≤_, _<_}
-use native.Mathlib.Nat.{eq-or-lt-of-le}
 use native.Mathlib.Decide.{ℕ-discrete}
 use native.Mathlib.Omega.{arith}
 use borrow.Author.Tests.{eq-eqb, ne-eqb}
-use lib.Bits.{bitAnd, bitOr}
+use lib.Bits.{bitAnd}
 use lib.Dec.{eqb}
 use Rattle.facts.specs.declared.Manner.{Manner}
 use Rattle.facts.specs.Says.{Says}
@@ -22,9 +20,11 @@ use Rattle.layout.specs.Sound.{IrqUsed, IrqPlaceSound, IrqPairSound}
 use Rattle.layout.proofs.Parts.{Below, below-at}
 use Rattle.layout.proofs.Grants.{used-sound}
 use Rattle.levels.proofs.Rule.{rule-says}
+use Rattle.reading.specs.Sets.{Exactly}
+use Rattle.reading.proofs.Sets.{exactly-one, bit-below, shifted-bit, shifted-only}
 use Rattle.grants.specs.Parts.{PlacesSound, CompanySound}
-use Rattle.grants.specs.Company.{Exactly, MannersApart, Held, HeldBelow, Against, heldAs}
-use Rattle.grants.proofs.Covering.{one-bit, one-only, bit-below, shifted-bit, shifted-only, or-left, or-right, or-either, common-says}
+use Rattle.grants.specs.Company.{MannersApart, Held, HeldBelow, Against, heldAs}
+use Rattle.grants.proofs.Covering.{common-says}
 
 -- a set of manners by its bits: r says which manners go with m, and a bit is 1 exactly where r is false
 module _ (n set : ℕ) (m : Manner) (e : mannerOf n ≡ m) (l : set < 2 ^ 4) {r : ℕ → Bool} (s : (k : ℕ) → Says (r k) (Together m (mannerOf k)))
@@ -53,15 +53,8 @@ module _ (n set : ℕ) (m : Manner) (e : mannerOf n ≡ m) (l : set < 2 ^ 4) {r 
 module _ (b : List ℕ) (s : ℕ) {level manner : ℕ} (l : level ≡ byte b (irqPlace s + 2)) (m : manner ≡ byte b (irqPlace s + 3)) (u : IrqUsed b s)
     (set : ℕ) where
   pub own-held : set ≡ 2 ^ heldAs level manner → Exactly set (Held b s)
-  own-held e = record { has = has; only = only }
-    where
-      has : (k : ℕ) → Held b s k → bit set k ≡ 1
-      has k h = ap₂ bit e (sym (ap₂ heldAs l m ∙ h .number)) ∙ one-bit (heldAs level manner)
-
-      only : (k : ℕ) → bit set k ≡ 1 → Held b s k
-      only k o =
-          let same = one-only (heldAs level manner) k (ap (λ (n : ℕ). bit n k) (sym e) ∙ o) in
-          record { used = u; number = sym (ap₂ heldAs l m) ∙ same }
+  own-held e =
+      rw e (exactly-one (heldAs level manner) (record { used = u; number = sym (ap₂ heldAs l m) }) (λ k h. ap₂ heldAs l m ∙ h .number))
 
   pub apart-against : (apart : ℕ) → MannersApart manner apart → set ≡ apart * 2 ^ (level * 4) → Exactly set (Against b s)
   apart-against apart a e = record { has = has; only = only }
@@ -82,17 +75,6 @@ module _ (b : List ℕ) (s : ℕ) {level manner : ℕ} (l : level ≡ byte b (ir
             apart = rw m at (manners .1);
             number = ap (λ (n : ℕ). heldAs n (at .0)) (sym l) ∙ at .1;
           }
-
--- what the sockets passed hold, and one more
-pub held-more : (b : List ℕ) (n x y : ℕ) → Exactly x (HeldBelow b n) → Exactly y (Held b n) → Exactly (bitOr x y) (HeldBelow b (n + 1))
-held-more b n x y h o = record { has = λ k p. has k (p .0) (p .2) (eq-or-lt-of-le (omega (arith, p .1))); only = only }
-  where
-    has : (k s : ℕ) → Held b s k → (s ≡ n) ⊎ (s < n) → bit (bitOr x y) k ≡ 1
-    has k s p (inl e) = or-right x y k (o .has k (subst (λ (t : ℕ). Held b t k) e p))
-    has k s p (inr l) = or-left x y k (h .has k (s, l, p))
-
-    only : (k : ℕ) → bit (bitOr x y) k ≡ 1 → HeldBelow b (n + 1) k
-    only k e = ⊎-elim (λ p. let u = h .only k p in (u .0, omega (arith, u .1), u .2)) (λ p. (n, omega arith, o .only k p)) (or-either x y k e)
 
 -- the grant of the socket s, held against what the sockets below it hold
 module _ (b : List ℕ) (s : ℕ) (places : PlacesSound (IrqPlaceSound b) s) where

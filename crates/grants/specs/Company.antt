@@ -8,20 +8,12 @@ use Rattle.facts.specs.Ports.{Within}
 use Rattle.facts.specs.Levels.{Together}
 use Rattle.layout.specs.Reading.{irqPlace, ioIn, mannerOf}
 use Rattle.layout.specs.Sound.{IoUsed, IrqUsed}
+use Rattle.reading.specs.Sets.{Covers, Exactly, SomeBelow}
 use Rattle.grants.specs.declared.irqs.Holding.{Holding}
-
--- the set has each number that P says
-abbrev pub Covers : ℕ → (ℕ → Type 0) → Type 0
-Covers set P = (k : ℕ) → P k → bit set k ≡ 1
 
 -- the set has each number that P says of a socket below n
 abbrev pub CoversBelow : ℕ → ℕ → (ℕ → ℕ → Type 0) → Type 0
 CoversBelow set n P = (s : ℕ) → s < n → Covers set (P s)
-
--- the set has just the numbers that P says
-pub record Exactly (set : ℕ) (P : ℕ → Type 0) : Type 0 where
-  pub has : Covers set P
-  pub only : (k : ℕ) → bit set k ≡ 1 → P k
 
 -- ports stand in blocks of 256, which are counted modulo 64
 abbrev pub blockOf : ℕ → ℕ
@@ -56,7 +48,7 @@ pub record Held (b : List ℕ) (s k : ℕ) : Type 0 where
 
 -- so does that of some socket below n
 abbrev pub HeldBelow : List ℕ → ℕ → ℕ → Type 0
-HeldBelow b n k = (s : ℕ) × (s < n) × Held b s k
+HeldBelow b n = SomeBelow n (Held b)
 
 -- the level of the IRQ grant of the socket s, in a manner that doesn't go with its own
 pub record Against (b : List ℕ) (s k : ℕ) : Type 0 where

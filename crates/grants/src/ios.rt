@@ -23,8 +23,9 @@ ghost use Rattle.facts.specs.Ports.{Meet};
 ghost use Rattle.layout.specs.Layout.{tableSize};
 ghost use Rattle.layout.specs.Reading.{rangesIn, ioIn};
 ghost use Rattle.layout.specs.Sound.{RangesSound, IoPlaceSound, IoPairSound, CountsSound, ClientsSound};
+ghost use Rattle.reading.specs.Sets.{Covers};
 ghost use Rattle.grants.specs.Parts.{PortsAt, PortsSound, PlacesSound, CompanySound, SocketSound, IosSound};
-ghost use Rattle.grants.specs.Company.{blockOf, BlocksWithin, Answers, Covers, CoversBelow};
+ghost use Rattle.grants.specs.Company.{blockOf, BlocksWithin, Answers, CoversBelow};
 
 // Ports stand in blocks, which are counted modulo `BLOCKS`, so that a set of blocks has a bit for each.
 const BLOCK: usize = 256;

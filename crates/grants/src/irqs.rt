@@ -23,8 +23,9 @@ ghost use Rattle.facts.specs.Packets;
 ghost use Rattle.layout.specs.Layout.{tableSize};
 ghost use Rattle.layout.specs.Reading.{clientsIn};
 ghost use Rattle.layout.specs.Sound.{IoPlaceSound, IrqPlaceSound, IrqPairSound, CountsSound, ClientsSound};
+ghost use Rattle.reading.specs.Sets.{Exactly};
 ghost use Rattle.grants.specs.Parts.{HolderSound, PlacesSound, CompanySound, SocketSound, IosSound, IrqsSound};
-ghost use Rattle.grants.specs.Company.{Exactly, MannersApart, HeldBelow, HoldingIs};
+ghost use Rattle.grants.specs.Company.{MannersApart, HeldBelow, HoldingIs};
 
 // The manners are 0 to 3.
 const LAST_MANNER: usize = 3;

@@ -21,7 +21,8 @@ use Rattle.facts.specs.Services.{requestIrq, requestIo, requestSocketMask}
 use Rattle.facts.proofs.Formed.{card-formed, clients-formed, ranges-formed, listing}
 use Rattle.facts.proofs.ResourcesStay.{level-added-formed, range-added-formed}
 use Rattle.cases.specs.Cases.{done, oneClient, range, ports, grantingIrq, grantingIo}
-use Rattle.cases.proofs.Permitted.{as-left, _then_, _nor_, listed-alone, alone-chosen}
+use Rattle.cases.proofs.Levels.{alone-taken}
+use Rattle.cases.proofs.Permitted.{as-left, _then_, _nor_, listed-alone}
 use Rattle.history.proofs.Giving.{left}
 use Rattle.history.proofs.OnSockets.{Ready, ready, two-sockets, one-client, for, own-passed, irqRequests, ioRequests, maskRequests}
 
@@ -81,7 +82,7 @@ irq-granted =
     inr (
       own-passed irqRequests idle-ready irqAsked refl
           (true≢false then irq-good 3 (omega arith) .0 then irq-good 3 (omega arith) .1 then (λ e. e refl) then (λ e. e 3 fits) then tt),
-      (refl, record { level = 3; taken = alone-chosen fits (λ l f. ⊎-elim (omega arith) (λ n. n .1) (f .named)); leaves = as-left _ }),
+      (refl, record { level = 3; taken = alone-taken (λ s. refl) fits (λ l f. ⊎-elim (omega arith) (λ n. n .1) (f .named)); leaves = as-left _ }),
     )
   where
     fits : Fits idle (for 0 irqAsked) 3

@@ -27,8 +27,8 @@ use Rattle.facts.proofs.Unique.{number-injective}
 use Rattle.layout.specs.Layout.{image}
 use Rattle.cases.specs.Cases.{done, ports, irqPacket, dynamic, timeMultiplexed}
 use Rattle.cases.proofs.Cases.{cases}
-use Rattle.cases.proofs.Levels.{bits-A3}
-use Rattle.cases.proofs.Permitted.{as-left, _then_, _nor_, alone-chosen}
+use Rattle.cases.proofs.Levels.{bits-A3, alone-taken}
+use Rattle.cases.proofs.Permitted.{as-left, _then_, _nor_}
 use Rattle.history.specs.Events.{Event, call, Keeper, Ours}
 use Rattle.history.specs.Stands.{Fact, Made, GivenBack, GivesBack, io-made, irq-made}
 use Rattle.history.specs.Demand.{StandsOf, PortsApart, LevelsApart}
@@ -256,7 +256,7 @@ shared-granted =
           then (λ e. e refl)
           then (λ e. e 3 fits)
           then tt),
-      (refl, record { level = 3; taken = alone-chosen fits (λ l f. ⊎-elim (omega arith) (λ n. n .1) (f .named)); leaves = as-left _ }),
+      (refl, record { level = 3; taken = alone-taken (λ s. refl) fits (λ l f. ⊎-elim (omega arith) (λ n. n .1) (f .named)); leaves = as-left _ }),
     )
   where
     fits : Fits idle (dynamic 0 0) 3

@@ -20,6 +20,7 @@ use Rattle.facts.specs.Sockets.{socketOf}
 use Rattle.facts.specs.Irq.{RequestIrq, ReleaseIrq, requestIrqLength, releaseIrqLength, typeAsked, assignedIrq, mannerAsked, assigning, withIrq}
 use Rattle.facts.specs.Irq.{irqGrant, GrantsIrq, IrqHeld, IrqAttributesBad, IrqInfoBad, LevelTaken, NoLevelFits, ownIrqChecks, levelChecks}
 use Rattle.facts.specs.Irq.{irqRequestChecks, irqReleaseChecks}
+use Rattle.facts.proofs.Joining.{taken-fits}
 use Rattle.layout.specs.Layout
 use Rattle.layout.specs.Layout.{image, mannerByte}
 use Rattle.layout.specs.Reading.{irqPlace, irqIn, mannerOf}
@@ -145,7 +146,7 @@ module _ (b p : List ℕ) (a : Accepted b) (h : ℕ) where
                 done-by (λ (F : Facts). irqRequestChecks F h p) (λ (F : Facts). GrantsIrq F h p) b p a
                 (irqEntered b s h l (placeOf (mannerAsked p))) (assigning p l) h after
                 (Begin.request-passed b p a requestIrqLength h own begun card
-                (attributes, (info, ((λ d. d (free b p a begun unused)), ((λ x. x l (taken .fits)), tt)))))
+                (attributes, (info, ((λ d. d (free b p a begun unused)), ((λ x. x l (taken-fits (a .facts) (a .formed) p l taken)), tt)))))
                 (record { level = l; taken = taken; leaves = left h (assigning p l) after }) entered
               where
                 after : Facts

@@ -1,49 +1,45 @@
--- `fitting::choose` meets its contract: the level of the lowest bit, or there is none.
+-- `fitting::choose` meets its contract: the lowest level that can be joined, or the first that fits.
 -- Assumes nothing.
 use mathlib.Core.List.{List}
 use Prim.Native.Nat.{ℕ}
+use native.Mathlib.Omega.{arith}
 use denote.Ref.{now}
-use Rattle.fitting.proofs.Fit.{level-taken, none-fits}
+use lib.Count.{trailing-le}
+use Rattle.fitting.proofs.Joined.{lowest-taken, first-is-taken}
 use borrow.Author.Needs.{needs}
 use Rattle.fitting.proofs.choose.Statement.{statement}
 use Rattle.fitting.proofs.choose.Tie as tie
 
 -- where the call began, its table and its packet
-abbrev looked : tie.After-mask → tie.After-in-the-way
-looked c = c .before .before
+abbrev start : tie.After-joinable → tie.Start
+start c = c .before .before .before
 
-abbrev start : tie.After-mask → tie.Start
-start c = looked c .before .before .before
-
-abbrev table : tie.After-mask → List ℕ
+abbrev table : tie.After-joinable → List ℕ
 table c = now (start c .args .t)
 
-abbrev packet : tie.After-mask → List ℕ
+abbrev packet : tie.After-joinable → List ℕ
 packet c = now (start c .args .p)
 
-in-the-way-requires : tie.Need-in-the-way-requires
-in-the-way-requires c κs = search needs
+joinable-requires : tie.Need-joinable-requires
+joinable-requires c κs = search needs
 
-slice-aggregate-mask : tie.Need-slice-aggregate-mask
-slice-aggregate-mask c = search needs
-
-mask-requires : tie.Need-mask-requires
-mask-requires c κs = search needs
+first-fitting-requires : tie.Need-first-fitting-requires
+first-fitting-requires c κs = search needs
 
 returns : tie.Need-returns
 returns c =
-    let k = c .before in
-    λ a. none-fits (table k) (packet k) a (k .mask .result) (k .mask .ensures) (c .if1 .taken)
+    let k = c .before .before in
+    first-is-taken (table k) (packet k) (k .joinable .result) (k .joinable .ensures) (c .before .if1 .taken) (c .first-fitting .result)
+    (c .first-fitting .ensures)
 
-cast-t11 : tie.Need-cast-t11
-cast-t11 c = search needs
+cast-t6 : tie.Need-cast-t6
+cast-t6 c = omega (arith, trailing-le 32 (c .before .joinable .result))
 
 returns-2 : tie.Need-returns-2
 returns-2 c =
     let k = c .before in
-    λ a. level-taken (table k) (packet k) a (k .mask .result) (k .mask .ensures) (c .if1 .left)
+    lowest-taken (table k) (packet k) (k .joinable .result) (k .joinable .ensures) (c .if1 .left) (k .joinable .ok)
 
 pub choose-spec : {M : Type 1} → statement M
 choose-spec =
-    tie.close
-    (tie.spec in-the-way-requires slice-aggregate-mask mask-requires returns cast-t11 returns-2)
+    tie.close (tie.spec joinable-requires first-fitting-requires returns cast-t6 returns-2)

@@ -11,6 +11,7 @@ use Rattle.facts.specs.Table
 use Rattle.facts.specs.declared.Code.the-variants.{Success}
 use Rattle.facts.specs.Packets.{byte}
 use Rattle.facts.specs.Irq.{requestIrqLength, IrqAttributesBad, IrqInfoBad, LevelTaken}
+use Rattle.facts.proofs.Joining.{taken-fits}
 use Rattle.layout.specs.Sound.{LiveIn, IrqUsed}
 use Rattle.layout.specs.Served.{ServedBy}
 use Rattle.layout.proofs.Of.{size-in, clients-in}
@@ -150,7 +151,10 @@ taken c =
     subst (TakenIs (table k) (packet k)) (c .before .level .given .1) (chosen c .choose .ensures) (start k .pre)
 
 level-below : (c : tie.After-known-told2) → level c < Table.allLevels
-level-below c = start (began (ready (placed (chosen c)))) .pre .formed .levels (level c) (taken c .fits .managed)
+level-below c =
+    let k = began (ready (placed (chosen c))) in
+    let a = start k .pre in
+    a .formed .levels (level c) (taken-fits (a .facts) (a .formed) (packet k) (level c) (taken c) .managed)
 
 -- its manner is asked for
 abbrev manners : tie.After-manner-asked → tie.After-known-told2

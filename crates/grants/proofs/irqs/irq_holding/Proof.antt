@@ -11,8 +11,8 @@ use Rattle.layout.specs.Layout.{irqSize}
 use Rattle.layout.specs.Reading.{irqPlace}
 use Rattle.layout.specs.Sound.{IrqUsed, IrqSound}
 use Rattle.layout.proofs.Grants.{used-sound}
+use Rattle.reading.proofs.Sets.{exactly-none}
 use Rattle.grants.specs.Company.{heldAs}
-use Rattle.grants.proofs.Covering.{exactly-none}
 use Rattle.grants.proofs.Manners.{own-held, apart-against}
 use Rattle.grants.proofs.irqs.irq_holding.Statement.{statement}
 use Rattle.grants.proofs.irqs.irq_holding.Tie as tie

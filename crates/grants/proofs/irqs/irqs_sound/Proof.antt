@@ -9,11 +9,11 @@ use Rattle.facts.proofs.Says.{says-true, says-yes}
 use Rattle.layout.specs.Layout.{irqsAt, clientsAt, irqSize}
 use Rattle.layout.specs.Reading.{irqPlace}
 use Rattle.layout.specs.Sound.{IrqPlaceSound, IrqPairSound}
+use Rattle.reading.specs.Sets.{Exactly}
 use Rattle.reading.proofs.All.{SoFar, so-far-none, so-far-next, so-far-stop, so-far-end}
+use Rattle.reading.proofs.Sets.{exactly-none, exactly-more}
 use Rattle.grants.specs.Parts.{SocketSound}
-use Rattle.grants.specs.Company.{Exactly, HeldBelow}
-use Rattle.grants.proofs.Covering.{exactly-none}
-use Rattle.grants.proofs.Manners.{held-more}
+use Rattle.grants.specs.Company.{HeldBelow}
 use Rattle.grants.proofs.Records.{zero-sound}
 use Rattle.grants.proofs.irqs.irqs_sound.Statement.{statement}
 use Rattle.grants.proofs.irqs.irqs_sound.Tie as tie
@@ -68,7 +68,7 @@ loop-again c =
     let passed = c .before .before in
     let inv = turn passed .before .loop .inv in (
       so-far-next (inv .0) (turn passed .loop-test .taken) (passed .before .irq-socket-sound .ensures) (passed .if2 .left),
-      held-more _ _ _ _ (inv .1) (c .before .irq-holding .ensures .own),
+      exactly-more _ _ _ (inv .1) (c .before .irq-holding .ensures .own),
     )
 
 returns-3 : tie.Need-returns-3 Inv-loop μ-loop
