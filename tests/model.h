@@ -1,7 +1,7 @@
 /*
- * model.h: document 01 once more, in plain C
+ * model.h: document 01 once more, in plain C, as K1 of document 02 amends it
  *
- * Written from document 01 and the volume alone, for comparison with the
+ * Written from the documents and the volume alone, for comparison with the
  * proved library: a set of facts and the rules over it, for all nine services
  * and the five host calls.
  */

@@ -1,5 +1,5 @@
 /*
- * model_cases.c: document 01's cases by number, and both sides of its rules,
+ * model_cases.c: document 01's cases by number, and both sides of the rules,
  * run against the model alone
  */
 #include <stdio.h>

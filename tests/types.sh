@@ -67,7 +67,7 @@ refused irq lib.rt 'grant_of(t, socket, h, reading::byte(p, ASSIGNED_AT))' \
     'grant_of(t, h, socket, reading::byte(p, ASSIGNED_AT))' Socket Handle
 refused irq lib.rt 'enter(t, socket, h, level, levels::place(manner))' \
     'enter(t, socket, level, h, levels::place(manner))' Handle usize
-refused fitting lib.rt 'mark(t, p, m, Socket(s), &mut way)' 'mark(t, p, m, s, &mut way)' Socket usize
+refused fitting lib.rt 'levels_at(t, p, m, Socket(s))' 'levels_at(t, p, m, s)' Socket usize
 refused keeper lib.rt 'irq::request(table, Handle(handle), packet)' \
     'irq::request(table, handle, packet)' Handle u16
 refused obstacles lib.rt 'met(t, Socket(s), count, lines, most)' 'met(t, s, count, lines, most)' Socket usize

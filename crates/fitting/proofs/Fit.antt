@@ -13,19 +13,20 @@ use Rattle.facts.specs.Table
 use Rattle.facts.specs.Table.{Level, IrqGrant}
 use Rattle.facts.specs.Packets.{byte, bit}
 use Rattle.facts.specs.Levels.{Holds, Together}
-use Rattle.facts.specs.Irq.{attributesOf, IrqFirstShared, mannerAsked, Fits, FirstFitting, NoLevelFits}
+use Rattle.facts.specs.Irq.{attributesOf, IrqFirstShared, mannerAsked, Named, Fits, FirstFitting, NoLevelFits}
 use Rattle.facts.proofs.Choices.{chosen-first, chosen-then}
 use Rattle.facts.proofs.Says.{says-true, says-false, says-dec}
 use Rattle.layout.specs.Layout.{mark}
-use Rattle.layout.specs.Reading.{levelPlace, irqPlace, levelIn, irqIn, mannerOf}
+use Rattle.layout.specs.Reading.{levelPlace, irqPlace, levelIn, irqIn}
 use Rattle.layout.specs.Sound.{Accepted, IrqUsed}
 use Rattle.layout.proofs.Of
 use Rattle.layout.proofs.Irqs.{level-is, manner-is}
 use Rattle.levels.proofs.Rule.{rule-says}
+use Rattle.reading.specs.Sets.{Exactly}
 use Rattle.fitting.specs.Fitting.{InTheWay, FitsAs, Adds, MaskIs}
 use Rattle.fitting.proofs.Bits.{BitsTo, from-highest, next-lower, smaller, mark-small, to-lowest, bits-none, halves-none, LowestOf, in-low, in-high}
 
-module _ (b p : List ℕ) (a : Accepted b) where
+module _ (b p : List ℕ) (a : Accepted b) (named way : ℕ) (are-named : Exactly named (Named p)) (in-the-way : Exactly way (InTheWay b p)) where
   abbrev managedMark : ℕ → ℕ
   managedMark l = byte b (levelPlace l)
 
@@ -58,58 +59,71 @@ module _ (b p : List ℕ) (a : Accepted b) where
   abbrev sharing : (m : Manner) → Dec (Together m (mannerAsked p))
   sharing m = says-dec _ (rule-says m (mannerAsked p))
 
-  -- a level that fits by the marks fits
-  pub fits-said : (mark l : ℕ) → l < Table.allLevels → FitsAs b p mark l → Fits (a .facts) p l
-  fits-said mark l h x = record { named = x .named; managed = managed-said l h (x .managed); free = free (ℕ-discrete (bit (attributesOf p) 3) 1) }
+  -- a level that fits by the sets and the marks fits
+  pub fits-said : (mark l : ℕ) → l < Table.allLevels → FitsAs b named way mark l → Fits (a .facts) p l
+  fits-said mark l h x =
+      record {
+        named = are-named .only l (x .named);
+        managed = managed-said l h (x .managed);
+        free = free (ℕ-discrete (bit (attributesOf p) 3) 1);
+      }
     where
-      -- a grant of the level, on a socket of the table, does not stand in the way
-      alone : (s : ℕ) (g : IrqGrant) → Holds (a .facts) l s g → IrqFirstShared p ⊎ (Together (g .manner) (mannerAsked p) → ⊥) → ⊥
-      alone s g holds why =
+      -- a grant of the level, on a socket of the table, goes together with the request
+      alone : (s : ℕ) (g : IrqGrant) → Holds (a .facts) l s g → ((IrqFirstShared p → ⊥) × Together (g .manner) (mannerAsked p) → ⊥) → ⊥
+      alone s g holds apart =
           let said = Of.said-irq b a s g (holds .live) in
           let here : irqIn b s ≡ g = said .2 in
-          x .free (
+          x .free
+          (in-the-way .has l (
             s,
             said .0,
-            record {
-              used = said .1;
-              why =
-                  subst (λ (m : Manner). IrqFirstShared p ⊎ (Together m (mannerAsked p) → ⊥))
-                  (ap (λ (y : IrqGrant). y .manner) (sym here) ∙ manner-is b s) why;
-            },
-            sym (level-is b s) ∙ ap (λ (y : IrqGrant). y .level) here ∙ holds .at,
-          )
+            (
+              record { used = said .1; level = sym (level-is b s) ∙ ap (λ (y : IrqGrant). y .level) here ∙ holds .at },
+              λ goes.
+                  apart (
+                    goes .not-first,
+                    subst (λ (m : Manner). Together m (mannerAsked p)) (sym (manner-is b s) ∙ ap (λ (y : IrqGrant). y .manner) here) (goes .together),
+                  ),
+            ),
+          ))
 
       together : (s : ℕ) (g : IrqGrant) → Holds (a .facts) l s g → Together (g .manner) (mannerAsked p)
       together s g holds = go (sharing (g .manner))
         where
           go : Dec (Together (g .manner) (mannerAsked p)) → Together (g .manner) (mannerAsked p)
           go (yes t) = t
-          go (no n) = absurd (alone s g holds (inr n))
+          go (no n) = absurd (alone s g holds (λ x. n (x .1)))
 
       free : Dec (IrqFirstShared p)
           → ((s : ℕ) (g : IrqGrant) → Holds (a .facts) l s g → ⊥)
           ⊎ ((IrqFirstShared p → ⊥) × ((s : ℕ) (g : IrqGrant) → Holds (a .facts) l s g → Together (g .manner) (mannerAsked p)))
-      free (yes f) = inl (λ s g holds. alone s g holds (inl f))
+      free (yes f) = inl (λ s g holds. alone s g holds (λ x. x .0 f))
       free (no n) = inr (n, together)
 
-  -- and one that fits is a table's level, and fits by its marks
+  -- and one that fits is a table's level, and fits by the sets and its marks
   pub level-fits : (l : ℕ) → Fits (a .facts) p l → l < Table.allLevels
   level-fits l x = a .formed .levels l (x .managed)
 
-  pub said-fits : (l : ℕ) → Fits (a .facts) p l → FitsAs b p (reserveMark l) l
-  said-fits l x = record { named = x .named; managed = said-managed l (level-fits l x) (x .managed); reserved = refl; free = free (x .free) }
+  pub said-fits : (l : ℕ) → Fits (a .facts) p l → FitsAs b named way (reserveMark l) l
+  said-fits l x =
+      record {
+        named = are-named .has l (x .named);
+        managed = said-managed l (level-fits l x) (x .managed);
+        reserved = refl;
+        free = λ e. free (x .free) (in-the-way .only l e);
+      }
     where
       free : ((s : ℕ) (g : IrqGrant) → Holds (a .facts) l s g → ⊥)
           ⊎ ((IrqFirstShared p → ⊥) × ((s : ℕ) (g : IrqGrant) → Holds (a .facts) l s g → Together (g .manner) (mannerAsked p)))
-          → InTheWay b p Table.mostSockets l → ⊥
-      free (inl none) w = none (w .0) (irqIn b (w .0)) (holds-said l (w .0) (w .1) (w .2 .used) (w .3))
-      free (inr x) w = go (w .2 .why)
-        where
-          go : IrqFirstShared p ⊎ (Together (mannerOf (byte b (irqPlace (w .0) + 3))) (mannerAsked p) → ⊥) → ⊥
-          go (inl f) = x .0 f
-          go (inr n) =
-              n (subst (λ (m : Manner). Together m (mannerAsked p)) (manner-is b (w .0))
-              (x .1 (w .0) (irqIn b (w .0)) (holds-said l (w .0) (w .1) (w .2 .used) (w .3))))
+          → InTheWay b p l → ⊥
+      free (inl none) (s, h, (grant, stands)) = none s (irqIn b s) (holds-said l s h (grant .used) (grant .level))
+      free (inr x) (s, h, (grant, stands)) =
+          stands
+          (record {
+            not-first = x .0;
+            together =
+                subst (λ (m : Manner). Together m (mannerAsked p)) (manner-is b s) (x .1 s (irqIn b s) (holds-said l s h (grant .used) (grant .level)));
+          })
 
   -- the reserve mark is 0 or 1
   mark-is : (l : ℕ) → l < Table.allLevels → (reserveMark l ≡ 0) ⊎ (reserveMark l ≡ 1)
@@ -120,8 +134,8 @@ module _ (b p : List ℕ) (a : Accepted b) where
       go (no n) =
           let s = Of.sound-in b a .levels l h in inr (omega (arith, n, s .reserved, s .managed))
 
-  as-marked : (l mark : ℕ) → Fits (a .facts) p l → reserveMark l ≡ mark → FitsAs b p mark l
-  as-marked l mark x e = subst (λ (k : ℕ). FitsAs b p k l) e (said-fits l x)
+  as-marked : (l mark : ℕ) → Fits (a .facts) p l → reserveMark l ≡ mark → FitsAs b named way mark l
+  as-marked l mark x e = subst (λ (k : ℕ). FitsAs b named way k l) e (said-fits l x)
 
   abbrev Early : ℕ → Type 0
   Early l = a .facts .level l .reserved ≡ false
@@ -142,7 +156,7 @@ module _ (b p : List ℕ) (a : Accepted b) where
       go (inr e) = absurd (reserved-said y (level-fits y x) e early)
 
   -- an unreserved level fits: the lowest of them is taken
-  unreserved-taken : (l : ℕ) → LowestOf (FitsAs b p 0) l → FirstFitting (a .facts) p l
+  unreserved-taken : (l : ℕ) → LowestOf (FitsAs b named way 0) l → FirstFitting (a .facts) p l
   unreserved-taken l low =
       chosen-first early-decided
       (record {
@@ -151,7 +165,7 @@ module _ (b p : List ℕ) (a : Accepted b) where
       })
 
   -- none does: every level that fits is reserved, and the lowest of them is taken
-  module _ (none : (y : ℕ) → y < Table.allLevels → FitsAs b p 0 y → ⊥) where
+  module _ (none : (y : ℕ) → y < Table.allLevels → FitsAs b named way 0 y → ⊥) where
     late : (y : ℕ) → Fits (a .facts) p y → reserveMark y ≡ 1
     late y x = go (mark-is y (level-fits y x))
       where
@@ -159,15 +173,15 @@ module _ (b p : List ℕ) (a : Accepted b) where
         go (inl e) = absurd (none y (level-fits y x) (as-marked y 0 x e))
         go (inr e) = e
 
-    reserved-taken : (l : ℕ) → LowestOf (FitsAs b p 1) l → FirstFitting (a .facts) p l
+    reserved-taken : (l : ℕ) → LowestOf (FitsAs b named way 1) l → FirstFitting (a .facts) p l
     reserved-taken l low =
         chosen-then (λ y x. reserved-said y (level-fits y x) (late y x))
         (record { fits = fits-said 1 l (low .level) (low .holds); least = λ y x. low .least y (level-fits y x) (as-marked y 1 x (late y x)) })
 
   -- the level of the mask's lowest bit is taken; or the mask is 0, and none fits
-  module _ (mask : ℕ) (is : MaskIs b p mask) where
-    no-unreserved : is .low ≡ 0 → (y : ℕ) → y < Table.allLevels → FitsAs b p 0 y → ⊥
-    no-unreserved e = bits-none (FitsAs b p 0) (is .low) (is .unreserved) e
+  module _ (mask : ℕ) (is : MaskIs b named way mask) where
+    no-unreserved : is .low ≡ 0 → (y : ℕ) → y < Table.allLevels → FitsAs b named way 0 y → ⊥
+    no-unreserved e = bits-none (FitsAs b named way 0) (is .low) (is .unreserved) e
 
     pub first-taken : mask ≢ 0 → FirstFitting (a .facts) p (trailingZeros 32 mask % Table.allLevels)
     first-taken n =
@@ -176,73 +190,73 @@ module _ (b p : List ℕ) (a : Accepted b) where
         go : Dec (is .low ≡ 0) → FirstFitting (a .facts) p (trailingZeros 32 (is .low + 2 ^ Table.allLevels * is .high) % Table.allLevels)
         go (yes e) =
             reserved-taken (no-unreserved e) _
-            (in-high (FitsAs b p 0) (FitsAs b p 1) (is .low) (is .high) (is .unreserved) (is .reserved) e
+            (in-high (FitsAs b named way 0) (FitsAs b named way 1) (is .low) (is .high) (is .unreserved) (is .reserved) e
             (λ z. n (is .sum ∙ omega (arith, e, z))))
         go (no d) =
-            unreserved-taken _ (in-low (FitsAs b p 0) (FitsAs b p 1) (is .low) (is .high) (is .unreserved) (is .reserved) d)
+            unreserved-taken _ (in-low (FitsAs b named way 0) (FitsAs b named way 1) (is .low) (is .high) (is .unreserved) (is .reserved) d)
 
     pub none-fits : mask ≡ 0 → NoLevelFits (a .facts) p
     none-fits e y x =
-        let z = halves-none (FitsAs b p 0) (FitsAs b p 1) (is .low) (is .high) (is .unreserved) (is .reserved) (sym (is .sum) ∙ e) in
-        bits-none (FitsAs b p 1) (is .high) (is .reserved) (z .1) y (level-fits y x) (as-marked y 1 x (late (no-unreserved (z .0)) y x))
+        let z = halves-none (FitsAs b named way 0) (FitsAs b named way 1) (is .low) (is .high) (is .unreserved) (is .reserved) (sym (is .sum) ∙ e) in
+        bits-none (FitsAs b named way 1) (is .high) (is .reserved) (z .1) y (level-fits y x) (as-marked y 1 x (late (no-unreserved (z .0)) y x))
 
 -- what the loop keeps: the two halves of the mask, from the level l up
-pub record MaskTo (b p : List ℕ) (l mask : ℕ) : Type 0 where
+pub record MaskTo (b : List ℕ) (named way l mask : ℕ) : Type 0 where
   pub low : ℕ
   pub high : ℕ
   pub sum : mask ≡ low + 2 ^ Table.allLevels * high
-  pub unreserved : BitsTo (FitsAs b p 0) l low
-  pub reserved : BitsTo (FitsAs b p 1) l high
+  pub unreserved : BitsTo (FitsAs b named way 0) l low
+  pub reserved : BitsTo (FitsAs b named way 1) l high
 
-module _ (b p : List ℕ) where
-  pub mask-start : MaskTo b p Table.allLevels 0
+module _ (b : List ℕ) (named way : ℕ) where
+  pub mask-start : MaskTo b named way Table.allLevels 0
   mask-start =
-      record { low = 0; high = 0; sum = omega arith; unreserved = from-highest (FitsAs b p 0); reserved = from-highest (FitsAs b p 1) }
+      record { low = 0; high = 0; sum = omega arith; unreserved = from-highest (FitsAs b named way 0); reserved = from-highest (FitsAs b named way 1) }
 
-  pub mask-next : (l mask n : ℕ) → 0 < l → Adds b p (l - 1) n → MaskTo b p l mask → MaskTo b p (l - 1) (2 * mask + n)
+  pub mask-next : (l mask n : ℕ) → 0 < l → Adds b named way (l - 1) n → MaskTo b named way l mask → MaskTo b named way (l - 1) (2 * mask + n)
   mask-next l mask n h x m =
       record {
         low = 2 * m .low + mark (x .low);
         high = 2 * m .high + mark (x .high);
         sum = omega (arith, m .sum, x .sum);
-        unreserved = next-lower (FitsAs b p 0) (x .low) l (m .low) h (x .unreserved) (m .unreserved);
-        reserved = next-lower (FitsAs b p 1) (x .high) l (m .high) h (x .reserved) (m .reserved);
+        unreserved = next-lower (FitsAs b named way 0) (x .low) l (m .low) h (x .unreserved) (m .unreserved);
+        reserved = next-lower (FitsAs b named way 1) (x .high) l (m .high) h (x .reserved) (m .reserved);
       }
 
   -- it fits in 32 bits
-  module _ (l mask : ℕ) (h : 0 < l) (m : MaskTo b p l mask) where
+  module _ (l mask : ℕ) (h : 0 < l) (m : MaskTo b named way l mask) where
     pub mask-half : mask < 2 ^ 31
     mask-half =
-        omega (arith, m .sum, smaller (FitsAs b p 0) l (m .low) h (m .unreserved), smaller (FitsAs b p 1) l (m .high) h (m .reserved))
+        omega (arith, m .sum, smaller (FitsAs b named way 0) l (m .low) h (m .unreserved), smaller (FitsAs b named way 1) l (m .high) h (m .reserved))
 
-    pub mask-room : (n : ℕ) → Adds b p (l - 1) n → 2 * mask + n < 2 ^ 32
+    pub mask-room : (n : ℕ) → Adds b named way (l - 1) n → 2 * mask + n < 2 ^ 32
     mask-room n x =
         omega (
           arith,
           m .sum,
-          smaller (FitsAs b p 0) l (m .low) h (m .unreserved),
-          smaller (FitsAs b p 1) l (m .high) h (m .reserved),
+          smaller (FitsAs b named way 0) l (m .low) h (m .unreserved),
+          smaller (FitsAs b named way 1) l (m .high) h (m .reserved),
           x .sum,
           mark-small (x .low),
           mark-small (x .high),
         )
 
-  pub mask-end : (l mask : ℕ) → (0 < l → ⊥) → MaskTo b p l mask → MaskIs b p mask
+  pub mask-end : (l mask : ℕ) → (0 < l → ⊥) → MaskTo b named way l mask → MaskIs b named way mask
   mask-end l mask n m =
       record {
         low = m .low;
         high = m .high;
         sum = m .sum;
-        unreserved = to-lowest (FitsAs b p 0) l (m .low) n (m .unreserved);
-        reserved = to-lowest (FitsAs b p 1) l (m .high) n (m .reserved);
+        unreserved = to-lowest (FitsAs b named way 0) l (m .low) n (m .unreserved);
+        reserved = to-lowest (FitsAs b named way 1) l (m .high) n (m .reserved);
       }
 
 -- what a level adds: nothing, a high bit or a low one
-module _ (b p : List ℕ) (l : ℕ) where
-  pub adds-none : ((mark : ℕ) → FitsAs b p mark l → ⊥) → Adds b p l 0
+module _ (b : List ℕ) (named way l : ℕ) where
+  pub adds-none : ((mark : ℕ) → FitsAs b named way mark l → ⊥) → Adds b named way l 0
   adds-none n = record { low = false; high = false; sum = omega arith; unreserved = says-false (n 0); reserved = says-false (n 1) }
 
-  pub adds-high : FitsAs b p 1 l → Adds b p l (2 ^ Table.allLevels)
+  pub adds-high : FitsAs b named way 1 l → Adds b named way l (2 ^ Table.allLevels)
   adds-high x =
       record {
         low = false;
@@ -252,7 +266,7 @@ module _ (b p : List ℕ) (l : ℕ) where
         reserved = says-true x;
       }
 
-  pub adds-low : FitsAs b p 0 l → Adds b p l 1
+  pub adds-low : FitsAs b named way 0 l → Adds b named way l 1
   adds-low x =
       record {
         low = true;

@@ -12,61 +12,76 @@ use layout::LEVELS_AT;
 use layout::MARKED;
 use layout::MOST_SOCKETS;
 ghost use mathlib.Core.Path.{_≡_};
-ghost use Prim.Native.Nat.{_+_, _<_};
+ghost use Prim.Native.Nat.{_<_};
 ghost use lib.ListN.{length};
 ghost use Rattle.facts.specs.Table;
 ghost use Rattle.facts.specs.Says.{Says};
-ghost use Rattle.facts.specs.Irq.{requestIrqLength, mannerAsked, Joining};
+ghost use Rattle.facts.specs.Irq.{requestIrqLength, mannerAsked};
 ghost use Rattle.layout.specs.Layout.{tableSize};
 ghost use Rattle.layout.specs.Sound.{Accepted};
 ghost use Rattle.reading.specs.Sets.{Exactly};
-ghost use Rattle.fitting.specs.Fitting.{Stands, WayIs, Adds, MaskIs, FirstIs, JoinedAt, JoinableIs, TakenIs};
+ghost use Rattle.fitting.specs.Fitting.{Goes, LevelsAt, LevelsHeld, InTheWay, Adds, MaskIs, FirstIs, TakenIs};
 
-// Whether the socket has a grant that stands in the way of the request on its level: "without First Shared, all its grants go together with this
-// manner".
-fn stands(t: &[u8], p: &[u8], m: Manner, s: Socket) -> bool
+// "without First Shared, all its grants go together with this manner": whether the grant of the socket does.
+fn goes(t: &[u8], p: &[u8], m: Manner, s: Socket) -> bool
     requires { ⌜ (length (now t) ≡ tableSize) × (s .0 < Table.mostSockets) ⌝ }
     requires { ⌜ (length (now p) ≡ requestIrqLength) × (m ≡ mannerAsked (now p)) ⌝ }
-    ensures { λ r. ⌜ Says r (Stands (now (t .entry)) (now (p .entry)) (s .0)) ⌝ }
+    ensures { λ r. ⌜ Says r (Goes (now (t .entry)) (now (p .entry)) (s .0)) ⌝ }
+{
+    if irq_packets::first_shared(p) {
+        return false;
+    }
+    let number = s.0;
+    let held = reading::manner_of(reading::byte(t, IRQS_AT + number * IRQ_SIZE + IRQ_MANNER));
+    levels::together(held, m)
+}
+
+// The levels that grants hold, a bit for each: those where a grant stands in the way of the request, and those where one goes together with it.
+pub struct Levels {
+    pub way: usize,
+    pub together: usize,
+}
+
+// The level that the socket's grant holds.
+fn levels_at(t: &[u8], p: &[u8], m: Manner, s: Socket) -> Levels
+    requires { ⌜ Accepted (now t) × (s .0 < Table.mostSockets) × (length (now p) ≡ requestIrqLength) × (m ≡ mannerAsked (now p)) ⌝ }
+    ensures { λ r. ⌜ LevelsAt (now (t .entry)) (now (p .entry)) (s .0) r ⌝ }
 {
     let number = s.0;
     let at = IRQS_AT + number * IRQ_SIZE;
     if reading::word(t, at) == 0 {
-        return false;
+        return Levels {
+            way: 0,
+            together: 0,
+        };
     }
-    if irq_packets::first_shared(p) {
-        return true;
+    let level = 1 << reading::byte(t, at + IRQ_LEVEL);
+    if goes(t, p, m, s) {
+        return Levels {
+            way: 0,
+            together: level,
+        };
     }
-    !levels::together(reading::manner_of(reading::byte(t, at + IRQ_MANNER)), m)
+    Levels {
+        way: level,
+        together: 0,
+    }
 }
 
-// Marks the level of the socket's grant, where that stands in the way.
-fn mark(t: &[u8], p: &[u8], m: Manner, s: Socket, way: &mut [bool])
-    requires { ⌜ Accepted (now t) × (s .0 < Table.mostSockets) × (length (now p) ≡ requestIrqLength) × (m ≡ mannerAsked (now p)) ⌝ }
-    requires { ⌜ WayIs (now t) (now p) (s .0) (now way) ⌝ }
-    ensures { λ _. ⌜ WayIs (now (t .entry)) (now (p .entry)) (s .0 + 1) (now (way .exit)) ⌝ }
-{
-    if !stands(t, p, m, s) {
-        return;
-    }
-    let number = s.0;
-    let level = reading::byte(t, IRQS_AT + number * IRQ_SIZE + IRQ_LEVEL);
-    way[level] = true;
-}
-
-// For each level, whether a grant stands in its way: one pass over the sockets.
-fn in_the_way(t: &[u8], p: &[u8]) -> [bool; ALL_LEVELS]
+// The levels that all grants hold: one pass over the sockets.
+fn levels_held(t: &[u8], p: &[u8]) -> Levels
     requires { ⌜ Accepted (now t) × (length (now p) ≡ requestIrqLength) ⌝ }
-    ensures { λ r. ⌜ WayIs (now (t .entry)) (now (p .entry)) Table.mostSockets r ⌝ }
+    ensures { λ r. ⌜ LevelsHeld (now (t .entry)) (now (p .entry)) r ⌝ }
 {
     let m = irq_packets::manner_asked(p);
-    let mut way = [false; ALL_LEVELS];
-    let mut s = 0;
-    while s < MOST_SOCKETS {
-        mark(t, p, m, Socket(s), &mut way);
-        s += 1;
+    let mut way = 0;
+    let mut together = 0;
+    for s in 0..MOST_SOCKETS {
+        let here = levels_at(t, p, m, Socket(s));
+        way = way | here.way;
+        together = together | here.together;
     }
-    way
+    Levels { way, together }
 }
 
 // The mask of the levels that fit: a bit for each unreserved level, the lowest one's lowest, and above them one for each reserved level.
@@ -77,19 +92,18 @@ const UNRESERVED_LEVELS: u32 = 16;
 const RESERVED: u32 = 65536;
 
 // What a level adds to the mask: "it is named, managed, and either has no grant or", without First Shared, none in the way.
-fn adds(t: &[u8], p: &[u8], way: &[bool], l: usize) -> u32
-    requires { ⌜ Accepted (now t) × (length (now p) ≡ requestIrqLength) × (l < Table.allLevels) ⌝ }
-    requires { ⌜ WayIs (now t) (now p) Table.mostSockets (now way) ⌝ }
-    ensures { λ r. ⌜ Adds (now (t .entry)) (now (p .entry)) l r ⌝ }
+fn adds(t: &[u8], named: usize, way: usize, l: usize) -> u32
+    requires { ⌜ Accepted (now t) × (l < Table.allLevels) ⌝ }
+    ensures { λ r. ⌜ Adds (now (t .entry)) named way l r ⌝ }
 {
     let at = LEVELS_AT + l * LEVEL_SIZE;
     if reading::byte(t, at) != MARKED {
         return 0;
     }
-    if !irq_packets::names(p, l) {
+    if !reading::is_set(named, l) {
         return 0;
     }
-    if way[l] {
+    if reading::is_set(way, l) {
         return 0;
     }
     if reading::byte(t, at + LEVEL_RESERVED) == MARKED {
@@ -99,16 +113,15 @@ fn adds(t: &[u8], p: &[u8], way: &[bool], l: usize) -> u32
 }
 
 // The levels that fit, as a mask, from the highest level down.
-fn mask(t: &[u8], p: &[u8], way: &[bool]) -> u32
-    requires { ⌜ Accepted (now t) × (length (now p) ≡ requestIrqLength) ⌝ }
-    requires { ⌜ WayIs (now t) (now p) Table.mostSockets (now way) ⌝ }
-    ensures { λ r. ⌜ MaskIs (now (t .entry)) (now (p .entry)) r ⌝ }
+fn mask(t: &[u8], named: usize, way: usize) -> u32
+    requires { ⌜ Accepted (now t) ⌝ }
+    ensures { λ r. ⌜ MaskIs (now (t .entry)) named way r ⌝ }
 {
     let mut mask: u32 = 0;
     let mut l = ALL_LEVELS;
     while 0 < l {
         l -= 1;
-        mask = 2 * mask + adds(t, p, way, l);
+        mask = 2 * mask + adds(t, named, way, l);
     }
     mask
 }
@@ -120,74 +133,27 @@ pub enum Taken {
 }
 
 // "An unreserved level comes before a reserved one, then the lowest.": the mask's lowest bit.
-fn first_fitting(t: &[u8], p: &[u8]) -> Taken
-    requires { ⌜ Accepted (now t) × (length (now p) ≡ requestIrqLength) ⌝ }
+fn first_fitting(t: &[u8], p: &[u8], way: usize) -> Taken
+    requires { ⌜ Accepted (now t) × (length (now p) ≡ requestIrqLength) × Exactly way (InTheWay (now t) (now p)) ⌝ }
     ensures { λ r. ⌜ FirstIs (now (t .entry)) (now (p .entry)) r ⌝ }
 {
-    let way = in_the_way(t, p);
-    let fitting = mask(t, p, &way);
+    let fitting = mask(t, irq_packets::named(p), way);
     if fitting == 0 {
         return Taken::Nothing;
     }
     Taken::Level((u32::trailing_zeros(fitting) % UNRESERVED_LEVELS) as usize)
 }
 
-// K1: "A sharing request without First Shared". Exclusive doesn't go with itself.
-fn joining(p: &[u8], m: Manner) -> bool
-    requires { ⌜ (length (now p) ≡ requestIrqLength) × (m ≡ mannerAsked (now p)) ⌝ }
-    ensures { λ r. ⌜ Says r (Joining (now (p .entry))) ⌝ }
-{
-    if !levels::together(m, m) {
-        return false;
-    }
-    !irq_packets::first_shared(p)
-}
-
-// The level of the socket's grant as a bit, where it is named and the grant is of the manner asked for.
-fn joined_at(t: &[u8], p: &[u8], m: Manner, s: Socket) -> u32
-    requires { ⌜ Accepted (now t) × (s .0 < Table.mostSockets) × (length (now p) ≡ requestIrqLength) × (m ≡ mannerAsked (now p)) ⌝ }
-    ensures { λ r. ⌜ Exactly r (JoinedAt (now (t .entry)) (now (p .entry)) (s .0)) ⌝ }
-{
-    let number = s.0;
-    let at = IRQS_AT + number * IRQ_SIZE;
-    if reading::word(t, at) == 0 {
-        return 0;
-    }
-    let held = reading::manner_of(reading::byte(t, at + IRQ_MANNER));
-    if !levels::together(held, m) {
-        return 0;
-    }
-    let level = reading::byte(t, at + IRQ_LEVEL);
-    if !irq_packets::names(p, level) {
-        return 0;
-    }
-    1 << level
-}
-
-// K1: the levels that the request can join, "named" and with "grants of its manner": a bit for each, in one pass over the sockets.
-fn joinable(t: &[u8], p: &[u8]) -> u32
-    requires { ⌜ Accepted (now t) × (length (now p) ≡ requestIrqLength) ⌝ }
-    ensures { λ r. ⌜ JoinableIs (now (t .entry)) (now (p .entry)) r ⌝ }
-{
-    let m = irq_packets::manner_asked(p);
-    if !joining(p, m) {
-        return 0;
-    }
-    let mut joined: u32 = 0;
-    for s in 0..MOST_SOCKETS {
-        joined = joined | joined_at(t, p, m, Socket(s));
-    }
-    joined
-}
-
-// K1: "the lowest" level that the request can join; "only if none exists, the old choice".
+// K1: "the lowest named level that already has grants of its manner; only if none exists, the old choice."
 pub fn choose(t: &[u8], p: &[u8]) -> Taken
     requires { ⌜ Accepted (now t) × (length (now p) ≡ requestIrqLength) ⌝ }
     ensures { λ r. ⌜ TakenIs (now (t .entry)) (now (p .entry)) r ⌝ }
 {
-    let joined = joinable(t, p);
+    let held = levels_held(t, p);
+    let named = irq_packets::named(p);
+    let joined = held.together & named;
     if joined == 0 {
-        return first_fitting(t, p);
+        return first_fitting(t, p, held.way);
     }
-    Taken::Level(u32::trailing_zeros(joined) as usize)
+    Taken::Level(usize::trailing_zeros(joined) as usize)
 }

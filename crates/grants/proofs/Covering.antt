@@ -1,12 +1,12 @@
 -- Sets with a bit for each number: of all below a bound, of the sockets passed, and whether two have a number in common. Assumes nothing.
 use mathlib.Core.Path.{_≡_, refl, ap, _∙_}
 use mathlib.Core.Logic.{_≢_}
-use Prim.Native.Nat.{ℕ, suc, _+_, _-_, _/_, _%_, _^_, _<_, min}
+use Prim.Native.Nat.{ℕ, suc, _+_, _-_, _/_, _%_, _^_, _<_}
 use native.Mathlib.Nat.{pow-suc}
 use native.Mathlib.Decide.{ℕ-discrete}
 use native.Mathlib.Omega.{arith}
 use lib.Arith.{bin-ind}
-use lib.Bits.{bitAnd, bitOr, and-shr, and-step}
+use lib.Bits.{bitAnd, bitOr}
 use lib.Dec.{eqb}
 use lib.Pow.{pow-pos, ones-split, ones-lt, high}
 use Rattle.facts.specs.Says.{Says}
@@ -15,7 +15,7 @@ use Rattle.facts.proofs.Says.{says-as, says-eq}
 use Rattle.reading.specs.Sets.{Covers, Exactly}
 use Rattle.reading.proofs.All.{all-none, all-more}
 use Rattle.reading.proofs.Bits.{lowest-bit, higher-bit, no-bit}
-use Rattle.reading.proofs.Sets.{or-left, or-right}
+use Rattle.reading.proofs.Sets.{or-left, or-right, bit-and, exactly-both}
 use Rattle.grants.specs.Company.{CoversBelow}
 
 -- the set of all below n
@@ -33,17 +33,6 @@ all-bits n k l =
     odd : (2 ^ suc more - 1) % 2 ≡ 1
     odd = omega (arith, pow-suc 2 more, pow-pos more)
 
--- a number is in both of two sets
-module _ (x y k : ℕ) where
-  bit-and : bit (bitAnd x y) k ≡ min (bit x k) (bit y k)
-  bit-and = ap (λ (n : ℕ). n % 2) (and-shr x y k) ∙ omega (arith, and-step (x / 2 ^ k) (y / 2 ^ k))
-
-  and-both : bit (bitAnd x y) k ≡ 1 → (bit x k ≡ 1) × (bit y k ≡ 1)
-  and-both e = (omega (arith, bit-and), omega (arith, bit-and))
-
-  both-bits : bit x k ≡ 1 → bit y k ≡ 1 → bit (bitAnd x y) k ≡ 1
-  both-bits e f = omega (arith, bit-and)
-
 -- a number that is not 0 has a bit
 some-bit : (n : ℕ) → n ≢ 0 → (k : ℕ) × (bit n k ≡ 1)
 some-bit =
@@ -57,7 +46,7 @@ some-bit =
 pub none-common : (x y : ℕ) {P Q : ℕ → Type 0} → bitAnd x y ≡ 0 → Covers x P → Covers y Q → (k : ℕ) → P k → Q k → ⊥
 none-common x y e p q k a b =
     let z : bit (bitAnd x y) k ≡ 0 = ap (λ (n : ℕ). bit n k) e ∙ no-bit k in
-    omega (arith, both-bits x y k (p k a) (q k b))
+    omega (arith, bit-and x y k, p k a, q k b)
 
 -- the set of the sockets passed, and of one more
 module _ (P : ℕ → ℕ → Type 0) where
@@ -76,5 +65,5 @@ common-says x y {P} {Q} p q = says-as (says-eq (bitAnd x y) 0) (λ e. none-commo
     go n (yes e) = e
     go n (no d) =
         let k = some-bit (bitAnd x y) d in
-        let both = and-both x y (k .0) (k .1) in
-        absurd (n (k .0) (p .only (k .0) (both .0)) (q .only (k .0) (both .1)))
+        let both = exactly-both x y p q .only (k .0) (k .1) in
+        absurd (n (k .0) (both .0) (both .1))

@@ -1,15 +1,14 @@
 -- What a packet names, and that none of the clauses of its checks applies. Assumes nothing.
-use mathlib.Core.Path.{_≡_}
+use mathlib.Core.Path.{_≡_, refl, sym}
 use mathlib.Core.Logic.{inl, inr, _≢_}
 use mathlib.Core.List.{List}
-use mathlib.Core.Bool.{Bool}
 use Prim.Native.Nat.{ℕ, _^_, _≤_}
-use Rattle.facts.specs.Says.{Says}
 use Rattle.facts.specs.Packets.{bit}
 use Rattle.facts.specs.Levels.{exclusiveType, dynamicType}
 use Rattle.facts.specs.Irq.{attributesOf, info2, typeAsked, levelAsked, ForcePulse, IrqFirstShared, Mask, LevelBit, PulseBit, ShareBit}
 use Rattle.facts.specs.Irq.{IrqAttributesBad, IrqInfoBad, Named}
-use Rattle.facts.proofs.Says.{says-as}
+use Rattle.reading.specs.Sets.{Exactly}
+use Rattle.reading.proofs.Sets.{exactly-one}
 
 module _ (p : List ℕ) where
   -- of the attributes
@@ -29,17 +28,17 @@ module _ (p : List ℕ) where
   info-good neither level none (inr (inl x)) = level x
   info-good neither level none (inr (inr x)) = none x
 
-  module _ {r : Bool} (l : ℕ) where
-    pub named-by-mask : Mask p → Says r (bit (info2 p) l ≡ 1) → Says r (Named p l)
-    named-by-mask m s = says-as s (λ x. inl (m, x)) back
-      where
-        back : Named p l → bit (info2 p) l ≡ 1
-        back (inl x) = x .1
-        back (inr x) = absurd (x .0 m)
+  -- the levels named: those of IRQInfo2, or the one of the low four bits
+  pub named-by-mask : Mask p → (set : ℕ) → set ≡ info2 p → Exactly set (Named p)
+  named-by-mask m set e = rw e (record { has = go; only = λ l b. inl (m, b) })
+    where
+      go : (l : ℕ) → Named p l → bit (info2 p) l ≡ 1
+      go l (inl x) = x .1
+      go l (inr x) = absurd (x .0 m)
 
-    pub named-by-level : (Mask p → ⊥) → Says r (l ≡ levelAsked p) → Says r (Named p l)
-    named-by-level n s = says-as s (λ x. inr (n, x)) back
-      where
-        back : Named p l → l ≡ levelAsked p
-        back (inl x) = absurd (n (x .0))
-        back (inr x) = x .1
+  pub named-by-level : (Mask p → ⊥) → (set : ℕ) → set ≡ 2 ^ levelAsked p → Exactly set (Named p)
+  named-by-level n set e = rw e (exactly-one (levelAsked p) (inr (n, refl)) go)
+    where
+      go : (l : ℕ) → Named p l → levelAsked p ≡ l
+      go l (inl x) = absurd (n (x .0))
+      go l (inr x) = sym (x .1)

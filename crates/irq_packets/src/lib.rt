@@ -16,6 +16,7 @@ ghost use Rattle.facts.specs.declared.Manner.the-variants.{DynamicPulse};
 ghost use Rattle.facts.specs.Irq.{requestIrqLength, attributesOf, info1, info2, typeAsked, levelAsked, mannerAsked, dynamicOf};
 ghost use Rattle.facts.specs.Irq.{withPulse, assigning};
 ghost use Rattle.facts.specs.Irq.{ForcePulse, IrqFirstShared, Mask, LevelBit, PulseBit, ShareBit, Named};
+ghost use Rattle.reading.specs.Sets.{Exactly};
 ghost use Rattle.irq_packets.specs.Asking.{AttributesAre, InfoIs};
 
 // RequestIRQ's packet (5.53), and up to AssignedIRQ ReleaseIRQ's (5.45): where its fields stand.
@@ -227,15 +228,15 @@ pub fn manner_asked(p: &[u8]) -> Manner
     }
 }
 
-// "With Mask clear, the low four bits name one level and IRQInfo2 is ignored."
-pub fn names(p: &[u8], l: usize) -> bool
-    requires { ⌜ (length (now p) ≡ requestIrqLength) × (l < Table.allLevels) ⌝ }
-    ensures { λ r. ⌜ Says r (Named (now (p .entry)) l) ⌝ }
+// "With Mask clear, the low four bits name one level and IRQInfo2 is ignored.": a bit for each level that is named.
+pub fn named(p: &[u8]) -> usize
+    requires { ⌜ length (now p) ≡ requestIrqLength ⌝ }
+    ensures { λ r. ⌜ Exactly r (Named (now (p .entry))) ⌝ }
 {
     if info_set(p, MASK) {
-        return reading::is_set(reading::word(p, INFO_2_AT), l);
+        return reading::word(p, INFO_2_AT);
     }
-    l == level_asked(p)
+    1 << level_asked(p)
 }
 
 // "for dynamic pulse only, attribute bit 8"

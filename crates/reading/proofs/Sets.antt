@@ -1,11 +1,11 @@
--- Sets with a bit for each number: of none, of one, shifted, and what two of them have together. Assumes nothing.
+-- Sets with a bit for each number: of none, of one, shifted, and what two of them have, together or both. Assumes nothing.
 use mathlib.Core.Path.{_≡_, sym, ap, _∙_, subst}
 use mathlib.Core.Logic.{_⊎_, inl, inr, ⊎-elim}
-use Prim.Native.Nat.{ℕ, suc, _+_, _-_, _*_, _/_, _%_, _^_, _≤_, _<_, max}
+use Prim.Native.Nat.{ℕ, suc, _+_, _-_, _*_, _/_, _%_, _^_, _≤_, _<_, min, max}
 use native.Mathlib.Nat.{one-mul, mul-assoc, div-eq-of-lt, eq-or-lt-of-le}
 use native.Mathlib.Decide.{ℕ-discrete, decLt}
 use native.Mathlib.Omega.{arith}
-use lib.Bits.{bitOr, or-shr, or-step, shifted-even}
+use lib.Bits.{bitAnd, bitOr, and-shr, and-step, or-shr, or-step, shifted-even}
 use lib.Pow.{pow-add, pow-mono, shl-shr, shr-shr}
 use Rattle.facts.specs.Packets.{bit}
 use Rattle.reading.specs.Sets.{Exactly, SomeBelow}
@@ -80,6 +80,17 @@ exactly-none n = record { has = λ k p. absurd (n k p); only = λ k e. absurd (o
 pub exactly-one : {P : ℕ → Type 0} (j : ℕ) → P j → ((k : ℕ) → P k → j ≡ k) → Exactly (2 ^ j) P
 exactly-one {P} j p one =
     record { has = λ k q. ap (bit (2 ^ j)) (sym (one k q)) ∙ one-bit j; only = λ k e. subst P (one-only j k e) p }
+
+-- the numbers that two sets both have
+pub bit-and : (x y k : ℕ) → bit (bitAnd x y) k ≡ min (bit x k) (bit y k)
+bit-and x y k = ap (λ (n : ℕ). n % 2) (and-shr x y k) ∙ omega (arith, and-step (x / 2 ^ k) (y / 2 ^ k))
+
+pub exactly-both : {P Q : ℕ → Type 0} (x y : ℕ) → Exactly x P → Exactly y Q → Exactly (bitAnd x y) (λ k. P k × Q k)
+exactly-both x y p q =
+    record {
+      has = λ k b. omega (arith, bit-and x y k, p .has k (b .0), q .has k (b .1));
+      only = λ k e. (p .only k (omega (arith, bit-and x y k)), q .only k (omega (arith, bit-and x y k)));
+    }
 
 -- a set of what P says, where that is what Q says
 pub exactly-as : {P Q : ℕ → Type 0} {set : ℕ} → Exactly set P → ((k : ℕ) → P k → Q k) → ((k : ℕ) → Q k → P k) → Exactly set Q

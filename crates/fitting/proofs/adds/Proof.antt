@@ -5,30 +5,28 @@ use mathlib.Core.List.{List}
 use Prim.Native.Nat.{ℕ, _+_}
 use native.Mathlib.Omega.{arith}
 use denote.Ref.{now}
-use Rattle.facts.specs.Table
-use Rattle.facts.specs.Packets.{byte}
-use Rattle.facts.specs.Irq.{Named}
+use Rattle.facts.specs.Packets.{byte, bit}
 use Rattle.facts.proofs.Says.{says-yes, says-no}
 use Rattle.layout.specs.Reading.{levelPlace}
 use Rattle.layout.proofs.Of.{size-in, sound-in}
-use Rattle.fitting.specs.Fitting.{InTheWay, FitsAs}
+use Rattle.fitting.specs.Fitting.{FitsAs}
 use Rattle.fitting.proofs.Fit.{adds-none, adds-high, adds-low}
 use borrow.Author.Needs.{needs}
 use Rattle.fitting.proofs.adds.Statement.{statement}
 use Rattle.fitting.proofs.adds.Tie as tie
 
--- where the call began, its table, its packet and its level
-abbrev lent : tie.After-byte → tie.After-shared-slice-known2
-lent c = c .before .before
-
+-- where the call began, its table, its two sets and its level
 abbrev start : tie.After-byte → tie.Start
-start c = lent c .before .before
+start c = c .before .before
 
 abbrev table : tie.After-byte → List ℕ
 table c = now (start c .args .t)
 
-abbrev packet : tie.After-byte → List ℕ
-packet c = now (start c .args .p)
+abbrev names : tie.After-byte → ℕ
+names c = start c .args .named
+
+abbrev way : tie.After-byte → ℕ
+way c = start c .args .way
 
 abbrev level : tie.After-byte → ℕ
 level c = start c .args .l
@@ -41,22 +39,25 @@ managed c = sym (c .before .byte .ensures .0) ∙ c .if1 .left
 abbrev asked : tie.Else2 → tie.Else1
 asked c = c .before .before
 
-named : (c : tie.Else2) → let k = asked c .before in Named (packet k) (level k)
-named c = says-yes (c .before .names .ensures) (c .if2 .left)
+named : (c : tie.Else2) → let k = asked c .before in bit (names k) (level k) ≡ 1
+named c = says-yes (c .before .is-set .ensures) (c .if2 .left)
 
 -- and no grant stands in its way
-abbrev way-read : tie.Else3 → tie.Else2
-way-read c = c .before .before
+abbrev open-way : tie.Else3 → tie.Else2
+open-way c = c .before .before
 
 abbrev read : tie.Else3 → tie.After-byte
-read c = asked (way-read c) .before
-
-free : (c : tie.Else3) → InTheWay (table (read c)) (packet (read c)) Table.mostSockets (level (read c)) → ⊥
-free c = let s = start (read c) in s .pre .1 .says (s .args .l) (s .pre .0 .2) .fails (c .if3 .left)
+read c = asked (open-way c) .before
 
 fits : (c : tie.Else3) (mark : ℕ) → byte (table (read c)) (levelPlace (level (read c)) + 1) ≡ mark
-    → FitsAs (table (read c)) (packet (read c)) mark (level (read c))
-fits c mark e = record { named = named (way-read c); managed = managed (asked (way-read c)); reserved = e; free = free c }
+    → FitsAs (table (read c)) (names (read c)) (way (read c)) mark (level (read c))
+fits c mark e =
+    record {
+      named = named (open-way c);
+      managed = managed (asked (open-way c));
+      reserved = e;
+      free = c .before .is-set2 .ensures .fails (c .if3 .left);
+    }
 
 mul-at : tie.Need-mul-at
 mul-at c = search needs
@@ -65,51 +66,50 @@ add-at : tie.Need-add-at
 add-at c = search needs
 
 byte-requires : tie.Need-byte-requires
-byte-requires c κs = let s = c .before .before .before in omega (arith, size-in (now (s .args .t)) (s .pre .0 .0), s .pre .0 .2)
+byte-requires c κs = let s = c .before in omega (arith, size-in (now (s .args .t)) (s .pre .0), s .pre .1)
 
 returns : tie.Need-returns
 returns c =
     let k = c .before in
-    adds-none (table k) (packet k) (level k) (λ mark x. c .if1 .taken (k .byte .ensures .0 ∙ x .managed))
+    adds-none (table k) (names k) (way k) (level k) (λ mark x. c .if1 .taken (k .byte .ensures .0 ∙ x .managed))
 
-names-requires : tie.Need-names-requires
-names-requires c κs = search needs
+is-set-requires : tie.Need-is-set-requires
+is-set-requires c κs = search needs
 
 returns-2 : tie.Need-returns-2
 returns-2 c =
     let k = c .before .before .before in
-    adds-none (table k) (packet k) (level k) (λ mark x. says-no (c .before .names .ensures) (c .if2 .taken) (x .named))
+    adds-none (table k) (names k) (way k) (level k) (λ mark x. says-no (c .before .is-set .ensures) (c .if2 .taken) (x .named))
 
-shared-slice-read-if3 : tie.Need-shared-slice-read-if3
-shared-slice-read-if3 c = search needs
+is-set-requires-2 : tie.Need-is-set-requires-2
+is-set-requires-2 c κs = search needs
 
 returns-3 : tie.Need-returns-3
 returns-3 c =
     let k = asked (c .before .before) .before in
-    let s = start k in
-    adds-none (table k) (packet k) (level k) (λ mark x. x .free (s .pre .1 .says (s .args .l) (s .pre .0 .2) .holds (c .if3 .taken)))
+    adds-none (table k) (names k) (way k) (level k) (λ mark x. x .free (c .before .is-set2 .ensures .holds (c .if3 .taken)))
 
 add-byte : tie.Need-add-byte
 add-byte c = search needs
 
 byte-requires-2 : tie.Need-byte-requires-2
-byte-requires-2 c κs = let s = start (read c) in omega (arith, size-in (now (s .args .t)) (s .pre .0 .0), s .pre .0 .2)
+byte-requires-2 c κs = let s = start (read c) in omega (arith, size-in (now (s .args .t)) (s .pre .0), s .pre .1)
 
 returns-4 : tie.Need-returns-4
 returns-4 c =
     let f = c .before .before in
     let k = read f in
-    adds-high (table k) (packet k) (level k) (fits f 1 (sym (c .before .byte2 .ensures .0) ∙ c .if4 .taken))
+    adds-high (table k) (names k) (way k) (level k) (fits f 1 (sym (c .before .byte2 .ensures .0) ∙ c .if4 .taken))
 
 returns-5 : tie.Need-returns-5
 returns-5 c =
     let f = c .before .before in
     let k = read f in
     let s = start k in
-    let sound = sound-in (table k) (s .pre .0 .0) .levels (level k) (s .pre .0 .2) in
+    let sound = sound-in (table k) (s .pre .0) .levels (level k) (s .pre .1) in
     let unmarked : byte (table k) (levelPlace (level k) + 1) ≡ 0 =
     omega (arith, c .before .byte2 .ensures .0, c .if4 .left, sound .managed, sound .reserved) in
-    adds-low (table k) (packet k) (level k) (fits f 0 unmarked)
+    adds-low (table k) (names k) (way k) (level k) (fits f 0 unmarked)
 
 pub adds-spec : {M : Type 1} → statement M
 adds-spec =
@@ -119,9 +119,9 @@ adds-spec =
     add-at
     byte-requires
     returns
-    names-requires
+    is-set-requires
     returns-2
-    shared-slice-read-if3
+    is-set-requires-2
     returns-3
     add-byte
     byte-requires-2

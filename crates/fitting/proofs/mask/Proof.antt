@@ -6,40 +6,38 @@ use Rattle.fitting.proofs.mask.Statement.{statement}
 use Rattle.fitting.proofs.mask.Tie as tie
 
 abbrev Inv-loop : tie.InvT-loop
-Inv-loop t p way mask₀ l₀ mask l = MaskTo t p l mask
+Inv-loop t named way mask₀ l₀ mask l = MaskTo t named way l mask
 
 abbrev μ-loop : tie.MeasureT-loop
-μ-loop t p way mask₀ l₀ mask l = l
+μ-loop t named way mask₀ l₀ mask l = l
 
 loop-holds : tie.Need-loop-holds Inv-loop μ-loop
-loop-holds c = mask-start _ _
+loop-holds c = mask-start _ _ _
 
 sub-l : tie.Need-sub-l Inv-loop μ-loop
 sub-l c = omega arith
 
 mul-mask : tie.Need-mul-mask Inv-loop μ-loop
-mul-mask c = let k = c .before .loop in omega (arith, mask-half _ _ (k .l) (k .mask) (omega arith) (k .inv))
+mul-mask c = let k = c .before .loop in omega (arith, mask-half _ _ _ (k .l) (k .mask) (omega arith) (k .inv))
 
 adds-requires : tie.Need-adds-requires Inv-loop μ-loop
 adds-requires c κs =
     let k = c .before in
-    let s = k .before .before in
-    let began = s .before .before in
-    ((began .pre .0 .0, began .pre .0 .1, omega (arith, k .loop .inv .unreserved .levels)), began .pre .1)
+    (k .before .before .pre, omega (arith, k .loop .inv .unreserved .levels))
 
 add-mask : tie.Need-add-mask Inv-loop μ-loop
 add-mask c =
     let k = c .before .before .loop in
-    omega (arith, mask-room _ _ (k .l) (k .mask) (omega arith) (k .inv) (c .adds .result) (c .adds .ensures))
+    omega (arith, mask-room _ _ _ (k .l) (k .mask) (omega arith) (k .inv) (c .adds .result) (c .adds .ensures))
 
 loop-less : tie.Need-loop-less Inv-loop μ-loop
 loop-less c = omega arith
 
 loop-again : tie.Need-loop-again Inv-loop μ-loop
-loop-again c = let k = c .before .before .loop in mask-next _ _ (k .l) (k .mask) (c .adds .result) (omega arith) (c .adds .ensures) (k .inv)
+loop-again c = let k = c .before .before .loop in mask-next _ _ _ (k .l) (k .mask) (c .adds .result) (omega arith) (c .adds .ensures) (k .inv)
 
 returns : tie.Need-returns Inv-loop μ-loop
-returns c = let k = c .before .loop in mask-end _ _ (k .l) (k .mask) (omega arith) (k .inv)
+returns c = let k = c .before .loop in mask-end _ _ _ (k .l) (k .mask) (omega arith) (k .inv)
 
 pub mask-spec : {M : Type 1} → statement M
 mask-spec =

@@ -1,0 +1,68 @@
+-- `fitting::levels_held` meets its contract: each socket in turn.
+-- Assumes nothing.
+use mathlib.Core.Path.{_≡_}
+use Prim.Native.Nat.{_-_, _≤_}
+use native.Mathlib.Omega.{arith}
+use Rattle.facts.specs.Table
+use Rattle.reading.specs.Sets.{Exactly, SomeBelow}
+use Rattle.reading.proofs.Sets.{exactly-none, exactly-more}
+use Rattle.fitting.specs.Fitting.{StandsAt, GoesAt}
+use Rattle.fitting.proofs.levels_held.Statement.{statement}
+use Rattle.fitting.proofs.levels_held.Tie as tie
+
+abbrev Inv-loop : tie.InvT-loop
+Inv-loop t p m way₀ together₀ s₀ way together s =
+    (s ≤ Table.mostSockets) × Exactly way (SomeBelow s (StandsAt t p)) × Exactly together (SomeBelow s (GoesAt t p))
+
+abbrev μ-loop : tie.MeasureT-loop
+μ-loop t p m way₀ together₀ s₀ way together s = Table.mostSockets - s
+
+-- where the call began, and where a turn did
+abbrev start : tie.After-manner-asked Inv-loop μ-loop → tie.Start Inv-loop μ-loop
+start c = c .before .before .before
+
+abbrev turn : tie.After-levels-at Inv-loop μ-loop → tie.In-loop Inv-loop μ-loop
+turn c = c .before
+
+manner-asked-requires : tie.Need-manner-asked-requires Inv-loop μ-loop
+manner-asked-requires c κs = c .before .before .pre .1
+
+loop-holds : tie.Need-loop-holds Inv-loop μ-loop
+loop-holds c = (omega arith, exactly-none (λ l x. omega (arith, x .1)), exactly-none (λ l x. omega (arith, x .1)))
+
+levels-at-requires : tie.Need-levels-at-requires Inv-loop μ-loop
+levels-at-requires c κs =
+    let asked = c .before .before in
+    (start asked .pre .0, omega (arith, c .loop-test .taken), start asked .pre .1, asked .manner-asked .ensures)
+
+add-s : tie.Need-add-s Inv-loop μ-loop
+add-s c = omega arith
+
+loop-less : tie.Need-loop-less Inv-loop μ-loop
+loop-less c = omega arith
+
+loop-again : tie.Need-loop-again Inv-loop μ-loop
+loop-again c =
+    let here = c .before .before in
+    let passed = turn here .before .loop .inv in
+    (omega arith, exactly-more _ _ _ (passed .1) (here .levels-at .ensures .way), exactly-more _ _ _ (passed .2) (here .levels-at .ensures .together))
+
+returns : tie.Need-returns Inv-loop μ-loop
+returns c =
+    let k = c .before .loop in
+    let all : k .s ≡ Table.mostSockets = omega (arith, k .inv .0, c .loop-test .left) in
+    record { way = rw all at (k .inv .1); together = rw all at (k .inv .2) }
+
+pub levels-held-spec : {M : Type 1} → statement M
+levels-held-spec =
+    tie.close
+    (tie.spec
+    Inv-loop
+    μ-loop
+    manner-asked-requires
+    loop-holds
+    levels-at-requires
+    add-s
+    loop-less
+    loop-again
+    returns)
