@@ -1,13 +1,12 @@
--- A level fits exactly if the bytes say so; and the level of a mask's lowest bit is the one that is taken. Assumes nothing.
+-- A level fits exactly if the bytes say so; and the lowest of the unreserved ones that fit is taken, or of the reserved ones. Assumes nothing.
 use mathlib.Core.Path.{_≡_, refl, ap, sym, _∙_, subst}
-use mathlib.Core.Logic.{_⊎_, inl, inr, _≢_}
+use mathlib.Core.Logic.{_⊎_, inl, inr, ⊎-elim, _≢_}
 use mathlib.Core.List.{List}
-use mathlib.Core.Bool.{true, false, true≢false}
-use Prim.Native.Nat.{ℕ, _+_, _-_, _*_, _%_, _^_, _<_}
+use mathlib.Core.Bool.{Bool, true, false, true≢false}
+use Prim.Native.Nat.{ℕ, _+_, _^_, _<_}
 use native.Mathlib.Decide.{ℕ-discrete}
 use native.Mathlib.Omega.{arith}
 use borrow.Author.Tests.{eq-eqb, ne-eqb, eqb-true}
-use lib.Count.{trailingZeros}
 use Rattle.facts.specs.declared.Manner.{Manner}
 use Rattle.facts.specs.Table
 use Rattle.facts.specs.Table.{Level, IrqGrant}
@@ -15,16 +14,17 @@ use Rattle.facts.specs.Packets.{byte, bit}
 use Rattle.facts.specs.Levels.{Holds, Together}
 use Rattle.facts.specs.Irq.{attributesOf, IrqFirstShared, mannerAsked, Named, Fits, FirstFitting, NoLevelFits}
 use Rattle.facts.proofs.Choices.{chosen-first, chosen-then}
-use Rattle.facts.proofs.Says.{says-true, says-false, says-dec}
-use Rattle.layout.specs.Layout.{mark}
+use Rattle.facts.proofs.Says.{says-dec}
 use Rattle.layout.specs.Reading.{levelPlace, irqPlace, levelIn, irqIn}
 use Rattle.layout.specs.Sound.{Accepted, IrqUsed}
 use Rattle.layout.proofs.Of
 use Rattle.layout.proofs.Irqs.{level-is, manner-is}
 use Rattle.levels.proofs.Rule.{rule-says}
-use Rattle.reading.specs.Sets.{Exactly}
-use Rattle.fitting.specs.Fitting.{InTheWay, FitsAs, Adds, MaskIs}
-use Rattle.fitting.proofs.Bits.{BitsTo, from-highest, next-lower, smaller, mark-small, to-lowest, bits-none, halves-none, LowestOf, in-low, in-high}
+use Rattle.reading.specs.Sets.{Exactly, SomeBelow}
+use Rattle.reading.proofs.Sets.{exactly-none, exactly-empty, exactly-one, exactly-as}
+use Rattle.fitting.specs.declared.Fitting.{Fitting}
+use Rattle.fitting.specs.Fitting.{InTheWay, FitsBy, FitsHere, FittingAt, LevelsFitting, LowestIn}
+use Rattle.fitting.proofs.Bits.{lowest-said}
 
 module _ (b p : List ℕ) (a : Accepted b) (named way : ℕ) (are-named : Exactly named (Named p)) (in-the-way : Exactly way (InTheWay b p)) where
   abbrev managedMark : ℕ → ℕ
@@ -59,9 +59,9 @@ module _ (b p : List ℕ) (a : Accepted b) (named way : ℕ) (are-named : Exactl
   abbrev sharing : (m : Manner) → Dec (Together m (mannerAsked p))
   sharing m = says-dec _ (rule-says m (mannerAsked p))
 
-  -- a level that fits by the sets and the marks fits
-  pub fits-said : (mark l : ℕ) → l < Table.allLevels → FitsAs b named way mark l → Fits (a .facts) p l
-  fits-said mark l h x =
+  -- a level that fits by the sets and its mark fits
+  pub fits-said : (l : ℕ) → l < Table.allLevels → FitsBy b named way l → Fits (a .facts) p l
+  fits-said l h x =
       record {
         named = are-named .only l (x .named);
         managed = managed-said l h (x .managed);
@@ -100,16 +100,15 @@ module _ (b p : List ℕ) (a : Accepted b) (named way : ℕ) (are-named : Exactl
       free (yes f) = inl (λ s g holds. alone s g holds (λ x. x .0 f))
       free (no n) = inr (n, together)
 
-  -- and one that fits is a table's level, and fits by the sets and its marks
+  -- and one that fits is a table's level, and fits by the sets and its mark
   pub level-fits : (l : ℕ) → Fits (a .facts) p l → l < Table.allLevels
   level-fits l x = a .formed .levels l (x .managed)
 
-  pub said-fits : (l : ℕ) → Fits (a .facts) p l → FitsAs b named way (reserveMark l) l
+  pub said-fits : (l : ℕ) → Fits (a .facts) p l → FitsBy b named way l
   said-fits l x =
       record {
         named = are-named .has l (x .named);
         managed = said-managed l (level-fits l x) (x .managed);
-        reserved = refl;
         free = λ e. free (x .free) (in-the-way .only l e);
       }
     where
@@ -134,144 +133,73 @@ module _ (b p : List ℕ) (a : Accepted b) (named way : ℕ) (are-named : Exactl
       go (no n) =
           let s = Of.sound-in b a .levels l h in inr (omega (arith, n, s .reserved, s .managed))
 
-  as-marked : (l mark : ℕ) → Fits (a .facts) p l → reserveMark l ≡ mark → FitsAs b named way mark l
-  as-marked l mark x e = subst (λ (k : ℕ). FitsAs b named way k l) e (said-fits l x)
-
   abbrev Early : ℕ → Type 0
   Early l = a .facts .level l .reserved ≡ false
 
-  -- a level that fits is unreserved exactly if its mark is 0
-  early-decided : (y : ℕ) → Fits (a .facts) p y → Dec (Early y)
-  early-decided y x = go (mark-is y (level-fits y x))
+  early-decided : (l : ℕ) → Dec (Early l)
+  early-decided l = go (a .facts .level l .reserved) refl
     where
-      go : (reserveMark y ≡ 0) ⊎ (reserveMark y ≡ 1) → Dec (Early y)
-      go (inl e) = yes (unreserved-said y (level-fits y x) e)
-      go (inr e) = no (reserved-said y (level-fits y x) e)
+      go : (v : Bool) → a .facts .level l .reserved ≡ v → Dec (Early l)
+      go true e = no (λ f. true≢false (sym e ∙ f))
+      go false e = yes e
 
-  early-mark : (y : ℕ) → Fits (a .facts) p y → Early y → reserveMark y ≡ 0
-  early-mark y x early = go (mark-is y (level-fits y x))
-    where
-      go : (reserveMark y ≡ 0) ⊎ (reserveMark y ≡ 1) → reserveMark y ≡ 0
-      go (inl e) = e
-      go (inr e) = absurd (reserved-said y (level-fits y x) e early)
+  -- the levels that fit and aren't reserved, by the sets and the marks; and those that are
+  module _ (r : Fitting) (are : LevelsFitting b named way r) where
+    as-marked : (mark l : ℕ) → Fits (a .facts) p l → reserveMark l ≡ mark → SomeBelow Table.allLevels (FitsHere b named way mark) l
+    as-marked mark l x e = (l, level-fits l x, record { fits = said-fits l x; reserved = e; level = refl })
 
-  -- an unreserved level fits: the lowest of them is taken
-  unreserved-taken : (l : ℕ) → LowestOf (FitsAs b named way 0) l → FirstFitting (a .facts) p l
-  unreserved-taken l low =
-      chosen-first early-decided
-      (record {
-        fits = (fits-said 0 l (low .level) (low .holds), unreserved-said l (low .level) (low .holds .reserved));
-        least = λ y x. low .least y (level-fits y (x .0)) (as-marked y 0 (x .0) (early-mark y (x .0) (x .1)));
-      })
-
-  -- none does: every level that fits is reserved, and the lowest of them is taken
-  module _ (none : (y : ℕ) → y < Table.allLevels → FitsAs b named way 0 y → ⊥) where
-    late : (y : ℕ) → Fits (a .facts) p y → reserveMark y ≡ 1
-    late y x = go (mark-is y (level-fits y x))
+    early : Exactly (r .unreserved) (λ l. Fits (a .facts) p l × Early l)
+    early = exactly-as (are .unreserved) to from
       where
-        go : (reserveMark y ≡ 0) ⊎ (reserveMark y ≡ 1) → reserveMark y ≡ 1
-        go (inl e) = absurd (none y (level-fits y x) (as-marked y 0 x e))
-        go (inr e) = e
+        to : (k : ℕ) → SomeBelow Table.allLevels (FitsHere b named way 0) k → Fits (a .facts) p k × Early k
+        to k (l, h, x) = subst (λ (n : ℕ). Fits (a .facts) p n × Early n) (x .level) (fits-said l h (x .fits), unreserved-said l h (x .reserved))
 
-    reserved-taken : (l : ℕ) → LowestOf (FitsAs b named way 1) l → FirstFitting (a .facts) p l
-    reserved-taken l low =
-        chosen-then (λ y x. reserved-said y (level-fits y x) (late y x))
-        (record { fits = fits-said 1 l (low .level) (low .holds); least = λ y x. low .least y (level-fits y x) (as-marked y 1 x (late y x)) })
+        from : (l : ℕ) → Fits (a .facts) p l × Early l → SomeBelow Table.allLevels (FitsHere b named way 0) l
+        from l (x, e) = ⊎-elim (as-marked 0 l x) (λ m. absurd (reserved-said l (level-fits l x) m e)) (mark-is l (level-fits l x))
 
-  -- the level of the mask's lowest bit is taken; or the mask is 0, and none fits
-  module _ (mask : ℕ) (is : MaskIs b named way mask) where
-    no-unreserved : is .low ≡ 0 → (y : ℕ) → y < Table.allLevels → FitsAs b named way 0 y → ⊥
-    no-unreserved e = bits-none (FitsAs b named way 0) (is .low) (is .unreserved) e
-
-    pub first-taken : mask ≢ 0 → FirstFitting (a .facts) p (trailingZeros 32 mask % Table.allLevels)
-    first-taken n =
-        subst (λ (m : ℕ). FirstFitting (a .facts) p (trailingZeros 32 m % Table.allLevels)) (sym (is .sum)) (go (ℕ-discrete (is .low) 0))
+    late : Exactly (r .reserved) (λ l. Fits (a .facts) p l × (Early l → ⊥))
+    late = exactly-as (are .reserved) to from
       where
-        go : Dec (is .low ≡ 0) → FirstFitting (a .facts) p (trailingZeros 32 (is .low + 2 ^ Table.allLevels * is .high) % Table.allLevels)
-        go (yes e) =
-            reserved-taken (no-unreserved e) _
-            (in-high (FitsAs b named way 0) (FitsAs b named way 1) (is .low) (is .high) (is .unreserved) (is .reserved) e
-            (λ z. n (is .sum ∙ omega (arith, e, z))))
-        go (no d) =
-            unreserved-taken _ (in-low (FitsAs b named way 0) (FitsAs b named way 1) (is .low) (is .high) (is .unreserved) (is .reserved) d)
+        to : (k : ℕ) → SomeBelow Table.allLevels (FitsHere b named way 1) k → Fits (a .facts) p k × (Early k → ⊥)
+        to k (l, h, x) =
+            subst (λ (n : ℕ). Fits (a .facts) p n × (Early n → ⊥)) (x .level) (fits-said l h (x .fits), reserved-said l h (x .reserved))
 
-    pub none-fits : mask ≡ 0 → NoLevelFits (a .facts) p
-    none-fits e y x =
-        let z = halves-none (FitsAs b named way 0) (FitsAs b named way 1) (is .low) (is .high) (is .unreserved) (is .reserved) (sym (is .sum) ∙ e) in
-        bits-none (FitsAs b named way 1) (is .high) (is .reserved) (z .1) y (level-fits y x) (as-marked y 1 x (late (no-unreserved (z .0)) y x))
+        from : (l : ℕ) → Fits (a .facts) p l × (Early l → ⊥) → SomeBelow Table.allLevels (FitsHere b named way 1) l
+        from l (x, n) = ⊎-elim (λ m. absurd (n (unreserved-said l (level-fits l x) m))) (as-marked 1 l x) (mark-is l (level-fits l x))
 
--- what the loop keeps: the two halves of the mask, from the level l up
-pub record MaskTo (b : List ℕ) (named way l mask : ℕ) : Type 0 where
-  pub low : ℕ
-  pub high : ℕ
-  pub sum : mask ≡ low + 2 ^ Table.allLevels * high
-  pub unreserved : BitsTo (FitsAs b named way 0) l low
-  pub reserved : BitsTo (FitsAs b named way 1) l high
+    -- an unreserved level fits: the lowest of them is taken
+    pub unreserved-taken : (l : ℕ) → LowestIn (r .unreserved) l → FirstFitting (a .facts) p l
+    unreserved-taken l low = chosen-first (λ y x. early-decided y) (lowest-said early low)
 
-module _ (b : List ℕ) (named way : ℕ) where
-  pub mask-start : MaskTo b named way Table.allLevels 0
-  mask-start =
-      record { low = 0; high = 0; sum = omega arith; unreserved = from-highest (FitsAs b named way 0); reserved = from-highest (FitsAs b named way 1) }
+    -- none does: the lowest of the reserved ones is taken; or there is none of these, too
+    module _ (none : r .unreserved ≡ 0) where
+      not-early : (y : ℕ) → Fits (a .facts) p y → Early y → ⊥
+      not-early y x e = exactly-empty early none y (x, e)
 
-  pub mask-next : (l mask n : ℕ) → 0 < l → Adds b named way (l - 1) n → MaskTo b named way l mask → MaskTo b named way (l - 1) (2 * mask + n)
-  mask-next l mask n h x m =
-      record {
-        low = 2 * m .low + mark (x .low);
-        high = 2 * m .high + mark (x .high);
-        sum = omega (arith, m .sum, x .sum);
-        unreserved = next-lower (FitsAs b named way 0) (x .low) l (m .low) h (x .unreserved) (m .unreserved);
-        reserved = next-lower (FitsAs b named way 1) (x .high) l (m .high) h (x .reserved) (m .reserved);
-      }
+      pub reserved-taken : (l : ℕ) → LowestIn (r .reserved) l → FirstFitting (a .facts) p l
+      reserved-taken l low =
+          let first = lowest-said late low in
+          chosen-then not-early (record { fits = first .fits .0; least = λ y x. first .least y (x, not-early y x) })
 
-  -- it fits in 32 bits
-  module _ (l mask : ℕ) (h : 0 < l) (m : MaskTo b named way l mask) where
-    pub mask-half : mask < 2 ^ 31
-    mask-half =
-        omega (arith, m .sum, smaller (FitsAs b named way 0) l (m .low) h (m .unreserved), smaller (FitsAs b named way 1) l (m .high) h (m .reserved))
+      pub none-fits : r .reserved ≡ 0 → NoLevelFits (a .facts) p
+      none-fits e y x = exactly-empty late e y (x, not-early y x)
 
-    pub mask-room : (n : ℕ) → Adds b named way (l - 1) n → 2 * mask + n < 2 ^ 32
-    mask-room n x =
-        omega (
-          arith,
-          m .sum,
-          smaller (FitsAs b named way 0) l (m .low) h (m .unreserved),
-          smaller (FitsAs b named way 1) l (m .high) h (m .reserved),
-          x .sum,
-          mark-small (x .low),
-          mark-small (x .high),
-        )
+-- the set of a level that fits, or of none
+module _ (b : List ℕ) (names way l : ℕ) where
+  pub none-here : (FitsBy b names way l → ⊥) → FittingAt b names way l (record { unreserved = 0; reserved = 0 })
+  none-here n = record { unreserved = exactly-none (λ k x. n (x .fits)); reserved = exactly-none (λ k x. n (x .fits)) }
 
-  pub mask-end : (l mask : ℕ) → (0 < l → ⊥) → MaskTo b named way l mask → MaskIs b named way mask
-  mask-end l mask n m =
-      record {
-        low = m .low;
-        high = m .high;
-        sum = m .sum;
-        unreserved = to-lowest (FitsAs b named way 0) l (m .low) n (m .unreserved);
-        reserved = to-lowest (FitsAs b named way 1) l (m .high) n (m .reserved);
-      }
+  module _ (fits : FitsBy b names way l) (mark set : ℕ) (is : byte b (levelPlace l + 1) ≡ mark) (one : set ≡ 2 ^ l) where
+    level-set : Exactly set (FitsHere b names way mark l)
+    level-set = rw one (exactly-one l (record { fits = fits; reserved = is; level = refl }) (λ k x. x .level))
 
--- what a level adds: nothing, a high bit or a low one
-module _ (b : List ℕ) (named way l : ℕ) where
-  pub adds-none : ((mark : ℕ) → FitsAs b named way mark l → ⊥) → Adds b named way l 0
-  adds-none n = record { low = false; high = false; sum = omega arith; unreserved = says-false (n 0); reserved = says-false (n 1) }
+    other-mark : {other : ℕ} → mark ≢ other → Exactly 0 (FitsHere b names way other l)
+    other-mark d = exactly-none (λ k x. d (sym is ∙ x .reserved))
 
-  pub adds-high : FitsAs b named way 1 l → Adds b named way l (2 ^ Table.allLevels)
-  adds-high x =
-      record {
-        low = false;
-        high = true;
-        sum = omega arith;
-        unreserved = says-false (λ y. omega (arith, x .reserved, y .reserved));
-        reserved = says-true x;
-      }
+  pub unreserved-here : FitsBy b names way l → (set : ℕ) → byte b (levelPlace l + 1) ≡ 0 → set ≡ 2 ^ l
+      → FittingAt b names way l (record { unreserved = set; reserved = 0 })
+  unreserved-here fits set is one = record { unreserved = level-set fits 0 set is one; reserved = other-mark fits 0 set is one (omega arith) }
 
-  pub adds-low : FitsAs b named way 0 l → Adds b named way l 1
-  adds-low x =
-      record {
-        low = true;
-        high = false;
-        sum = omega arith;
-        unreserved = says-true x;
-        reserved = says-false (λ y. omega (arith, x .reserved, y .reserved));
-      }
+  pub reserved-here : FitsBy b names way l → (set : ℕ) → byte b (levelPlace l + 1) ≡ 1 → set ≡ 2 ^ l
+      → FittingAt b names way l (record { unreserved = 0; reserved = set })
+  reserved-here fits set is one = record { unreserved = other-mark fits 1 set is one (omega arith); reserved = level-set fits 1 set is one }

@@ -1,26 +1,23 @@
 -- The levels that a request can join are those that are named and on which a grant goes together with it; the lowest of them is taken. Assumes nothing.
 use mathlib.Core.Path.{_≡_, ap, sym, _∙_, subst}
-use mathlib.Core.Logic.{inl, inr, _≢_}
+use mathlib.Core.Logic.{inl, inr}
 use mathlib.Core.List.{List}
 use mathlib.Core.Bool.{true}
-use Prim.Native.Nat.{ℕ, _+_, _^_, _<_}
-use native.Mathlib.Omega.{arith}
+use Prim.Native.Nat.{ℕ, _+_}
 use lib.Bits.{bitAnd}
-use lib.Count.{trailingZeros}
 use Rattle.facts.specs.Table.{IrqGrant}
-use Rattle.facts.specs.Packets.{byte, bit}
+use Rattle.facts.specs.Packets.{byte}
 use Rattle.facts.specs.Irq.{Named, mannerAsked, Joins, NoLevelJoined}
 use Rattle.layout.specs.Reading.{irqPlace, irqIn, mannerOf}
 use Rattle.layout.specs.Sound.{Accepted}
 use Rattle.layout.proofs.Of
 use Rattle.layout.proofs.Irqs.{level-is, manner-is}
 use Rattle.reading.specs.Sets.{Exactly}
-use Rattle.reading.proofs.Bits.{no-bit}
-use Rattle.reading.proofs.Sets.{exactly-both, exactly-as}
+use Rattle.reading.proofs.Sets.{exactly-empty, exactly-both, exactly-as}
 use Rattle.fitting.specs.declared.Taken.{Taken}
 use Rattle.fitting.specs.declared.Taken.the-variants.{Level, Nothing}
-use Rattle.fitting.specs.Fitting.{InCompany, FirstIs, TakenIs}
-use Rattle.fitting.proofs.Bits.{lowest-of}
+use Rattle.fitting.specs.Fitting.{InCompany, LowestIn, FirstIs, TakenIs}
+use Rattle.fitting.proofs.Bits.{lowest-said}
 
 module _ (b p : List ℕ) (a : Accepted b) where
   records-joins : (l : ℕ) → InCompany b p l × Named p l → Joins (a .facts) p l
@@ -65,11 +62,11 @@ module _ (b p : List ℕ) (a : Accepted b) where
 
 -- the lowest is taken; or there is none, and the first that fits is
 module _ (b p : List ℕ) (set : ℕ) (is : (a : Accepted b) → Exactly set (Joins (a .facts) p)) where
-  pub lowest-taken : set ≢ 0 → set < 2 ^ 64 → TakenIs b p (Level (trailingZeros 64 set))
-  lowest-taken n l a = inl (lowest-of 64 set (is a) n l)
+  pub lowest-taken : (l : ℕ) → LowestIn set l → TakenIs b p (Level l)
+  lowest-taken l low a = inl (lowest-said (is a) low)
 
   none-joined : set ≡ 0 → (a : Accepted b) → NoLevelJoined (a .facts) p
-  none-joined e a l j = omega (arith, is a .has l j, ap (λ (n : ℕ). bit n l) e ∙ no-bit l)
+  none-joined e a = exactly-empty (is a) e
 
   pub first-is-taken : set ≡ 0 → (r : Taken) → FirstIs b p r → TakenIs b p r
   first-is-taken e (Level l) first = λ a. inr (none-joined e a, first a)

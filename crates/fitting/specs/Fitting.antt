@@ -1,19 +1,18 @@
 -- Which levels fit a request, and which it goes together with, said of the bytes; and what the choice among them answers. Assumes nothing.
 use mathlib.Core.Path.{_≡_}
-use mathlib.Core.Logic.{_↔_, _≢_}
+use mathlib.Core.Logic.{_≢_}
 use mathlib.Core.List.{List}
-use mathlib.Core.Bool.{Bool}
-use Prim.Native.Nat.{ℕ, _+_, _*_, _^_, _<_}
-use Rattle.facts.specs.Says.{Says}
+use Prim.Native.Nat.{ℕ, _+_}
 use Rattle.facts.specs.Table
 use Rattle.facts.specs.Packets.{byte, bit}
+use Rattle.facts.specs.Choice.{Lowest}
 use Rattle.facts.specs.Levels.{Together}
 use Rattle.facts.specs.Irq.{IrqFirstShared, mannerAsked, NoLevelFits, FirstFitting, LevelTaken}
-use Rattle.layout.specs.Layout.{mark}
 use Rattle.layout.specs.Reading.{levelPlace, irqPlace, mannerOf}
 use Rattle.layout.specs.Sound.{Accepted, IrqUsed}
 use Rattle.reading.specs.Sets.{Exactly, SomeBelow}
 use Rattle.fitting.specs.declared.Levels.{Levels}
+use Rattle.fitting.specs.declared.Fitting.{Fitting}
 use Rattle.fitting.specs.declared.Taken.{Taken}
 use Rattle.fitting.specs.declared.Taken.the-variants.{Level, Nothing}
 
@@ -50,33 +49,31 @@ pub record LevelsHeld (b p : List ℕ) (r : Levels) : Type 0 where
   pub way : Exactly (r .way) (InTheWay b p)
   pub together : Exactly (r .together) (InCompany b p)
 
--- the level l fits by the sets of the levels named and of those with a grant in the way, and this is its reserve mark
-pub record FitsAs (b : List ℕ) (names way mark l : ℕ) : Type 0 where
+-- the level l fits by the sets of the levels named and of those with a grant in the way
+pub record FitsBy (b : List ℕ) (names way l : ℕ) : Type 0 where
   pub named : bit names l ≡ 1
-  pub managed : byte b (levelPlace l) ≡ 1
-  pub reserved : byte b (levelPlace l + 1) ≡ mark
   pub free : bit way l ≢ 1
+  pub managed : byte b (levelPlace l) ≡ 1
 
--- what a level adds to the mask: a low bit if it fits and is not reserved, a high one if it fits and is reserved
-pub record Adds (b : List ℕ) (named way l n : ℕ) : Type 0 where
-  pub low : Bool
-  pub high : Bool
-  pub sum : n ≡ mark low + 2 ^ Table.allLevels * mark high
-  pub unreserved : Says low (FitsAs b named way 0 l)
-  pub reserved : Says high (FitsAs b named way 1 l)
+-- the level l does, has this reserve mark, and is k
+pub record FitsHere (b : List ℕ) (names way mark l k : ℕ) : Type 0 where
+  pub fits : FitsBy b names way l
+  pub reserved : byte b (levelPlace l + 1) ≡ mark
+  pub level : l ≡ k
 
--- the bits of n are set exactly at the levels of which Q holds
-pub record BitsAre (Q : ℕ → Type 0) (n : ℕ) : Type 0 where
-  pub below : n < 2 ^ Table.allLevels
-  pub bits : (l : ℕ) → l < Table.allLevels → (bit n l ≡ 1) ↔ Q l
+-- the level l, if it fits
+pub record FittingAt (b : List ℕ) (names way l : ℕ) (r : Fitting) : Type 0 where
+  pub unreserved : Exactly (r .unreserved) (FitsHere b names way 0 l)
+  pub reserved : Exactly (r .reserved) (FitsHere b names way 1 l)
 
--- the mask of the levels that fit: a bit for each unreserved one, and above them one for each reserved one
-pub record MaskIs (b : List ℕ) (named way mask : ℕ) : Type 0 where
-  pub low : ℕ
-  pub high : ℕ
-  pub sum : mask ≡ low + 2 ^ Table.allLevels * high
-  pub unreserved : BitsAre (FitsAs b named way 0) low
-  pub reserved : BitsAre (FitsAs b named way 1) high
+-- all levels that fit
+pub record LevelsFitting (b : List ℕ) (names way : ℕ) (r : Fitting) : Type 0 where
+  pub unreserved : Exactly (r .unreserved) (SomeBelow Table.allLevels (FitsHere b names way 0))
+  pub reserved : Exactly (r .reserved) (SomeBelow Table.allLevels (FitsHere b names way 1))
+
+-- l is the lowest number that the set has
+abbrev pub LowestIn : ℕ → ℕ → Type 0
+LowestIn set = Lowest (λ k. bit set k ≡ 1)
 
 -- the first of the levels that fit, or none does
 abbrev pub FirstIs : List ℕ → List ℕ → Taken → Type 0

@@ -12,6 +12,7 @@ use layout::LEVELS_AT;
 use layout::MARKED;
 use layout::MOST_SOCKETS;
 ghost use mathlib.Core.Path.{_≡_};
+ghost use mathlib.Core.Logic.{_≢_};
 ghost use Prim.Native.Nat.{_<_};
 ghost use lib.ListN.{length};
 ghost use Rattle.facts.specs.Table;
@@ -20,7 +21,7 @@ ghost use Rattle.facts.specs.Irq.{requestIrqLength, mannerAsked};
 ghost use Rattle.layout.specs.Layout.{tableSize};
 ghost use Rattle.layout.specs.Sound.{Accepted};
 ghost use Rattle.reading.specs.Sets.{Exactly};
-ghost use Rattle.fitting.specs.Fitting.{Goes, LevelsAt, LevelsHeld, InTheWay, Adds, MaskIs, FirstIs, TakenIs};
+ghost use Rattle.fitting.specs.Fitting.{Goes, LevelsAt, LevelsHeld, InTheWay, FitsBy, FittingAt, LevelsFitting, LowestIn, FirstIs, TakenIs};
 
 // "without First Shared, all its grants go together with this manner": whether the grant of the socket does.
 fn goes(t: &[u8], p: &[u8], m: Manner, s: Socket) -> bool
@@ -84,46 +85,74 @@ fn levels_held(t: &[u8], p: &[u8]) -> Levels
     Levels { way, together }
 }
 
-// The mask of the levels that fit: a bit for each unreserved level, the lowest one's lowest, and above them one for each reserved level.
-const UNRESERVED: u32 = 1;
-
-const UNRESERVED_LEVELS: u32 = 16;
-
-const RESERVED: u32 = 65536;
-
-// What a level adds to the mask: "it is named, managed, and either has no grant or", without First Shared, none in the way.
-fn adds(t: &[u8], named: usize, way: usize, l: usize) -> u32
+// "A level fits if it is named, managed, and either has no grant or", without First Shared, none in the way.
+fn level_fits(t: &[u8], named: usize, way: usize, l: usize) -> bool
     requires { ⌜ Accepted (now t) × (l < Table.allLevels) ⌝ }
-    ensures { λ r. ⌜ Adds (now (t .entry)) named way l r ⌝ }
+    ensures { λ r. ⌜ Says r (FitsBy (now (t .entry)) named way l) ⌝ }
 {
-    let at = LEVELS_AT + l * LEVEL_SIZE;
-    if reading::byte(t, at) != MARKED {
-        return 0;
-    }
     if !reading::is_set(named, l) {
-        return 0;
+        return false;
     }
     if reading::is_set(way, l) {
-        return 0;
+        return false;
     }
-    if reading::byte(t, at + LEVEL_RESERVED) == MARKED {
-        return RESERVED;
-    }
-    UNRESERVED
+    reading::byte(t, LEVELS_AT + l * LEVEL_SIZE) == MARKED
 }
 
-// The levels that fit, as a mask, from the highest level down.
-fn mask(t: &[u8], named: usize, way: usize) -> u32
-    requires { ⌜ Accepted (now t) ⌝ }
-    ensures { λ r. ⌜ MaskIs (now (t .entry)) named way r ⌝ }
+// The levels that fit, a bit for each: those that aren't reserved, and those that are.
+pub struct Fitting {
+    pub unreserved: usize,
+    pub reserved: usize,
+}
+
+// The level itself, if it fits.
+fn fitting_at(t: &[u8], named: usize, way: usize, l: usize) -> Fitting
+    requires { ⌜ Accepted (now t) × (l < Table.allLevels) ⌝ }
+    ensures { λ r. ⌜ FittingAt (now (t .entry)) named way l r ⌝ }
 {
-    let mut mask: u32 = 0;
-    let mut l = ALL_LEVELS;
-    while 0 < l {
-        l -= 1;
-        mask = 2 * mask + adds(t, named, way, l);
+    if !level_fits(t, named, way, l) {
+        return Fitting {
+            unreserved: 0,
+            reserved: 0,
+        };
     }
-    mask
+    let level = 1 << l;
+    if reading::byte(t, LEVELS_AT + l * LEVEL_SIZE + LEVEL_RESERVED) == MARKED {
+        return Fitting {
+            unreserved: 0,
+            reserved: level,
+        };
+    }
+    Fitting {
+        unreserved: level,
+        reserved: 0,
+    }
+}
+
+// All levels that fit.
+fn levels_fitting(t: &[u8], named: usize, way: usize) -> Fitting
+    requires { ⌜ Accepted (now t) ⌝ }
+    ensures { λ r. ⌜ LevelsFitting (now (t .entry)) named way r ⌝ }
+{
+    let mut unreserved = 0;
+    let mut reserved = 0;
+    for l in 0..ALL_LEVELS {
+        let here = fitting_at(t, named, way, l);
+        unreserved = unreserved | here.unreserved;
+        reserved = reserved | here.reserved;
+    }
+    Fitting {
+        unreserved,
+        reserved,
+    }
+}
+
+// The lowest of a set's levels: its trailing zeros.
+fn lowest(set: usize) -> usize
+    requires { ⌜ set ≢ 0 ⌝ }
+    ensures { λ r. ⌜ LowestIn set r ⌝ }
+{
+    usize::trailing_zeros(set) as usize
 }
 
 // The level that a request takes, or none fits.
@@ -132,16 +161,19 @@ pub enum Taken {
     Nothing,
 }
 
-// "An unreserved level comes before a reserved one, then the lowest.": the mask's lowest bit.
+// "An unreserved level comes before a reserved one, then the lowest."
 fn first_fitting(t: &[u8], p: &[u8], way: usize) -> Taken
     requires { ⌜ Accepted (now t) × (length (now p) ≡ requestIrqLength) × Exactly way (InTheWay (now t) (now p)) ⌝ }
     ensures { λ r. ⌜ FirstIs (now (t .entry)) (now (p .entry)) r ⌝ }
 {
-    let fitting = mask(t, irq_packets::named(p), way);
-    if fitting == 0 {
-        return Taken::Nothing;
+    let fitting = levels_fitting(t, irq_packets::named(p), way);
+    if fitting.unreserved != 0 {
+        return Taken::Level(lowest(fitting.unreserved));
     }
-    Taken::Level((u32::trailing_zeros(fitting) % UNRESERVED_LEVELS) as usize)
+    if fitting.reserved != 0 {
+        return Taken::Level(lowest(fitting.reserved));
+    }
+    Taken::Nothing
 }
 
 // K1: "the lowest named level that already has grants of its manner; only if none exists, the old choice."
@@ -155,5 +187,5 @@ pub fn choose(t: &[u8], p: &[u8]) -> Taken
     if joined == 0 {
         return first_fitting(t, p, held.way);
     }
-    Taken::Level(usize::trailing_zeros(joined) as usize)
+    Taken::Level(lowest(joined))
 }

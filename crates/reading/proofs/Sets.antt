@@ -6,12 +6,15 @@ use native.Mathlib.Nat.{one-mul, mul-assoc, div-eq-of-lt, eq-or-lt-of-le}
 use native.Mathlib.Decide.{ℕ-discrete, decLt}
 use native.Mathlib.Omega.{arith}
 use lib.Bits.{bitAnd, bitOr, and-shr, and-step, or-shr, or-step, shifted-even}
-use lib.Pow.{pow-add, pow-mono, shl-shr, shr-shr}
+use lib.Pow.{pow-add, pow-mono, shl-exact, shl-shr, shr-shr}
 use Rattle.facts.specs.Packets.{bit}
 use Rattle.reading.specs.Sets.{Exactly, SomeBelow}
 use Rattle.reading.proofs.Bits.{no-bit}
 
--- the set of one number
+-- the set of one number, which a one that is shifted is
+pub one-shifted : (k w : ℕ) → k < w → (1 * 2 ^ k) % 2 ^ w ≡ 2 ^ k
+one-shifted k w l = shl-exact 1 k w (omega arith) (omega arith) ∙ one-mul (2 ^ k)
+
 pub one-bit : (k : ℕ) → bit (2 ^ k) k ≡ 1
 one-bit k = ap (λ (n : ℕ). bit n k) (sym (one-mul (2 ^ k))) ∙ ap (λ (n : ℕ). n % 2) (shl-shr 1 k)
 
@@ -76,6 +79,9 @@ module _ (x y k : ℕ) where
 -- the set of no number
 pub exactly-none : {P : ℕ → Type 0} → ((k : ℕ) → P k → ⊥) → Exactly 0 P
 exactly-none n = record { has = λ k p. absurd (n k p); only = λ k e. absurd (omega (arith, no-bit k)) }
+
+pub exactly-empty : {P : ℕ → Type 0} {set : ℕ} → Exactly set P → set ≡ 0 → (k : ℕ) → P k → ⊥
+exactly-empty is e k p = omega (arith, is .has k p, ap (λ (n : ℕ). bit n k) e ∙ no-bit k)
 
 pub exactly-one : {P : ℕ → Type 0} (j : ℕ) → P j → ((k : ℕ) → P k → j ≡ k) → Exactly (2 ^ j) P
 exactly-one {P} j p one =

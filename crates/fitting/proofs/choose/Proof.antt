@@ -1,11 +1,9 @@
 -- `fitting::choose` meets its contract: the lowest level that can be joined, or the first that fits.
 -- Assumes nothing.
 use mathlib.Core.List.{List}
-use Prim.Native.Nat.{ℕ, _<_, _^_}
-use native.Mathlib.Omega.{arith}
+use Prim.Native.Nat.{ℕ}
 use denote.Ref.{now}
-use lib.Bits.{bitAnd, and-le-r}
-use lib.Count.{trailing-le}
+use lib.Bits.{bitAnd}
 use Rattle.facts.specs.Irq.{Joins}
 use Rattle.layout.specs.Sound.{Accepted}
 use Rattle.reading.specs.Sets.{Exactly}
@@ -36,9 +34,6 @@ said c a =
     let k = held c in
     joined-said (table k) (packet k) a (k .levels-held .result .together) (c .named .result) (k .levels-held .ensures .together) (c .named .ensures)
 
-small : (c : tie.After-named) → joined c < 2 ^ 64
-small c = omega (arith, and-le-r (held c .levels-held .result .together) (c .named .result), c .named .ok)
-
 levels-held-requires : tie.Need-levels-held-requires
 levels-held-requires c κs = search needs
 
@@ -55,15 +50,21 @@ returns c =
     let n = c .before .before .before in
     first-is-taken (table (held n)) (packet (held n)) (joined n) (said n) (c .before .if1 .taken) (c .first-fitting .result) (c .first-fitting .ensures)
 
-cast-t8 : tie.Need-cast-t8
-cast-t8 c = omega (arith, trailing-le 64 (joined (c .before .before)))
+lowest-requires : tie.Need-lowest-requires
+lowest-requires c κs = search needs
 
 returns-2 : tie.Need-returns-2
 returns-2 c =
-    let n = c .before .before in
-    lowest-taken (table (held n)) (packet (held n)) (joined n) (said n) (c .if1 .left) (small n)
+    let n = c .before .before .before in
+    lowest-taken (table (held n)) (packet (held n)) (joined n) (said n) (c .lowest .result) (c .lowest .ensures)
 
 pub choose-spec : {M : Type 1} → statement M
 choose-spec =
     tie.close
-    (tie.spec levels-held-requires named-requires first-fitting-requires returns cast-t8 returns-2)
+    (tie.spec
+    levels-held-requires
+    named-requires
+    first-fitting-requires
+    returns
+    lowest-requires
+    returns-2)

@@ -1,9 +1,9 @@
--- `fitting::first_fitting` meets its contract: the level of the lowest bit, or there is none.
+-- `fitting::first_fitting` meets its contract: the lowest of the unreserved levels that fit, or of the reserved ones, or there is none.
 -- Assumes nothing.
 use mathlib.Core.List.{List}
 use Prim.Native.Nat.{ℕ}
 use denote.Ref.{now}
-use Rattle.fitting.proofs.Fit.{first-taken, none-fits}
+use Rattle.fitting.proofs.Fit.{unreserved-taken, reserved-taken, none-fits}
 use borrow.Author.Needs.{needs}
 use Rattle.fitting.proofs.first_fitting.Statement.{statement}
 use Rattle.fitting.proofs.first_fitting.Tie as tie
@@ -18,26 +18,53 @@ table c = now (start c .args .t)
 abbrev packet : tie.After-named → List ℕ
 packet c = now (start c .args .p)
 
+-- where the levels that fit were found, and none of them was unreserved
+abbrev found : tie.Else1 → tie.After-levels-fitting
+found c = c .before .before
+
 named-requires : tie.Need-named-requires
 named-requires c κs = search needs
 
-mask-requires : tie.Need-mask-requires
-mask-requires c κs = search needs
+levels-fitting-requires : tie.Need-levels-fitting-requires
+levels-fitting-requires c κs = search needs
+
+lowest-requires : tie.Need-lowest-requires
+lowest-requires c κs = search needs
 
 returns : tie.Need-returns
 returns c =
-    let n = c .before .before in
-    λ a. none-fits (table n) (packet n) a (n .named .result) (start n .args .way) (n .named .ensures) (start n .pre .2) (c .before .mask .result)
-    (c .before .mask .ensures) (c .if1 .taken)
+    let k = c .before .before .before in
+    let n = k .before in
+    λ a. unreserved-taken (table n) (packet n) a (n .named .result) (start n .args .way) (n .named .ensures) (start n .pre .2) (k .levels-fitting .result)
+    (k .levels-fitting .ensures) (c .lowest .result) (c .lowest .ensures)
 
-cast-t5 : tie.Need-cast-t5
-cast-t5 c = search needs
+lowest-requires-2 : tie.Need-lowest-requires-2
+lowest-requires-2 c κs = search needs
 
 returns-2 : tie.Need-returns-2
 returns-2 c =
-    let n = c .before .before in
-    λ a. first-taken (table n) (packet n) a (n .named .result) (start n .args .way) (n .named .ensures) (start n .pre .2) (c .before .mask .result)
-    (c .before .mask .ensures) (c .if1 .left)
+    let e = c .before .before .before in
+    let k = found e in
+    let n = k .before in
+    λ a. reserved-taken (table n) (packet n) a (n .named .result) (start n .args .way) (n .named .ensures) (start n .pre .2) (k .levels-fitting .result)
+    (k .levels-fitting .ensures) (e .if1 .left) (c .lowest2 .result) (c .lowest2 .ensures)
+
+returns-3 : tie.Need-returns-3
+returns-3 c =
+    let e = c .before .before in
+    let k = found e in
+    let n = k .before in
+    λ a. none-fits (table n) (packet n) a (n .named .result) (start n .args .way) (n .named .ensures) (start n .pre .2) (k .levels-fitting .result)
+    (k .levels-fitting .ensures) (e .if1 .left) (c .if2 .left)
 
 pub first-fitting-spec : {M : Type 1} → statement M
-first-fitting-spec = tie.close (tie.spec named-requires mask-requires returns cast-t5 returns-2)
+first-fitting-spec =
+    tie.close
+    (tie.spec
+    named-requires
+    levels-fitting-requires
+    lowest-requires
+    returns
+    lowest-requires-2
+    returns-2
+    returns-3)

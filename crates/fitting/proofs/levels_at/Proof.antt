@@ -3,13 +3,12 @@
 use mathlib.Core.Path.{sym, _∙_, subst}
 use mathlib.Core.List.{List}
 use Prim.Native.Nat.{ℕ, _<_}
-use native.Mathlib.Nat.{one-mul}
 use native.Mathlib.Omega.{arith}
 use denote.Ref.{now}
-use lib.Pow.{shl-exact}
 use Rattle.facts.specs.Table
 use Rattle.layout.specs.Sound.{IrqUsed}
 use Rattle.layout.proofs.Of.{size-in}
+use Rattle.reading.proofs.Sets.{one-shifted}
 use Rattle.fitting.proofs.Held.{level-below, none-at, goes-at, stands-at}
 use borrow.Author.Needs.{needs}
 use Rattle.fitting.proofs.levels_at.Statement.{statement}
@@ -72,14 +71,14 @@ returns-2 c =
     let read = c .before .before in
     let k = found read in
     goes-at (table k) (packet k) (socket k) (used (read .before)) (read .byte .result) _ (read .byte .ensures .0)
-    (shl-exact 1 _ 64 (omega arith) (omega (arith, below read)) ∙ one-mul _) (c .before .goes .ensures .holds (c .if2 .taken))
+    (one-shifted _ 64 (omega (arith, below read))) (c .before .goes .ensures .holds (c .if2 .taken))
 
 returns-3 : tie.Need-returns-3
 returns-3 c =
     let read = c .before .before in
     let k = found read in
     stands-at (table k) (packet k) (socket k) (used (read .before)) (read .byte .result) _ (read .byte .ensures .0)
-    (shl-exact 1 _ 64 (omega arith) (omega (arith, below read)) ∙ one-mul _) (c .before .goes .ensures .fails (c .if2 .left))
+    (one-shifted _ 64 (omega (arith, below read))) (c .before .goes .ensures .fails (c .if2 .left))
 
 pub levels-at-spec : {M : Type 1} → statement M
 levels-at-spec =

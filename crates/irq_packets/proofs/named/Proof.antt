@@ -3,10 +3,9 @@
 use mathlib.Core.Path.{ap, _∙_}
 use mathlib.Core.List.{List}
 use Prim.Native.Nat.{ℕ, _^_}
-use native.Mathlib.Nat.{one-mul}
 use native.Mathlib.Omega.{arith}
 use denote.Ref.{now}
-use lib.Pow.{shl-exact}
+use Rattle.reading.proofs.Sets.{one-shifted}
 use Rattle.irq_packets.proofs.Clauses.{named-by-mask, named-by-level}
 use borrow.Author.Needs.{needs}
 use Rattle.irq_packets.proofs.named.Statement.{statement}
@@ -40,7 +39,7 @@ returns-2 : tie.Need-returns-2
 returns-2 c =
     let info = c .before .before in
     named-by-level (packet info) (info .info-set .ensures .fails (c .before .if1 .left)) _
-    (shl-exact 1 _ 64 (omega arith) (omega (arith, c .level-asked .ensures)) ∙ one-mul _ ∙ ap (λ (l : ℕ). 2 ^ l) (c .level-asked .ensures))
+    (one-shifted _ 64 (omega (arith, c .level-asked .ensures)) ∙ ap (λ (l : ℕ). 2 ^ l) (c .level-asked .ensures))
 
 pub named-spec : {M : Type 1} → statement M
 named-spec =

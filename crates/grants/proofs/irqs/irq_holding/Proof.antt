@@ -2,7 +2,6 @@
 -- Assumes nothing.
 use mathlib.Core.Path.{sym, _∙_}
 use Prim.Native.Nat.{_<_}
-use native.Mathlib.Nat.{one-mul}
 use native.Mathlib.Omega.{arith}
 use borrow.Author.Needs.{needs}
 use denote.Ref.{now}
@@ -11,7 +10,7 @@ use Rattle.layout.specs.Layout.{irqSize}
 use Rattle.layout.specs.Reading.{irqPlace}
 use Rattle.layout.specs.Sound.{IrqUsed, IrqSound}
 use Rattle.layout.proofs.Grants.{used-sound}
-use Rattle.reading.proofs.Sets.{exactly-none}
+use Rattle.reading.proofs.Sets.{one-shifted, exactly-none}
 use Rattle.grants.specs.Company.{heldAs}
 use Rattle.grants.proofs.Manners.{own-held, apart-against}
 use Rattle.grants.proofs.irqs.irq_holding.Statement.{statement}
@@ -87,7 +86,7 @@ returns-2 c =
     let level = read .byte2 .ensures .0 in
     let here = used (found read) in
     record {
-      own = own-held (now (a .t)) (a .s .0) level manner here _ (shl-exact 1 _ 64 (omega arith) (omega (arith, number read)) ∙ one-mul _);
+      own = own-held (now (a .t)) (a .s .0) level manner here _ (one-shifted _ 64 (number read));
       against =
           apart-against (now (a .t)) (a .s .0) level manner here _ _ (c .manners-apart .ensures)
           (shl-exact 4 _ 64 (c .manners-apart .ensures .manners) (omega (arith, number read)));
