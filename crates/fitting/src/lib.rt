@@ -90,13 +90,13 @@ fn level_fits(t: &[u8], named: usize, way: usize, l: usize) -> bool
     requires { ⌜ Accepted (now t) × (l < Table.allLevels) ⌝ }
     ensures { λ r. ⌜ Says r (FitsBy (now (t .entry)) named way l) ⌝ }
 {
+    if reading::byte(t, LEVELS_AT + l * LEVEL_SIZE) != MARKED {
+        return false;
+    }
     if !reading::is_set(named, l) {
         return false;
     }
-    if reading::is_set(way, l) {
-        return false;
-    }
-    reading::byte(t, LEVELS_AT + l * LEVEL_SIZE) == MARKED
+    !reading::is_set(way, l)
 }
 
 // The levels that fit, a bit for each: those that aren't reserved, and those that are.
