@@ -557,8 +557,8 @@ uint32_t cs_call(uint8_t *table, size_t len, uint16_t service, uint16_t handle,
  * has grants of its manner, reserved or not. Where there is none, and for every
  * other request, an unreserved level comes before a reserved one, then the
  * lowest. So with several levels named, links that share take one between them;
- * a link that is to have a level of its own asks for CS_IRQ_FIRST_SHARED, or
- * names the level.
+ * a link that is to take a level without a grant asks for CS_IRQ_FIRST_SHARED,
+ * one that is to take a certain level names that level alone.
  *
  * Writes the grant (client, level, manner); into the packet AssignedIRQ and,
  * for dynamic pulse alone, CS_IRQ_PULSE_ALLOCATED. Answers the handle given.

@@ -160,7 +160,9 @@ static bool join_by_chance(struct chance *c)
     lend_set(&m);
     unsigned a = pick(c, ASKED);
     bool first = asked[a].manner != EXCLUSIVE && one_in(c, 4);
-    uint16_t joined = asked[a].manner == EXCLUSIVE || first ? 0 : named & of_manner[asked[a].manner];
+    uint16_t joined = 0;
+    if (asked[a].manner != EXCLUSIVE && !first)
+        joined = named & of_manner[asked[a].manner];
     describe("managed %04X, reserved %04X, held %04X", managed, reserved, held);
     takes(a, first ? FIRST : 0, named,
           joined != 0 ? lowest_level(joined)

@@ -68,7 +68,7 @@ module _ (b p : List ℕ) (a : Accepted b) (named way : ℕ) (are-named : Exactl
         free = free (ℕ-discrete (bit (attributesOf p) 3) 1);
       }
     where
-      -- a grant of the level, on a socket of the table, goes together with the request
+      -- no grant of the level, on a socket of the table, stands apart from the request
       alone : (s : ℕ) (g : IrqGrant) → Holds (a .facts) l s g → ((IrqFirstShared p → ⊥) × Together (g .manner) (mannerAsked p) → ⊥) → ⊥
       alone s g holds apart =
           let said = Of.said-irq b a s g (holds .live) in
