@@ -148,11 +148,11 @@ fn levels_fitting(t: &[u8], named: usize, way: usize) -> Fitting
 }
 
 // The lowest of a set's levels: its trailing zeros.
-fn lowest(set: usize) -> usize
+fn lowest(set: usize) -> u32
     requires { ⌜ set ≢ 0 ⌝ }
     ensures { λ r. ⌜ LowestIn set r ⌝ }
 {
-    usize::trailing_zeros(set) as usize
+    usize::trailing_zeros(set)
 }
 
 // The level that a request takes, or none fits.
@@ -168,10 +168,10 @@ fn first_fitting(t: &[u8], p: &[u8], way: usize) -> Taken
 {
     let fitting = levels_fitting(t, irq_packets::named(p), way);
     if fitting.unreserved != 0 {
-        return Taken::Level(lowest(fitting.unreserved));
+        return Taken::Level(lowest(fitting.unreserved) as usize);
     }
     if fitting.reserved != 0 {
-        return Taken::Level(lowest(fitting.reserved));
+        return Taken::Level(lowest(fitting.reserved) as usize);
     }
     Taken::Nothing
 }
@@ -187,5 +187,5 @@ pub fn choose(t: &[u8], p: &[u8]) -> Taken
     if joined == 0 {
         return first_fitting(t, p, held.way);
     }
-    Taken::Level(lowest(joined))
+    Taken::Level(lowest(joined) as usize)
 }

@@ -53,6 +53,9 @@ returns c =
 lowest-requires : tie.Need-lowest-requires
 lowest-requires c κs = search needs
 
+cast-t8 : tie.Need-cast-t8
+cast-t8 c = search needs
+
 returns-2 : tie.Need-returns-2
 returns-2 c =
     let n = c .before .before .before in
@@ -67,4 +70,5 @@ choose-spec =
     first-fitting-requires
     returns
     lowest-requires
+    cast-t8
     returns-2)

@@ -31,6 +31,9 @@ levels-fitting-requires c κs = search needs
 lowest-requires : tie.Need-lowest-requires
 lowest-requires c κs = search needs
 
+cast-t8 : tie.Need-cast-t8
+cast-t8 c = search needs
+
 returns : tie.Need-returns
 returns c =
     let k = c .before .before .before in
@@ -40,6 +43,9 @@ returns c =
 
 lowest-requires-2 : tie.Need-lowest-requires-2
 lowest-requires-2 c κs = search needs
+
+cast-t10 : tie.Need-cast-t10
+cast-t10 c = search needs
 
 returns-2 : tie.Need-returns-2
 returns-2 c =
@@ -64,7 +70,9 @@ first-fitting-spec =
     named-requires
     levels-fitting-requires
     lowest-requires
+    cast-t8
     returns
     lowest-requires-2
+    cast-t10
     returns-2
     returns-3)
