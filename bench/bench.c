@@ -261,10 +261,31 @@ static void ask_any_port(void)
     answered = request_io(0, 1, CS_LINES);
 }
 
-/* Of a card that decodes eight lines. */
-static void ask_any_port_of_few(void)
+/* Of a card that decodes 15 lines, or 14. */
+static void ask_any_6_ports_by_15(void)
 {
-    answered = request_io(0, 1, 8);
+    answered = request_io(0, 6, 15);
+    put_io_back();
+}
+
+static void ask_any_port_by_14(void)
+{
+    answered = request_io(0, 1, 14);
+}
+
+/* Of a card that decodes 11 lines, on the table where ports are repeated: in the
+   first range, and every other has these ports too; or the last one lacks one. */
+enum { REPEATED_LINES = 11, REPEATED_FREE = 0x7E0, REPEATED_SHORT = 0x7F4 };
+
+static void ask_repeated_ports(void)
+{
+    answered = request_io(REPEATED_FREE, GRANT_PORTS, REPEATED_LINES);
+    put_io_back();
+}
+
+static void ask_ports_a_port_short(void)
+{
+    answered = request_io(REPEATED_SHORT, GRANT_PORTS, REPEATED_LINES);
 }
 
 static void give_ports_back(void)
@@ -364,8 +385,8 @@ enum {
     ONE_HOLDER,
     ALL_HELD,
     ALL_BARRED,
-    MISSED,
-    LAST_RANGE,
+    GAPPED,
+    REPEATED,
     TABLES
 };
 enum {
@@ -374,9 +395,9 @@ enum {
     BOOTED = 1 << FRESH,
     HELD = 1 << ONE_HOLDER | 1 << ALL_HELD,
     BARRED = 1 << ALL_BARRED,
-    HARD = 1 << MISSED,
-    LAST = 1 << LAST_RANGE,
-    NOT_HELD = EVERYWHERE & ~HELD & ~BARRED & ~HARD & ~LAST
+    GAPS = 1 << GAPPED,
+    IMAGES = 1 << REPEATED,
+    NOT_HELD = EVERYWHERE & ~HELD & ~BARRED & ~GAPS & ~IMAGES
 };
 
 /* The first rows, which others are held against. */
@@ -428,10 +449,15 @@ static const struct call {
      SEARCH_BAR, MEMCMP},
     {"RequestIO of any port, IN_USE", ask_any_port, 1, false, BARRED, CS_IN_USE, SEARCH_BAR,
      MEMCMP},
-    {"RequestIO of any port by 8 lines, IN_USE", ask_any_port_of_few, 1, false, HARD, CS_IN_USE,
+    {"RequestIO of any 6 ports by 15 lines", ask_any_6_ports_by_15, 1, false, GAPS, CS_SUCCESS,
      SEARCH_BAR, MEMCMP},
-    {"cs_sharers of a table that is long to look at", sharers, 1, true, LAST, CS_SUCCESS, LOOK_BAR,
-     MEMCMP},
+    {"RequestIO of any port by 14 lines, IN_USE", ask_any_port_by_14, 1, false, GAPS, CS_IN_USE,
+     SEARCH_BAR, MEMCMP},
+    {"cs_sharers of a table that is long to look at", sharers, 1, true, IMAGES, CS_SUCCESS,
+     LOOK_BAR, MEMCMP},
+    {"RequestIO by 11 lines", ask_repeated_ports, 1, false, IMAGES, CS_SUCCESS, LOOK_BAR, MEMCMP},
+    {"RequestIO by 11 lines, a port short, BAD_BASE", ask_ports_a_port_short, 1, false, IMAGES,
+     CS_BAD_BASE, LOOK_BAR, MEMCMP},
     {"ReleaseIO", give_ports_back, 1, true, HELD, CS_SUCCESS, NAMED_BAR, BAD_HANDLE},
     {"ReleaseIO refused with BAD_BASE", give_ports_back, 1, false, HELD, CS_BAD_BASE, NAMED_BAR,
      BAD_HANDLE_A_PLACE_FREE},
@@ -462,7 +488,7 @@ static bool after_fresh(unsigned call)
 
 static const char *const table_names[TABLES] = {"fresh",  "16 clients", "one range",
                                                 "full",   "one holder", "all held",
-                                                "barred", "missed",     "last range"};
+                                                "barred", "gaps",       "images"};
 static uint8_t images[TABLES][2][CS_TABLE_SIZE];
 
 static void only_clients(struct model *m, unsigned clients)
@@ -534,37 +560,30 @@ static void make_barred(bool full)
     model_image(&m, images[ALL_BARRED][full]);
 }
 
-/* Few bases are free, and no range has one of these: 32 ranges that lie alike, half
-   of them reserved, and seven grants by cards of few lines. */
-static void make_missed(bool full)
+/* A search by few lines is long: most candidates are repeated at a port in a gap. */
+static void make_gapped(bool full)
 {
-    static const struct {
-        uint16_t base;
-        uint8_t count, lines;
-    } grants[] = {{0x1B1, 3, 2},  {0x9CD, 4, 6},   {0x11BE, 4, 5}, {0x19EE, 3, 7},
-                  {0x21B7, 4, 4}, {0x2A30, 1, 11}, {0x31B4, 2, 3}};
     static struct model m;
-    only_clients(&m, CS_CLIENTS);
-    for (uint32_t i = 0; i < CS_RANGES; i++)
-        m.range[m.ranges++] = (struct range){0x1B1 + 0x800 * i, 254, i % 2 == 1};
-    for (unsigned s = 0; s < LAST_SOCKET; s++) {
-        m.card[s] = true;
-        m.io[s] = (struct io_grant){true, 1, grants[s].base, grants[s].count, grants[s].lines, true};
-    }
-    m.card[LAST_SOCKET] = true;
-    model_image(&m, images[MISSED][full]);
+    gapped_set(&m);
+    model_image(&m, images[GAPPED][full]);
 }
 
-/* Eight grants of 255 ports each, by cards of 12 lines, in the last of 32 ranges. */
-static void make_last_range(bool full)
+/* Looking at the table is long: 32 ranges that lie alike, each 800 above the one
+   before, and grants by cards of 11 lines, 250 ports each, in the last, which are
+   repeated in every range. The last range lacks the last port of the others. */
+static void make_repeated(bool full)
 {
     static struct model m;
     only_clients(&m, CS_CLIENTS);
     for (uint32_t i = 0; i < CS_RANGES; i++)
-        m.range[m.ranges++] = (struct range){0x100 + 0x400 * i, i == 31 ? 0x1000 : 0x100, false};
-    for (unsigned s = 0; s < CS_SOCKETS; s++)
-        m.io[s] = (struct io_grant){true, CS_CLIENTS, (uint16_t)(0x7D00 + 0x100 * s), 255, 12, false};
-    model_image(&m, images[LAST_RANGE][full]);
+        m.range[m.ranges++] = (struct range){4 + 0x800 * i, i == 31 ? 0x7F7 : 0x7F8, false};
+    for (unsigned s = 0; s < CS_SOCKETS; s++) {
+        bool hold = full || s < LAST_SOCKET;
+        uint16_t base = (uint16_t)(0xF804 + 250 * s);
+        m.card[s] = true;
+        m.io[s] = (struct io_grant){hold, CS_CLIENTS, base, 250, REPEATED_LINES, false};
+    }
+    model_image(&m, images[REPEATED][full]);
 }
 
 static void make_tables(void)
@@ -584,8 +603,8 @@ static void make_tables(void)
         model_image(&m, images[FULL][full]);
         make_held(full);
         make_barred(full);
-        make_missed(full);
-        make_last_range(full);
+        make_gapped(full);
+        make_repeated(full);
     }
 }
 

@@ -107,6 +107,8 @@ CALL(io_unmanaged, CS_REQUEST_IO, 16, 7, 0, 0xC9, 0x01, 8, 0, 0, 0, 0, 0, 16)
 CALL(io_past_the_last, CS_REQUEST_IO, 16, 7, 0, 0xFF, 0xFF, 2, 0, 0, 0, 0, 0, 16)
 CALL(io_any, CS_REQUEST_IO, 16, 7, 0, 0, 0, 8, 0, 0, 0, 0, 0, 16)
 CALL(io_any_one, CS_REQUEST_IO, 16, 7, 0, 0, 0, 1, CS_IO_SHARED, 0, 0, 0, 0, 1)
+CALL(io_any_by_14, CS_REQUEST_IO, 16, 7, 0, 0, 0, 1, 0, 0, 0, 0, 0, 14)
+CALL(io_any_by_15, CS_REQUEST_IO, 16, 7, 0, 0, 0, 6, 0, 0, 0, 0, 0, 15)
 CALL(io_any_255, CS_REQUEST_IO, 16, 7, 0, 0, 0, 255, 0, 0, 0, 0, 0, 8)
 CALL(io_no_port, CS_REQUEST_IO, 16, 7, 0, 0, 0, 0, 0, 0, 0, 0, 0, 16)
 CALL(io_two_ranges, CS_REQUEST_IO, 16, 7, 0, 0, 0, 8, 0, 0, 0, 8, 0, 16)
@@ -189,12 +191,18 @@ static const struct {
     {io, CS_IN_USE},
     {io, CS_NO_CARD},
     {io_shared, CS_SUCCESS},
+    {io_shared, CS_BAD_BASE},
     {io_met, CS_IN_USE},
+    {io_met, CS_BAD_BASE},
     {io_unmanaged, CS_BAD_BASE},
     {io_past_the_last, CS_BAD_BASE},
     {io_any, CS_SUCCESS},
     {io_any_one, CS_SUCCESS},
     {io_any_one, CS_IN_USE},
+    {io_any_by_14, CS_SUCCESS},
+    {io_any_by_14, CS_IN_USE},
+    {io_any_by_15, CS_SUCCESS},
+    {io_any_by_15, CS_IN_USE},
     {io_any_255, CS_SUCCESS},
     {io_any_255, CS_IN_USE},
     {io_no_port, CS_BAD_SIZE},
@@ -310,7 +318,8 @@ static void measure_places(struct model *m)
 
 /* All ports are managed, and seven cards of eight lines hold ports: 255 of 256 or,
    with the last socket's, all that eight lines tell apart. A search for one more
-   passes many of the ports, or finds that all are barred. */
+   passes many of the ports, or finds that all are barred. Then there are gaps between
+   ranges, in which most ports are repeated. */
 static void measure_searches(void)
 {
     static struct model m;
@@ -325,6 +334,8 @@ static void measure_searches(void)
     m.io[6] = (struct io_grant){true, 1, 0x1FF, 1, 8, true};
     measure_set(&m);
     memset(m.io, 0, sizeof m.io);
+    measure_set(&m);
+    gapped_set(&m);
     measure_set(&m);
 }
 

@@ -34,8 +34,10 @@
  * ---------
  * A table is well formed if cs_fresh made it and only the keeper changed it
  * since. It may be copied, saved and loaded again as it stands: the copy is
- * as good. In full, a table is refused if its length is not CS_TABLE_SIZE or
- * if one of these does not hold:
+ * as good. (Older keepers looked at a grant's own ports alone: a table saved
+ * by one of them is refused if a card of it answers at an unmanaged port.) In
+ * full, a table is refused if its length is not CS_TABLE_SIZE or if one of
+ * these does not hold:
  *  - it has 1 to CS_SOCKETS sockets, and cards, grants and masks at no other;
  *  - at most CS_CLIENTS clients are live, with handles that differ, are not 0
  *    and are not over the number issued;
@@ -44,8 +46,8 @@
  *  - an IRQ level that is reserved is managed;
  *  - at most CS_RANGES I/O ranges are managed; each has a port, none passes
  *    port FFFF, no two overlap;
- *  - the client of a grant is live, and its level, or each of its ports, is
- *    managed;
+ *  - the client of a grant is live, and its level, or each port at which its
+ *    card answers (see RequestIO), is managed;
  *  - an I/O grant has base 1 or more, 1 to 16 decoded lines, and 1 to 255
  *    ports but not over two to the lines;
  *  - two I/O grants both share if a port of one equals a port of the other in
@@ -144,7 +146,7 @@
  *           return 1;
  *
  *       io[4] = 8;
- *       io[10] = 10;
+ *       io[10] = CS_LINES;
  *       answer = cs_call(table, sizeof table, CS_REQUEST_IO, client,
  *                        io, sizeof io);
  *       if (CS_CODE(answer) != CS_SUCCESS || io[2] != 0x00 || io[3] != 0x03)
@@ -202,7 +204,8 @@ extern "C" {
 /* Reserved or contradictory bits. */
 #define CS_BAD_ATTRIBUTE 0x02
 
-/* Ports past FFFF, unmanaged, or not the held ones. */
+/* Ports past FFFF, unmanaged, or not the held ones. A card may answer at more
+   ports than it is granted: see RequestIO. */
 #define CS_BAD_BASE 0x03
 
 /* No fitting level, or not that one. */
@@ -229,7 +232,7 @@ extern "C" {
 /* Field value outside its list. */
 #define CS_BAD_ARGS 0x1C
 
-/* Held or already managed. */
+/* Held, answered at by a card, or already managed. */
 #define CS_IN_USE 0x1E
 
 /* List at its end. */
@@ -467,8 +470,9 @@ uint32_t cs_call(uint8_t *table, size_t len, uint16_t service, uint16_t handle,
  *  9. one of the ports is past FFFF: CS_BAD_BASE
  * 10. one of them is managed (Add): CS_IN_USE; no managed range has just that
  *     base and number of ports (Remove): CS_BAD_BASE
- * 11. CS_RANGES ranges are managed (Add): CS_OUT_OF_RESOURCE; a live grant
- *     holds a port of the range (Remove): CS_IN_USE
+ * 11. CS_RANGES ranges are managed (Add): CS_OUT_OF_RESOURCE; the card of a
+ *     live grant answers at a port of the range (Remove; see RequestIO):
+ *     CS_IN_USE
  *
  * Writes the level or the range, managed and reserved or not, or takes it
  * away; the packet stays as it is. Ranges stay apart as they were added, also
@@ -483,7 +487,9 @@ uint32_t cs_call(uint8_t *table, size_t len, uint16_t service, uint16_t handle,
  * the packet's other fields are ignored. Writes base and ports, or level; the
  * attributes, in which bits that are not listed as shown are 0, CS_RESERVE
  * too; and for I/O lines of 16. The table stays as it is. Answers the lowest
- * of the holders' handles, or 0 if there is no holder.
+ * of the holders' handles, or 0 if there is no holder. Holders of a range are
+ * the grants that have a port of it: one whose card only answers there besides
+ * is not shown, and Remove is refused all the same.
  */
 #define CS_ADJUST_RESOURCE_INFO 0x35
 #define CS_ADJUST_IRQ_LENGTH 4
@@ -630,8 +636,14 @@ uint32_t cs_call(uint8_t *table, size_t len, uint16_t service, uint16_t handle,
  * in the low n bits: with 10 lines it answers at 2F8, at 6F8, at AF8 and on.
  * So two ranges meet if a port of one equals a port of the other modulo two to
  * the smaller of their line counts: 2F8 at 10 lines meets 6F8 at any number of
- * lines, and with 16 lines each they do not meet. Only the ports themselves
- * have to be managed, and not those at which the card answers besides. Checks:
+ * lines, and with 16 lines each they do not meet.
+ *
+ * A card answers at each port from 0 to FFFF that equals one of its ports in
+ * the lines that it decodes, be it below or above them, and all of these have
+ * to be managed: a card of 10 lines is granted 6F8 only if 2F8, AF8 and all
+ * further ones up to FEF8 are managed too. With 16 lines a card answers at its
+ * own ports alone. Add the ports of a card of few lines as large ranges: at
+ * most CS_RANGES are managed, and with 10 lines there are 64 places. Checks:
  *  3. packet_len is not CS_REQUEST_IO_LENGTH: CS_BAD_ARG_LENGTH
  *  4. handle is not a live client's: CS_BAD_HANDLE
  *  5. socket not below the table's count, or function not 0: CS_BAD_SOCKET
@@ -643,7 +655,8 @@ uint32_t cs_call(uint8_t *table, size_t len, uint16_t service, uint16_t handle,
  *  9. the socket has an I/O grant, whoever holds it: CS_IN_USE
  *
  * BasePort1 not 0, then:
- * 10. one of the ports is past FFFF or not managed: CS_BAD_BASE
+ * 10. one of the ports is past FFFF, or a port at which the card answers is
+ *     not managed: CS_BAD_BASE
  * 11. the ports meet a live grant's, of any client, this one too, and
  *     CS_IO_FIRST_SHARED is set or the two do not both share: CS_IN_USE
  *
@@ -651,10 +664,12 @@ uint32_t cs_call(uint8_t *table, size_t len, uint16_t service, uint16_t handle,
  * 10. there is no candidate: CS_IN_USE
  *
  * A candidate is a positive multiple of the smallest power of two not below
- * NumPorts1; all NumPorts1 ports from it on are managed, none is past FFFF,
- * and they meet no live grant, also none that shares: the two sharing bits
- * make no difference to the choice. Candidates whose ports are all in
- * unreserved ranges come first, then the lowest.
+ * NumPorts1; of the NumPorts1 ports from it on none is past FFFF, all ports at
+ * which the card would answer are managed, and the ports meet no live grant,
+ * also none that shares: the two sharing bits make no difference to the choice.
+ * Candidates whose NumPorts1 ports are all in unreserved ranges come first,
+ * then the lowest; whether the others at which the card would answer are
+ * reserved makes no difference.
  *
  * Writes the grant (client, base, ports, lines, shared or not); into the
  * packet BasePort1 and nothing else. Answers the handle given. cs_card_out

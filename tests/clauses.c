@@ -238,6 +238,26 @@ static bool io_grant_unmanaged(struct chance *c, struct model *m)
     return true;
 }
 
+/* All ports are managed but one, which equals one of the grant's in the lines that
+   its card decodes. */
+static bool io_grant_repeated_unmanaged(struct chance *c, struct model *m)
+{
+    struct io_grant *g = only_io_grant(c, m);
+    if (g == NULL)
+        return false;
+    g->lines = (uint8_t)(1 + pick(c, CS_LINES - 1));
+    g->count = (uint8_t)(1 + pick(c, g->lines < 8 ? 1u << g->lines : 255));
+    g->base = (uint16_t)(1 + pick(c, CS_PORTS - g->count));
+    uint32_t own = g->base + pick(c, g->count), bit = g->lines + pick(c, CS_LINES - g->lines);
+    uint32_t gap = own ^ 1u << bit;
+    m->ranges = 0;
+    if (gap > 0)
+        m->range[m->ranges++] = (struct range){0, gap, one_in(c, 2)};
+    if (gap < CS_PORTS - 1)
+        m->range[m->ranges++] = (struct range){gap + 1, CS_PORTS - 1 - gap, one_in(c, 2)};
+    return true;
+}
+
 static bool io_grant_base_zero(struct chance *c, struct model *m)
 {
     struct io_grant *g = only_io_grant(c, m);
@@ -532,6 +552,7 @@ static const struct clause all[] = {
     FACTS(io_grant_of_dead),
     FACTS(io_grant_past_count),
     FACTS(io_grant_unmanaged),
+    FACTS(io_grant_repeated_unmanaged),
     FACTS(io_grant_base_zero),
     FACTS(io_grant_lines),
     FACTS(io_grant_no_port),

@@ -124,6 +124,7 @@ void io_cases(void);
 /* compare_io_choice.c: RequestIO with base 0 */
 void io_multiples(void);
 void io_choice(void);
+void io_alike_chosen(void);
 void io_all_chosen(void);
 void io_all_barred(void);
 
@@ -145,6 +146,17 @@ void io_full_table(void);
 void io_small_worlds(void);
 void io_large_worlds(void);
 void io_barred_worlds(void);
+
+/* compare_io_answering.c: the ports at which a card answers */
+void io_edges_named(void);
+void io_edges_chosen(void);
+void io_edges_removed(void);
+void io_edges_saved(void);
+void io_sixteen_lines(void);
+void io_choice_by_images(void);
+void io_given_6f8(void);
+void io_added_then_asked(void);
+void io_answering_worlds(void);
 
 /* compare_masks.c: RequestSocketMask and ReleaseSocketMask */
 void mask_events(void);

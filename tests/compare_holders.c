@@ -234,22 +234,40 @@ void sharing_holders(void)
         }
 }
 
+static void removed_unless(bool in_use, uint32_t base, uint32_t count)
+{
+    must_be(remove_range(LONG, base, count), in_use ? CS_IN_USE : CS_SUCCESS, in_use ? 0 : GIVEN);
+    must_be(add_range(LONG, base, count), in_use ? CS_IN_USE : CS_SUCCESS, in_use ? 0 : GIVEN);
+}
+
 /* A grant at 6F8 that decodes ten lines answers at 2F8 too; its own ports hold
-   6F8 alone. */
+   6F8 alone. K2: "Remove is IN_USE if a live grant holds or is repeated at any port
+   of the range." At nine lines or fewer an image is below 2F8 and another between
+   300 and 6F7; at fifteen or fewer one is above 6FF. */
 void images_hold_nothing(void)
 {
     for (uint8_t lines = 4; lines <= 16; lines++) {
         struct model m;
         ready_set(&m, 0, 0);
-        m.range[m.ranges++] = (struct range){0x2F8, 8, false};
-        m.range[m.ranges++] = (struct range){0x6F8, 8, false};
+        manage(&m, 0, 0x2F8, false);
+        manage(&m, 0x2F8, 8, false);
+        manage(&m, 0x300, 0x3F8, true);
+        manage(&m, 0x6F8, 8, false);
+        manage(&m, 0x700, 0xF900, false);
         m.io[0] = (struct io_grant){true, 3, 0x6F8, 8, lines, true};
         lend_set(&m);
         describe("%u lines", lines);
-        walk_shows((struct shown[]){{0x2F8, 8, 0, 0}, {0x6F8, 8, 0x81, 3}}, 2);
-        must_be(remove_range(SHORT, 0x6F8, 8), CS_IN_USE, 0);
-        must_be(remove_range(SHORT, 0x2F8, 8), CS_SUCCESS, GIVEN);
-        must_be(add_range(LONG, 0x2F8, 8), CS_SUCCESS, GIVEN);
+        walk_shows((struct shown[]){{0, 0x2F8, 0, 0},
+                                    {0x2F8, 8, 0, 0},
+                                    {0x300, 0x3F8, 0, 0},
+                                    {0x6F8, 8, 0x81, 3},
+                                    {0x700, 0xF900, 0, 0}},
+                   5);
+        removed_unless(true, 0x6F8, 8);
+        removed_unless(lines <= 10, 0x2F8, 8);
+        removed_unless(lines <= 9, 0, 0x2F8);
+        removed_unless(lines <= 9, 0x300, 0x3F8);
+        removed_unless(lines <= 15, 0x700, 0xF900);
     }
 }
 

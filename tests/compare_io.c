@@ -14,7 +14,7 @@ static const char by_hand[] = "dsAsdsAsdsAsdsAs";
 static void try_attributes(uint8_t attributes, uint8_t lines)
 {
     bool good = attributes < 16 && by_hand[attributes] != 'A' && lines >= 1 && lines <= 16;
-    lend_ports(0x300, 16);
+    lend_ports(0, 65536);
     if (!good) {
         io_refused(4, 1, 0x305, 2, attributes, lines, CS_BAD_ATTRIBUTE);
         io_refused(4, 1, 0, 2, attributes, lines, CS_BAD_ATTRIBUTE);
@@ -23,7 +23,7 @@ static void try_attributes(uint8_t attributes, uint8_t lines)
     io_granted(4, 1, 0x305, 2, attributes, lines);
     io_grant_bytes(1, 4, 0x305, 2, lines, by_hand[attributes] == 's');
     io_released(4, 1, 0x305, 2);
-    io_chosen(4, 1, 2, attributes, lines, 0x300);
+    io_chosen(4, 1, 2, attributes, lines, 2);
 }
 
 /* "attribute bits outside section 5.52's list, First Shared without Shared, or
@@ -398,12 +398,11 @@ static void lend_two_sockets(void)
 }
 
 /* The first ports are granted, then the second asked for; neither shares. Where
-   they meet, both are granted if both share. */
+   they meet, both are granted if both share. All ports are managed. */
 static void two_requests(struct ports first, struct ports second, bool met)
 {
     lend_two_sockets();
-    must_be(add_range(SHORT, first.base, first.count), CS_SUCCESS, GIVEN);
-    must_be(add_range(SHORT, second.base, second.count), CS_SUCCESS, GIVEN);
+    must_be(add_range(LONG, 0, 65536), CS_SUCCESS, GIVEN);
     io_granted(1, 0, first.base, first.count, ALONE, first.lines);
     if (!met) {
         io_granted(1, 1, second.base, second.count, ALONE, second.lines);

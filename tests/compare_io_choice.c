@@ -93,7 +93,7 @@ void io_multiples(void)
 /* clang-format off */
 static const struct {
     const char *what;
-    struct range ranges[5];
+    struct range ranges[7];
     struct io_grant grants[4];
     uint8_t count, attributes, lines;
     uint16_t base;
@@ -169,36 +169,32 @@ static const struct {
     {"bits 2 and 3 neither",
      {{0x300, 16, false}}, {{true, 1, 0x300, 8, 16, true}}, 8, SHARED | 12, 16, 0x308},
 
-    /* Decoded lines. */
+    /* Decoded lines; where a card of few lines answers, all ports are managed. */
     {"6F8 and AF8 are 2F8 to a card of ten lines",
-     {{0x6F8, 8, false}, {0xAF8, 8, false}, {0xB00, 8, false}, {0x2F8, 8, true}},
+     {{0x6F8, 8, false}, {0xAF8, 16, false}, {0, 0x6F8, true}, {0x700, 0x3F8, true},
+      {0xB08, 0xF4F8, true}},
      {{true, 1, 0x2F8, 8, 10, false}}, 8, ALONE, 16, 0xB00},
     {"and to one of ten lines that asks",
-     {{0x2F8, 8, false}, {0x6F8, 8, false}, {0xAF8, 8, false}, {0xB00, 8, false}},
+     {{0x2F8, 8, false}, {0x6F8, 8, false}, {0xAF8, 16, false}, {0, 0x2F8, true},
+      {0x300, 0x3F8, true}, {0x700, 0x3F8, true}, {0xB08, 0xF4F8, true}},
      {{true, 1, 0x6F8, 8, 16, false}}, 8, ALONE, 10, 0xB00},
     {"the same at sixteen lines",
      {{0x2F8, 8, false}, {0x6F8, 8, false}, {0xAF8, 8, false}},
      {{true, 1, 0x6F8, 8, 16, false}}, 8, ALONE, 16, 0x2F8},
     {"eleven lines tell 2F8 and 6F8 apart",
-     {{0x6F8, 8, false}, {0xAF8, 8, false}, {0x2F8, 8, true}},
+     {{0x6F8, 8, false}, {0, 0x6F8, true}, {0x700, 0xF900, true}},
      {{true, 1, 0x2F8, 8, 11, false}}, 8, ALONE, 16, 0x6F8},
-    {"ten lines at a grant, eleven asked",
-     {{0x6F8, 8, false}, {0xAF8, 8, false}, {0x2F8, 8, true}},
-     {{true, 1, 0x2F8, 8, 10, false}}, 8, ALONE, 11, 0},
-    {"eleven lines at a grant, ten asked",
-     {{0x6F8, 8, false}, {0xAF8, 8, false}, {0x2F8, 8, true}},
-     {{true, 1, 0x2F8, 8, 11, false}}, 8, ALONE, 10, 0},
     {"two grants of other lines, each bars one",
-     {{0x4100, 1, false}, {0x4210, 1, false}, {0x4321, 1, false}, {0x100, 1, true},
-      {0x10, 1, true}},
+     {{0x4100, 1, false}, {0x4210, 1, false}, {0x4321, 1, false}, {0, 0x4100, true},
+      {0x4101, 0x10F, true}, {0x4211, 0x110, true}, {0x4322, 0xBCDE, true}},
      {{true, 1, 0x100, 1, 9, false}, {true, 2, 0x10, 1, 5, false}}, 1, ALONE, 16, 0x4321},
     {"as many ports as the lines tell apart meet every grant",
-     {{0x300, 64, false}}, {{true, 1, 0x33F, 1, 16, false}}, 8, ALONE, 3, 0},
-    {"and are chosen where there is none", {{0x300, 64, false}}, {{0}}, 8, ALONE, 3, 0x300},
+     {{0, 65536, false}}, {{true, 1, 0x33F, 1, 16, false}}, 8, ALONE, 3, 0},
+    {"and are chosen where there is none", {{0, 65536, false}}, {{0}}, 8, ALONE, 3, 8},
     {"one fewer leaves one",
-     {{0x300, 64, false}}, {{true, 1, 0x33F, 1, 16, false}}, 7, ALONE, 3, 0x300},
+     {{0, 65536, false}}, {{true, 1, 0x33F, 1, 16, false}}, 7, ALONE, 3, 8},
     {"a grant of all ports that its lines tell apart bars all",
-     {{0x300, 64, false}}, {{true, 1, 0x304, 4, 2, true}}, 1, SHARED, 16, 0},
+     {{0, 65536, false}}, {{true, 1, 0x304, 4, 2, true}}, 1, SHARED, 16, 0},
     {"255 ports at eight lines leave one of 256",
      {{0, 65536, false}}, {{true, 1, 0x100, 255, 8, false}}, 1, ALONE, 16, 0xFF},
     {"if that one is held, the next like it",
@@ -211,7 +207,7 @@ static void lend_case(size_t i)
 {
     struct model m;
     ready_set(&m, 0, 0);
-    for (unsigned r = 0; r < 5 && cases[i].ranges[r].count > 0; r++)
+    for (unsigned r = 0; r < 7 && cases[i].ranges[r].count > 0; r++)
         manage(&m, cases[i].ranges[r].base, cases[i].ranges[r].count, cases[i].ranges[r].reserved);
     for (unsigned s = 0; s < 4; s++)
         m.io[s] = cases[i].grants[s];
@@ -224,6 +220,35 @@ void io_choice(void)
     for (size_t i = 0; i < sizeof cases / sizeof *cases; i++) {
         lend_case(i);
         choice_stays(cases[i].count, cases[i].attributes, cases[i].lines, cases[i].base);
+    }
+}
+
+/* 32 ranges of eight ports, 2F8, AF8 and on, at which a card of eleven lines answers;
+   a card of so many lines holds the first. */
+static void alike(uint8_t held, uint8_t lines, uint16_t base)
+{
+    struct model m;
+    ready_set(&m, 0, 0);
+    for (uint32_t i = 0; i < CS_RANGES; i++)
+        manage(&m, 0x2F8 + 0x800 * i, 8, i % 4 == 3);
+    m.io[2] = (struct io_grant){true, 1, 0x2F8, 8, held, true};
+    lend_set(&m);
+    describe("%u lines at a grant, %u asked", held, lines);
+    choice_stays(8, SHARED, lines, base);
+}
+
+/* The smaller of the two line counts decides: at eleven AF8 is 2F8 and so is every
+   other, at twelve AF8 is another and 12F8 is 2F8. */
+void io_alike_chosen(void)
+{
+    for (uint8_t lines = 11; lines <= 16; lines++) {
+        alike(11, lines, 0);
+        alike(lines, 11, 0);
+    }
+    for (uint8_t lines = 12; lines <= 16; lines++) {
+        alike(12, lines, 0xAF8);
+        alike(lines, 12, 0xAF8);
+        alike(lines, 10, 0);
     }
 }
 

@@ -9,12 +9,12 @@
 /* ---- ReleaseIO ---- */
 
 /* Client 8 holds 304 to 309 on socket 3, client 9 30A to 30D on socket 4, client 8
-   30E on socket 5; all of 300 to 30F are managed. */
+   30E on socket 5; all ports are managed. */
 static void lend_three_held(void)
 {
     struct model m;
     ready_set(&m, 0, 0);
-    manage(&m, 0x300, 16, false);
+    manage(&m, 0, 65536, false);
     m.io[3] = (struct io_grant){true, 8, 0x304, 6, 10, false};
     m.io[4] = (struct io_grant){true, 9, 0x30A, 4, 16, true};
     m.io[5] = (struct io_grant){true, 8, 0x30E, 1, 4, true};
@@ -123,11 +123,17 @@ static void grant_and_release(uint16_t client, uint8_t socket, uint8_t count, ui
     no_io_grant_bytes(socket);
 }
 
-/* On each socket, for every client, with all that a grant's bytes can be. */
+/* On each socket, for every client, with all that a grant's bytes can be. All ports
+   are managed, 0FF0 to 11EF unreserved. */
 void io_every_place(void)
 {
     static const uint8_t attributes[] = {ALONE, SHARED, FIRST_SHARED};
-    lend_ports(0x0FF0, 0x200);
+    struct model m;
+    ready_set(&m, 0, 0);
+    manage(&m, 0, 0x0FF0, true);
+    manage(&m, 0x0FF0, 0x200, false);
+    manage(&m, 0x11F0, 0xEE10, true);
+    lend_set(&m);
     for (uint8_t socket = 0; socket < CS_SOCKETS; socket++)
         for (uint16_t client = 1; client <= CS_CLIENTS; client++)
             for (unsigned a = 0; a < 3; a++) {
@@ -142,7 +148,7 @@ void io_every_place(void)
    back in another order, each leaves the others as they are. */
 void io_every_socket(void)
 {
-    lend_ports(0x4000, 0x800);
+    lend_ports(0, 65536);
     for (uint8_t s = 0; s < CS_SOCKETS; s++)
         io_granted((uint16_t)(16 - s), s, (uint16_t)(0x4000 + 0x101 * s), (uint8_t)(200 + s),
                    s % 2 == 0 ? ALONE : SHARED, (uint8_t)(16 - s % 3));
@@ -223,38 +229,66 @@ void io_beside_others(void)
     must_be(deregister(2), CS_SUCCESS, 2);
 }
 
-/* Remove, First and Next (35H) beside grants that calls made: 300 to 307 and 308
-   to 30F adjoin, 700 to 707 lie apart. A grant at ten lines holds its own ports
-   alone, and none of their images: 706 is one of 306. */
+/* 300 to 307, 308 to 30F and 700 to 707 as they are shown, each with its attributes
+   and its holder; what lies between, and the ports at both ends, are held by none. */
+static void three_shown(struct shown low, struct shown high, struct shown far)
+{
+    walk_shows((struct shown[]){{0, 0x300, 0, 0},
+                                {0x300, 8, low.attributes, low.holder},
+                                {0x308, 8, high.attributes, high.holder},
+                                {0x310, 0x3F0, 0, 0},
+                                {0x700, 8, far.attributes, far.holder},
+                                {0x708, 0xF8F8, 0, 0}},
+               6);
+}
+
+static struct shown by(uint8_t attributes, uint16_t holder)
+{
+    return (struct shown){.attributes = attributes, .holder = holder};
+}
+
+/* Remove, First and Next (35H) beside grants that calls made. A grant at ten lines
+   holds its own ports alone, and none of their images: 706 is one of 306. But it
+   keeps the ranges of both, and its card needs both. */
 void io_keeps_its_ranges(void)
 {
+    const struct shown none = by(0, 0);
     lend_ready(0, 0);
+    must_be(add_range(LONG, 0, 0x300), CS_SUCCESS, GIVEN);
     must_be(add_range(SHORT, 0x300, 8), CS_SUCCESS, GIVEN);
     must_be(add_range(LONG, 0x308, 8), CS_SUCCESS, GIVEN);
+    must_be(add_range(LONG, 0x310, 0x3F0), CS_SUCCESS, GIVEN);
     must_be(add_range(SHORT, 0x700, 8), CS_SUCCESS, GIVEN);
+    must_be(add_range(LONG, 0x708, 0xF8F8), CS_SUCCESS, GIVEN);
     io_granted(12, 5, 0x306, 4, SHARED, 10);
-    walk_shows((struct shown[]){{0x300, 8, 0x81, 12}, {0x308, 8, 0x81, 12}, {0x700, 8, 0, 0}}, 3);
+    three_shown(by(0x81, 12), by(0x81, 12), none);
     must_be(remove_range(SHORT, 0x300, 8), CS_IN_USE, 0);
     must_be(remove_range(LONG, 0x308, 8), CS_IN_USE, 0);
+    must_be(remove_range(SHORT, 0x700, 8), CS_IN_USE, 0);
     io_granted(3, 1, 0x30A, 6, ALONE, 16);
     io_granted(14, 0, 0x300, 2, ALONE, 16);
-    walk_shows((struct shown[]){{0x300, 8, 0x80, 12}, {0x308, 8, 0x80, 3}, {0x700, 8, 0, 0}}, 3);
+    three_shown(by(0x80, 12), by(0x80, 3), none);
     io_released(14, 0, 0x300, 2);
     io_granted(11, 0, 0x300, 8, SHARED, 16);
-    walk_shows((struct shown[]){{0x300, 8, 0x81, 11}, {0x308, 8, 0x80, 3}, {0x700, 8, 0, 0}}, 3);
+    three_shown(by(0x81, 11), by(0x80, 3), none);
     io_released(12, 5, 0x306, 4);
     io_released(11, 0, 0x300, 8);
-    walk_shows((struct shown[]){{0x300, 8, 0, 0}, {0x308, 8, 0x80, 3}, {0x700, 8, 0, 0}}, 3);
+    three_shown(none, by(0x80, 3), none);
     must_be(remove_range(SHORT, 0x308, 8), CS_IN_USE, 0);
     must_be(remove_range(SHORT, 0x300, 8), CS_SUCCESS, GIVEN);
     io_refused(12, 5, 0x306, 4, SHARED, 10, CS_BAD_BASE);
+    io_refused(12, 5, 0x704, 4, SHARED, 10, CS_BAD_BASE);
+    must_be(add_range(SHORT, 0x300, 8), CS_SUCCESS, GIVEN);
     io_released(3, 1, 0x30A, 6);
     must_be(remove_range(SHORT, 0x308, 8), CS_SUCCESS, GIVEN);
-    io_chosen(12, 5, 4, SHARED, 10, 0x700);
-    walk_shows((struct shown[]){{0x700, 8, 0x81, 12}}, 1);
+    io_granted(12, 5, 0x704, 4, SHARED, 10);
+    must_be(remove_range(SHORT, 0x300, 8), CS_IN_USE, 0);
     must_be(remove_range(SHORT, 0x700, 8), CS_IN_USE, 0);
     must_be(ask_card_out(5), CS_SUCCESS, 0);
+    must_be(remove_range(SHORT, 0x300, 8), CS_IN_USE, 0);
     must_be(remove_range(SHORT, 0x700, 8), CS_IN_USE, 0);
+    io_released(12, 5, 0x704, 4);
+    must_be(remove_range(SHORT, 0x300, 8), CS_SUCCESS, GIVEN);
 }
 
 /* Three clients share a range by calls, in every order: the lowest handle is

@@ -7,34 +7,40 @@
 
 /* RequestIO and ReleaseIO by chance. In a small world, of few ports and few lines,
    most ranges are near each other or each other's images; in a large one counts
-   and lines are any. Grants are made by the calls themselves. */
+   and lines are any. Grants are made by the calls themselves. A card of few lines
+   answers at many ports: in most small worlds the ports beyond are managed too.
+   compare_io_answering.c has more of such. */
 
 /* How many worlds, and how many questions in each: the model's search for a base
-   that finds none looks at up to 65,535 candidates, port by port. */
-enum { SMALL_WORLDS = 1600, IN_SMALL = 40, LARGE_WORLDS = 60, IN_LARGE = 60 };
-enum { BARRED_WORLDS = 400, IN_BARRED = 24 };
+   that finds none looks at up to 65,535 candidates. */
+enum { SMALL_WORLDS = 1200, IN_SMALL = 40, LARGE_WORLDS = 60, IN_LARGE = 60 };
+enum { BARRED_WORLDS = 240, IN_BARRED = 24 };
 
 struct world {
     uint32_t low, ports; /* the ports that are spoken of: so many from low on */
     uint32_t most;       /* NumPorts1 is mostly not over it */
     uint8_t few, many;   /* IOAddrLines is mostly from few to many, or 16 */
+    uint32_t one_range;  /* one in so many has one range of all these ports */
+    bool beyond;         /* all other ports are managed */
 };
 
 /* A world in low ports, or up to FFFF. */
 static struct world small_world(struct chance *c)
 {
-    uint32_t ports = 16u << pick(c, 3);
-    return (struct world){one_in(c, 12) ? CS_PORTS - ports : 0, ports, 9, 2, 6};
+    uint32_t ports = 16u << pick(c, 3), low = one_in(c, 12) ? CS_PORTS - ports : 0;
+    return (struct world){low, ports, 9, 3, 7, 4, !one_in(c, 3)};
 }
 
-static const struct world large_world = {0, CS_PORTS, 255, 1, 16};
+static const struct world large_world = {0, CS_PORTS, 255, 1, 16, 2, false};
 
 /* Up to so many ranges, which may adjoin, none larger than this. */
 static void manage_some(struct chance *c, const struct world *w, unsigned ranges, uint32_t largest)
 {
     struct model m;
     ready_set(&m, 0, 0);
-    if (one_in(c, 4))
+    if (w->beyond)
+        manage(&m, w->low == 0 ? w->ports : 0, CS_PORTS - w->ports, one_in(c, 16));
+    if (one_in(c, w->one_range))
         manage(&m, w->low, w->ports, one_in(c, 4));
     for (unsigned i = 0; i < ranges && m.ranges < ranges; i++) {
         uint32_t base = w->low + pick(c, w->ports), count = 1 + pick(c, largest);
@@ -172,7 +178,7 @@ void io_small_worlds(void)
         ask_some(&c, &w, IN_SMALL);
         end_log();
     }
-    each_came_about(1500);
+    each_came_about(700);
 }
 
 void io_large_worlds(void)
@@ -191,26 +197,31 @@ void io_large_worlds(void)
 /* ---- Bases that are chosen where few are free ---- */
 
 /* Ranges of one size, so far apart that they lie alike modulo a power of two, or
-   each a little further on. */
-static void manage_alike(struct chance *c)
+   each a little further on; or ranges that adjoin, and all ports. How few lines a
+   card can have there, that all of its ports are managed. */
+static uint8_t manage_alike(struct chance *c)
 {
     struct model m;
-    uint32_t apart = 256u << pick(c, 3), from = pick(c, apart / 2), ranges = 2 + pick(c, 15);
-    uint32_t count = 1 + pick(c, apart - from), slip = one_in(c, 2) ? 0 : pick(c, 9);
+    bool adjoin = one_in(c, 16);
+    uint8_t bits = (uint8_t)(11 + pick(c, 4));
+    uint32_t apart = (uint32_t)1 << bits, from = adjoin ? 0 : pick(c, apart / 2);
+    uint32_t count = adjoin ? apart : 1 + pick(c, 512);
+    uint32_t slip = adjoin || !one_in(c, 4) ? 0 : pick(c, 9);
     ready_set(&m, 0, 0);
-    for (uint32_t i = 0; i < ranges; i++)
-        manage(&m, i * (apart + slip) + from, count, one_in(c, 2));
+    for (uint32_t base = from; base + count <= CS_PORTS; base += apart + slip)
+        manage(&m, base, count, one_in(c, 2));
     lend_set(&m);
+    return adjoin ? 5 : bits;
 }
 
 /* Shared grants on all sockets but the last, of cards that decode few lines: each
    bars the same bases again and again. */
-static void bar_some(struct chance *c)
+static void bar_some(struct chance *c, uint8_t few)
 {
     for (uint8_t s = 0; s < CS_SOCKETS - 1; s++) {
         const struct model *m = lent_facts();
         const struct range *r = &m->range[pick(c, m->ranges)];
-        uint8_t lines = (uint8_t)(one_in(c, 8) ? 1 + pick(c, 16) : 5 + pick(c, 7));
+        uint8_t lines = (uint8_t)(one_in(c, 8) ? 1 + pick(c, 16) : few + pick(c, 3));
         uint32_t most = (uint32_t)1 << lines;
         most = most < r->count ? most : r->count;
         uint32_t count = 1 + pick(c, most < 255 ? most : 255);
@@ -220,11 +231,11 @@ static void bar_some(struct chance *c)
 }
 
 /* The last socket asks for any base, and gives it back. */
-static void ask_chosen(struct chance *c)
+static void ask_chosen(struct chance *c, uint8_t few)
 {
     const uint8_t last = CS_SOCKETS - 1;
     uint8_t count = (uint8_t)(one_in(c, 2) ? 1 + pick(c, 8) : 1 + pick(c, 255));
-    uint8_t lines = (uint8_t)(8 + pick(c, 9));
+    uint8_t lines = (uint8_t)(one_in(c, 4) ? 8 + pick(c, 9) : few + pick(c, 17u - few));
     uint32_t code = CS_CODE(request_io(2, last, 0, count, one_in(c, 2) ? SHARED : ALONE, lines));
     seen.chosen += code == CS_SUCCESS;
     seen.none += code == CS_IN_USE;
@@ -237,13 +248,13 @@ void io_barred_worlds(void)
     struct chance c = {43};
     memset(&seen, 0, sizeof seen);
     for (unsigned i = 0; i < BARRED_WORLDS; i++) {
-        manage_alike(&c);
+        uint8_t few = manage_alike(&c);
         begin_log(i % 100 == 0 ? AFTER_EACH : AT_THE_END);
-        bar_some(&c);
+        bar_some(&c, few);
         for (unsigned k = 0; k < IN_BARRED; k++)
-            ask_chosen(&c);
+            ask_chosen(&c, few);
         end_log();
     }
-    must_hold("ports were chosen where few bases are free", seen.chosen >= 1500);
-    must_hold("there was no candidate where few bases are free", seen.none >= 5000);
+    must_hold("ports were chosen where few bases are free", seen.chosen >= 2000);
+    must_hold("there was no candidate where few bases are free", seen.none >= 2000);
 }

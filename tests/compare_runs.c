@@ -145,7 +145,7 @@ static void saw_all(unsigned long least)
 
 void runs_from_fresh(void)
 {
-    for (uint64_t seed = 1; seed <= 100; seed++) {
+    for (uint64_t seed = 1; seed <= 120; seed++) {
         struct chance c = {seed};
         lend_fresh((uint32_t)(1 + seed % CS_SOCKETS));
         begin_log(seed == 50 ? AFTER_EACH : AT_THE_END);

@@ -265,18 +265,18 @@ static void irq_and_mask_between(void)
 static void io_between(void)
 {
     lend_both_managed();
-    io_granted(1, 2, 0x304, 8, SHARED, 10);
+    io_granted(1, 2, 0x304, 8, SHARED, 16);
     must_be(ask_card_out(2), CS_SUCCESS, 0);
-    io_grant_bytes(2, 1, 0x304, 8, 10, true);
+    io_grant_bytes(2, 1, 0x304, 8, 16, true);
     must_be(deregister(1), CS_IN_USE, 0);
-    io_refused(1, 2, 0x304, 8, SHARED, 10, CS_NO_CARD);
+    io_refused(1, 2, 0x304, 8, SHARED, 16, CS_NO_CARD);
     io_refused(2, 2, 0x300, 4, ALONE, 16, CS_NO_CARD);
     io_refused(2, 2, 0, 4, ALONE, 16, CS_NO_CARD);
     io_refused(2, 3, 0x30B, 1, ALONE, 16, CS_IN_USE);
     io_refused(2, 3, 0, 8, ALONE, 16, CS_IN_USE);
     io_chosen(2, 3, 4, ALONE, 16, 0x300);
     must_be(ask_card_in(2), CS_SUCCESS, 0);
-    io_refused(1, 2, 0x304, 8, SHARED, 10, CS_IN_USE);
+    io_refused(1, 2, 0x304, 8, SHARED, 16, CS_IN_USE);
     io_refused(2, 2, 0x30C, 4, ALONE, 16, CS_IN_USE);
     must_be(ask_card_out(2), CS_SUCCESS, 0);
     must_be(ask_card_out(3), CS_SUCCESS, 0);

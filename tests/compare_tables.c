@@ -213,16 +213,64 @@ static void managed_ports_by_hand(void)
     m.range[0] = (struct range){0x308, 8, true};
     m.range[1] = (struct range){0x300, 8, false};
     m.ranges = 2;
-    m.io[0] = (struct io_grant){true, 1, 0x300, 16, 10, false};
+    m.io[0] = (struct io_grant){true, 1, 0x300, 16, 16, false};
     set_is(&m, true);
     m.io[0].count = 17;
     set_is(&m, false);
-    m.io[0] = (struct io_grant){true, 1, 0x2FF, 2, 10, false};
+    m.io[0] = (struct io_grant){true, 1, 0x2FF, 2, 16, false};
     set_is(&m, false);
-    m.io[0] = (struct io_grant){true, 1, 0x307, 2, 10, false};
+    m.io[0] = (struct io_grant){true, 1, 0x307, 2, 16, false};
     set_is(&m, true);
     m.range[0].base = 0x309;
     set_is(&m, false);
+}
+
+/* All ports but so many from the gap on. */
+static void all_but(struct model *m, uint32_t gap, uint32_t count)
+{
+    m->ranges = 0;
+    if (gap > 0)
+        m->range[m->ranges++] = (struct range){0, gap, true};
+    if (gap + count < CS_PORTS)
+        m->range[m->ranges++] = (struct range){gap + count, CS_PORTS - gap - count, false};
+}
+
+static void one_grant_beside(uint16_t base, uint8_t count, uint8_t lines, uint32_t gap,
+                             uint32_t missing, bool good)
+{
+    struct model m = two_sockets();
+    all_but(&m, gap, missing);
+    m.io[1] = (struct io_grant){true, 2, base, count, lines, true};
+    set_is(&m, good);
+}
+
+/* K2: "A saved table with a grant that breaks this rule is no longer well formed."
+   Every entry refuses it; one without such a grant is as good as before. */
+static void repeated_ports_by_hand(void)
+{
+    one_grant_beside(0x6F8, 8, 10, 0x2F8, 8, false);
+    one_grant_beside(0x6F8, 8, 11, 0x2F8, 8, true);
+    one_grant_beside(0x6F8, 8, 16, 0x2F8, 8, true);
+    one_grant_beside(0x6F8, 8, 10, 0x2F8, 1, false);
+    one_grant_beside(0x6F8, 8, 10, 0x2FF, 1, false);
+    one_grant_beside(0x6F8, 8, 10, 0x300, 0x3F8, true);
+    one_grant_beside(0x6F8, 8, 10, 0x300, 0x3F9, false);
+    one_grant_beside(0x6F8, 8, 10, 0, 0x2F8, true);
+    one_grant_beside(0x6F8, 8, 10, 0, 0x2F9, false);
+    one_grant_beside(0x6F8, 8, 10, 0xFEFF, 0x101, false);
+    one_grant_beside(0x6F8, 8, 10, 0xFF00, 0x100, true);
+    one_grant_beside(0x3FE, 8, 10, 0, 1, false);
+    one_grant_beside(0x3FE, 8, 10, 6, 0x3F8, true);
+    one_grant_beside(0x3FE, 8, 10, 0xFFFF, 1, false);
+    one_grant_beside(0xFFF8, 8, 16, 0, 0xFFF8, true);
+    one_grant_beside(0xFFF8, 8, 15, 0, 0x7FF8, true);
+    one_grant_beside(0xFFF8, 8, 15, 0, 0x7FF9, false);
+    one_grant_beside(0x7FFF, 1, 15, 0x8000, 0x7FFF, true);
+    one_grant_beside(0x7FFF, 1, 15, 0x8000, 0x8000, false);
+    one_grant_beside(2, 1, 1, 1, 1, true);
+    one_grant_beside(2, 1, 1, 0, 1, false);
+    one_grant_beside(1, 1, 1, 0xFFFF, 1, false);
+    one_grant_beside(1, 2, 1, 0xFFFF, 1, false);
 }
 
 static void grants_clients_by_hand(void)
@@ -292,6 +340,7 @@ void written_sets(void)
     ranges_by_hand();
     io_grants_by_hand();
     managed_ports_by_hand();
+    repeated_ports_by_hand();
     grants_clients_by_hand();
     meeting_by_hand();
 }
@@ -442,14 +491,19 @@ void damaged_bytes(void)
 
 /* ---- Single bytes of tables that calls made ---- */
 
+/* Two levels; so many ranges of 32 ports from 300 on, and all ports below and above
+   them. */
 static const struct boot_list *list_of(unsigned ranges)
 {
     static struct boot_list list;
+    uint32_t end = 0x300 + 0x20 * ranges;
     list.len = 0;
     put_record(&list, CS_RESOURCE_IRQ, 0, 3, 0);
     put_record(&list, CS_RESOURCE_IRQ, CS_RESERVE, 9, 0);
     for (unsigned i = 0; i < ranges; i++)
         put_record(&list, CS_RESOURCE_IO, i % 2 == 0 ? 0 : CS_RESERVE, 0x300 + 0x20 * i, 0x20);
+    put_record(&list, CS_RESOURCE_IO, CS_RESERVE, end, CS_PORTS - end);
+    put_record(&list, CS_RESOURCE_IO, CS_RESERVE, 0, 0x300);
     return &list;
 }
 
@@ -457,7 +511,7 @@ static const struct boot_list *list_of(unsigned ranges)
 static void make_table(uint32_t sockets, uint16_t clients, unsigned ranges)
 {
     lend_fresh(sockets);
-    must_boot(boot(list_of(ranges)), CS_SUCCESS, 2 + ranges);
+    must_boot(boot(list_of(ranges)), CS_SUCCESS, 4 + ranges);
     for (uint16_t client = 1; client <= clients; client++)
         must_be(register_one(), CS_SUCCESS, client);
     must_be(deregister(2), CS_SUCCESS, 2);
@@ -471,7 +525,7 @@ static void make_small_table(void)
 {
     make_table(2, 3, 2);
     io_granted(1, 0, 0x300, 8, ALONE, 10);
-    io_chosen(3, 1, 20, FIRST_SHARED, 16, 0x320);
+    io_chosen(3, 1, 20, FIRST_SHARED, 16, 0x20);
     irq_granted(3, 0, 0, 0x30, 0x0208, 3);
     irq_granted(3, 1, 0, 0x30, 0x0208, 9);
     must_be(request_mask(1, 1, 0), CS_SUCCESS, 1);

@@ -2,8 +2,9 @@
  * demo.c: the keeper's main job, call by call
  *
  * A table of two sockets, the levels and ports that it manages, two cards and
- * clients that come and go; then three lessons: a handle is not a slot, a refusal
- * tidies nothing, ports whose numbers differ can still be the same port.
+ * clients that come and go; then four lessons: a handle is not a slot, a refusal
+ * tidies nothing, a card answers at more ports than it is given, ports whose
+ * numbers differ can still be the same port.
  */
 #include <stdbool.h>
 #include <stdio.h>
@@ -90,22 +91,26 @@ static void show_levels(void)
 
 static void show_ports(void)
 {
-    uint8_t packet[CS_ADJUST_IO_SHORT_LENGTH] = {CS_ACTION_FIRST, CS_RESOURCE_IO};
+    uint8_t packet[CS_ADJUST_IO_LONG_LENGTH] = {CS_ACTION_FIRST, CS_RESOURCE_IO};
     const char *call = "First range";
     uint32_t answer;
     while (CS_CODE(answer = adjust(packet, sizeof packet)) == CS_SUCCESS) {
         unsigned base = packet[2] | (unsigned)packet[3] << 8;
-        printf("%s: ports %X to %X, %s\n", call, base, base + packet[4] - 1, held(packet[5]));
+        unsigned ports = packet[6] | (unsigned)packet[7] << 8;
+        printf("%s: ports %X to %X, %s\n", call, base, base + ports - 1, held(packet[10]));
         packet[0] = CS_ACTION_NEXT;
         call = "Next range";
     }
     tell_code(call, CS_CODE(answer));
 }
 
-static uint32_t adjust_ports(uint8_t action, uint16_t base, uint8_t ports)
+static uint32_t adjust_ports(uint8_t action, uint16_t base, uint16_t ports)
 {
-    uint8_t packet[CS_ADJUST_IO_SHORT_LENGTH] = {
-        action, CS_RESOURCE_IO, (uint8_t)base, (uint8_t)(base >> 8), ports, 0, CS_LINES};
+    uint8_t packet[CS_ADJUST_IO_LONG_LENGTH] = {action, CS_RESOURCE_IO, (uint8_t)base,
+                                                (uint8_t)(base >> 8)};
+    packet[6] = (uint8_t)ports;
+    packet[7] = (uint8_t)(ports >> 8);
+    packet[11] = CS_LINES;
     return CS_CODE(adjust(packet, sizeof packet));
 }
 
@@ -228,16 +233,28 @@ static void a_refusal_tidies_nothing(void)
     deregister_client(3);
 }
 
-/* A card that decodes ten lines cannot tell 2F8 and 6F8 apart. */
+/* A card that decodes ten lines, at 6F8, answers at 2F8 too: not before 2F8 is managed,
+   and 2F8 stays managed then. */
+static void more_ports_than_given(void)
+{
+    puts("\nA card answers at more ports than it is given: all of them have to be managed.");
+    tell_code("Remove ports 2F8 to 2FF", adjust_ports(CS_ACTION_REMOVE, 0x2F8, 8));
+    tell_code("Add ports 6F8 to 6FF", adjust_ports(CS_ACTION_ADD, 0x6F8, 8));
+    tell_code("Add ports 700 to FFFF", adjust_ports(CS_ACTION_ADD, 0x700, 0xF900));
+    request_io(2, 0, 0x6F8, 10);
+    tell_code("Add ports 2F8 to 2FF", adjust_ports(CS_ACTION_ADD, 0x2F8, 8));
+    request_io(2, 0, 0x6F8, 10);
+    tell_code("Remove ports 2F8 to 2FF", adjust_ports(CS_ACTION_REMOVE, 0x2F8, 8));
+}
+
+/* That card cannot tell 2F8 and 6F8 apart; two that decode all lines can. */
 static void the_same_port(void)
 {
     puts("\nPorts whose numbers differ can still be the same port: 2F8 and 6F8.");
-    tell_code("Add ports 6F8 to 6FF", adjust_ports(CS_ACTION_ADD, 0x6F8, 8));
-    request_io(2, 0, 0x2F8, 10);
-    request_io(3, 1, 0x6F8, 16);
+    request_io(3, 1, 0x2F8, 16);
     request_io(3, 1, 0, 16);
     release_io(3, 1, 0x310);
-    release_io(2, 0, 0x2F8);
+    release_io(2, 0, 0x6F8);
     request_io(2, 0, 0x2F8, 16);
     request_io(3, 1, 0x6F8, 16);
     show_ports();
@@ -267,6 +284,7 @@ int main(void)
     tell_code("Card in, socket 2", cs_card_in(table, sizeof table, 2));
     a_handle_is_not_a_slot();
     a_refusal_tidies_nothing();
+    more_ports_than_given();
     the_same_port();
     a_card_goes();
     return 0;

@@ -46,7 +46,7 @@ int main(void)
         return 1;
 
     io[4] = 8;
-    io[10] = 10;
+    io[10] = CS_LINES;
     answer = cs_call(table, sizeof table, CS_REQUEST_IO, client,
                      io, sizeof io);
     if (CS_CODE(answer) != CS_SUCCESS || io[2] != 0x00 || io[3] != 0x03)

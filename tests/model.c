@@ -119,21 +119,74 @@ static bool in_range(const struct range *r, uint32_t port)
     return r->base <= port && port - r->base < r->count;
 }
 
-static bool port_managed(const struct model *m, uint32_t port, bool unreserved_only)
+/* The range that has this port, or NULL. */
+static const struct range *range_of(const struct model *m, uint32_t port)
 {
     for (unsigned i = 0; i < m->ranges; i++)
-        if (in_range(&m->range[i], port) && !(unreserved_only && m->range[i].reserved))
-            return true;
-    return false;
+        if (in_range(&m->range[i], port))
+            return &m->range[i];
+    return NULL;
 }
 
-static bool ports_managed(const struct model *m, uint32_t base, uint32_t count,
-                          bool unreserved_only)
+/* Whether all of these ports are managed; and then whether none is reserved. */
+static bool ports_managed(const struct model *m, uint32_t base, uint32_t count, bool *unreserved)
 {
-    for (uint32_t port = base; port < base + count; port++)
-        if (!port_managed(m, port, unreserved_only))
+    uint32_t port = base;
+    *unreserved = true;
+    while (port < base + count) {
+        const struct range *r = range_of(m, port);
+        if (r == NULL)
             return false;
+        *unreserved = *unreserved && !r->reserved;
+        port = r->base + r->count;
+    }
     return true;
+}
+
+/* A card answers at "each port that equals a granted one modulo two to the lines"
+   (K2): at the granted ports and at their images, as many ports that begin two to the
+   lines lower or higher, and so on. The lowest image may begin before 0, the highest
+   end past FFFF: there are no such ports. With 16 lines the granted ports are all.
+   Of the image that begins here, whether all ports are managed, and whether one is in
+   this range. */
+static bool image_managed(const struct model *m, const struct io_grant *g, int32_t start)
+{
+    bool unreserved;
+    int32_t end = start + g->count < CS_PORTS ? start + g->count : CS_PORTS;
+    if (start < 0)
+        start = 0;
+    return end <= start || ports_managed(m, (uint32_t)start, (uint32_t)(end - start), &unreserved);
+}
+
+static bool image_in(const struct io_grant *g, int32_t start, const struct range *r)
+{
+    return start < (int32_t)(r->base + r->count) && (int32_t)r->base < start + g->count;
+}
+
+/* K2: each such port "must be managed too". Most images are within the range in which
+   the one before begins. */
+static bool images_managed(const struct model *m, const struct io_grant *g)
+{
+    const struct range *r = NULL;
+    int32_t modulus = (int32_t)1 << g->lines;
+    for (int32_t start = g->base % modulus - modulus; start < CS_PORTS; start += modulus) {
+        if (r != NULL && start + g->count <= (int32_t)(r->base + r->count))
+            continue;
+        if (!image_managed(m, g, start))
+            return false;
+        r = start < 0 ? NULL : range_of(m, (uint32_t)start);
+    }
+    return true;
+}
+
+/* K2: "holds or is repeated at any port of the range." */
+static bool answers_in(const struct io_grant *g, const struct range *r)
+{
+    int32_t modulus = (int32_t)1 << g->lines;
+    for (int32_t start = g->base % modulus - modulus; start < CS_PORTS; start += modulus)
+        if (image_in(g, start, r))
+            return true;
+    return false;
 }
 
 /* "NumPorts1 0 or over two to the lines" is not allowed. */
@@ -159,35 +212,53 @@ static bool in_the_way(const struct model *m, const struct io_grant *wish, bool 
     return false;
 }
 
-/* One past the highest managed port: no candidate reaches beyond. */
-static uint32_t end_of_managed(const struct model *m)
+/* The lowest multiple of the step that isn't below the lowest managed port from here
+   on: none before it has its ports managed. CS_PORTS if there is none. */
+static uint32_t next_multiple(const struct model *m, uint32_t from, uint32_t step)
 {
-    uint32_t end = 0;
-    for (unsigned i = 0; i < m->ranges; i++)
-        if (m->range[i].base + m->range[i].count > end)
-            end = m->range[i].base + m->range[i].count;
-    return end;
+    uint32_t managed = CS_PORTS;
+    for (unsigned i = 0; i < m->ranges; i++) {
+        const struct range *r = &m->range[i];
+        uint32_t lowest = r->base > from ? r->base : from;
+        if (in_range(r, lowest) && lowest < managed)
+            managed = lowest;
+    }
+    return (managed + step - 1) / step * step;
+}
+
+/* "meeting no live grant", and K2: repeated at an unmanaged port, "not a candidate for
+   base 0". Bases that are equal modulo two to the lines meet the same grants and are
+   repeated at the same ports: those found unfit are marked. */
+static bool is_fit(const struct model *m, const struct io_grant *wish, bool unfit[CS_PORTS])
+{
+    bool *mark = &unfit[wish->base % ((uint32_t)1 << wish->lines)];
+    *mark = *mark || in_the_way(m, wish, true) || !images_managed(m, wish);
+    return !*mark;
 }
 
 /* "Base 0: candidates are the positive multiples of the smallest power of two
    not below the count, all ports managed, none past FFFF, meeting no live grant.
    Candidates wholly in unreserved ranges come first, then the lowest; none:
-   IN_USE." The answer is then 0. */
+   IN_USE." The answer is then 0. K2: "The order by reserve looks at the range's own
+   ports alone." */
 static uint32_t choose_base(const struct model *m, struct io_grant *wish)
 {
-    uint32_t step = 1, lowest_reserved = 0, end = end_of_managed(m);
+    static bool unfit[CS_PORTS];
+    bool unreserved;
+    uint32_t step = 1, lowest_reserved = 0;
+    memset(unfit, 0, sizeof unfit);
     while (step < wish->count)
         step *= 2;
-    for (uint32_t base = step; base + wish->count <= end; base += step) {
-        if (!ports_managed(m, base, wish->count, false))
-            continue;
+    for (uint32_t base = next_multiple(m, step, step); base + wish->count <= CS_PORTS;
+         base = next_multiple(m, base + step, step)) {
         wish->base = (uint16_t)base;
-        if (in_the_way(m, wish, true))
+        if (!ports_managed(m, base, wish->count, &unreserved))
             continue;
-        if (ports_managed(m, base, wish->count, true))
+        if ((lowest_reserved != 0 && !unreserved) || !is_fit(m, wish, unfit))
+            continue;
+        if (unreserved)
             return base;
-        if (lowest_reserved == 0)
-            lowest_reserved = base;
+        lowest_reserved = base;
     }
     return lowest_reserved;
 }
@@ -208,7 +279,8 @@ static bool io_attributes_allowed(uint8_t attributes, uint8_t lines)
     return lines_allowed(lines);
 }
 
-/* The base for a request, or the code of its refusal. */
+/* The base for a request, or the code of its refusal. K2: "BAD_BASE for a named
+   base". */
 static uint32_t place_io(const struct model *m, struct io_grant *wish, bool first_shared)
 {
     uint32_t base = wish->base;
@@ -217,7 +289,7 @@ static uint32_t place_io(const struct model *m, struct io_grant *wish, bool firs
         wish->base = (uint16_t)base;
         return base == 0 ? CS_IN_USE : CS_SUCCESS;
     }
-    if (base + wish->count > CS_PORTS || !ports_managed(m, base, wish->count, false))
+    if (base + wish->count > CS_PORTS || !images_managed(m, wish))
         return CS_BAD_BASE;
     return in_the_way(m, wish, first_shared) ? CS_IN_USE : CS_SUCCESS;
 }
@@ -547,16 +619,17 @@ static bool holds_port_of(const struct io_grant *g, const struct range *r)
     return g->live && overlap(g->base, g->count, r->base, r->count);
 }
 
-static bool range_held(const struct model *m, const struct range *r)
+/* K2: "Remove is IN_USE if a live grant holds or is repeated at any port of the
+   range." */
+static bool range_in_use(const struct model *m, const struct range *r)
 {
     for (unsigned s = 0; s < CS_SOCKETS; s++)
-        if (holds_port_of(&m->io[s], r))
+        if (m->io[s].live && answers_in(&m->io[s], r))
             return true;
     return false;
 }
 
-/* "Remove: no range with just that base and count BAD_BASE; a live grant
-   holding a port of it IN_USE." */
+/* "Remove: no range with just that base and count BAD_BASE", then IN_USE. */
 static uint32_t remove_range(struct model *m, const struct io_fields *f)
 {
     uint32_t code = io_fields_code(CS_ACTION_REMOVE, f);
@@ -565,7 +638,7 @@ static uint32_t remove_range(struct model *m, const struct io_fields *f)
     struct range *range = exact_range(m, f->base, f->ports);
     if (range == NULL)
         return CS_BAD_BASE;
-    if (range_held(m, range))
+    if (range_in_use(m, range))
         return CS_IN_USE;
     *range = m->range[--m->ranges];
     return CS_SUCCESS;
@@ -923,13 +996,14 @@ static bool ranges_good(const struct model *m)
 
 /* "every grant and mask has a live client and a socket below the count; granted
    levels and ports are managed; an I/O grant has base 1 or more, lines 1 to 16
-   and a count RequestIO allows" */
+   and a count RequestIO allows". K2: "A saved table with a grant that breaks this
+   rule is no longer well formed." */
 static bool io_grant_good(const struct model *m, unsigned socket)
 {
     const struct io_grant *g = &m->io[socket];
     return socket < m->sockets && is_live(m, g->client) && g->base >= 1 &&
            lines_allowed(g->lines) && count_allowed(g->count, g->lines) &&
-           ports_managed(m, g->base, g->count, false);
+           (uint32_t)g->base + g->count <= CS_PORTS && images_managed(m, g);
 }
 
 /* "grants meet only as demand 3 allows": both share. */

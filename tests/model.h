@@ -1,5 +1,6 @@
 /*
- * model.h: document 01 once more, in plain C, as K1 of document 02 amends it
+ * model.h: document 01 once more, in plain C, as K1 and K2 of document 02 amend
+ * it
  *
  * Written from the documents and the volume alone, for comparison with the
  * proved library: a set of facts and the rules over it, for all nine services

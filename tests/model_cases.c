@@ -599,7 +599,7 @@ static void ports_that_hold(void)
         add_io(&m, 0x2F0, 16);
         add_io(&m, 0x300, 16);
         long_io(&m, CS_ACTION_ADD, 0x310, 0x500);
-        m.io[3] = (struct io_grant){true, 2, grants[i].base, grants[i].count, 10, false};
+        m.io[3] = (struct io_grant){true, 2, grants[i].base, grants[i].count, 16, false};
         expect("the holder", model_call(&m, CS_ADJUST_RESOURCE_INFO, 9, range, 7) ==
                                  (grants[i].holds ? 2u << 16 : 0));
         expect("bit 7", range[5] == (grants[i].holds ? 0x80 : 0));
@@ -811,6 +811,7 @@ int main(void)
     boot_places();
     range_limit();
     io_cases();
+    answering_cases();
     log_cases();
     runs();
     printf("model_cases: %lu checks, %lu differ\n", checks, failed);

@@ -21,12 +21,19 @@ uint32_t add_io(struct model *m, uint16_t base, uint8_t ports);
 
 uint32_t deregister(struct model *m, uint16_t handle);
 
-/* RequestIO of client 1. */
+/* RequestIO of client 1, by its code, or with BasePort1 told too; ReleaseIO of
+   client 1. */
 uint32_t request_io_code(struct model *m, uint8_t socket, uint16_t base, uint8_t ports,
                          uint8_t attributes, uint8_t lines);
+uint32_t request_io_base(struct model *m, uint8_t socket, uint16_t base, uint8_t ports,
+                         uint8_t attributes, uint8_t lines, uint16_t *given);
+uint32_t release_io_code(struct model *m, uint8_t socket, uint16_t base, uint8_t ports);
 
 /* model_io_cases.c: ports, RequestIO and ReleaseIO */
 void io_cases(void);
+
+/* model_answering_cases.c: K2, the ports at which a card answers */
+void answering_cases(void);
 
 /* log_cases.c: what stands after a log, which log.c works out */
 void log_cases(void);

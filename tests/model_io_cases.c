@@ -20,8 +20,8 @@ static void io_numbers(void)
 /* ---- Short ways to ask ---- */
 
 /* BasePort1 is told. */
-static uint32_t request_io(struct model *m, uint8_t socket, uint16_t base, uint8_t ports,
-                           uint8_t attributes, uint8_t lines, uint16_t *given)
+uint32_t request_io_base(struct model *m, uint8_t socket, uint16_t base, uint8_t ports,
+                         uint8_t attributes, uint8_t lines, uint16_t *given)
 {
     uint8_t packet[11] = {socket, 0,          (uint8_t)base, (uint8_t)(base >> 8),
                           ports,  attributes, 0xAA,          0xAA,
@@ -35,7 +35,7 @@ uint32_t request_io_code(struct model *m, uint8_t socket, uint16_t base, uint8_t
                          uint8_t attributes, uint8_t lines)
 {
     uint16_t given;
-    return request_io(m, socket, base, ports, attributes, lines, &given);
+    return request_io_base(m, socket, base, ports, attributes, lines, &given);
 }
 
 static uint32_t release_io(struct model *m, uint8_t socket, uint16_t handle, uint16_t base,
@@ -44,6 +44,11 @@ static uint32_t release_io(struct model *m, uint8_t socket, uint16_t handle, uin
     uint8_t packet[11] = {
         socket, 0, (uint8_t)base, (uint8_t)(base >> 8), ports, 0xFF, 0xAA, 0xAA, ports_2, 0xFF, 0};
     return model_call(m, CS_RELEASE_IO, handle, packet, sizeof packet);
+}
+
+uint32_t release_io_code(struct model *m, uint8_t socket, uint16_t base, uint8_t ports)
+{
+    return release_io(m, socket, 1, base, ports, 0);
 }
 
 /* ---- N1 to N4, N8 and N9 ---- */
@@ -77,12 +82,12 @@ static void n8_n9(void)
     uint16_t given;
     ready(&m);
     add_io(&m, 0x300, 16);
-    expect_code("N8 held", request_io(&m, 0, 0x300, 8, 0, 16, &given), CS_SUCCESS);
-    expect_code("N8", request_io(&m, 1, 0, 8, 0, 16, &given), CS_SUCCESS);
+    expect_code("N8 held", request_io_base(&m, 0, 0x300, 8, 0, 16, &given), CS_SUCCESS);
+    expect_code("N8", request_io_base(&m, 1, 0, 8, 0, 16, &given), CS_SUCCESS);
     expect("N8 gives 308", given == 0x308);
     ready(&m);
     add_io(&m, 0x302, 11);
-    expect_code("N9", request_io(&m, 0, 0, 5, 0, 16, &given), CS_SUCCESS);
+    expect_code("N9", request_io_base(&m, 0, 0, 5, 0, 16, &given), CS_SUCCESS);
     expect("N9 gives 308", given == 0x308);
 }
 
@@ -153,6 +158,10 @@ static void request_io_codes(void)
         add_io(&m, 0xFFF8, 8);
         if (cases[i].ports == 24)
             add_io(&m, 0x310, 8);
+        if (cases[i].lines < 16) { /* all ports: the card answers at many */
+            long_io(&m, CS_ACTION_ADD, 0, 0x300);
+            long_io(&m, CS_ACTION_ADD, 0x310, 0xFCE8);
+        }
         expect_code(cases[i].what,
                     request_io_code(&m, 0, cases[i].base, cases[i].ports, cases[i].attributes,
                                     cases[i].lines),
@@ -200,7 +209,8 @@ static void io_packets(void)
     uint8_t named[11] = {7, 0, 4, 3, 4, 0x0D, 0xFF, 0xFF, 0, 0xFF, 12};
     uint8_t chosen[11] = {6, 0, 0, 0, 3, 0x0C, 1, 2, 0, 3, 16};
     ready(&m);
-    add_io(&m, 0x302, 16);
+    for (unsigned i = 0; i < 16; i++) /* where a card of 12 lines answers */
+        add_io(&m, (uint16_t)(0x302 + 0x1000 * i), 16);
     expect("a named base", model_call(&m, CS_REQUEST_IO, 2, named, 11) == 2u << 16);
     expect("its packet", memcmp(named, "\x07\x00\x04\x03\x04\x0D\xFF\xFF\x00\xFF\x0C", 11) == 0);
     expect("its grant", m.io[7].live && m.io[7].client == 2 && m.io[7].base == 0x304 &&
@@ -216,14 +226,15 @@ static void io_sharing(void)
     struct model m;
     uint16_t given;
     ready(&m);
-    add_io(&m, 0x2F8, 16);
-    add_io(&m, 0x6F8, 8);
-    request_io(&m, 0, 0x6F8, 8, 1, 10, &given);
+    m.range[m.ranges++] = (struct range){0, 0x2F8, true};
+    m.range[m.ranges++] = (struct range){0x2F8, 16, false};
+    m.range[m.ranges++] = (struct range){0x308, 0xFCF8, true};
+    request_io_base(&m, 0, 0x6F8, 8, 1, 10, &given);
     expect_code("an alias, not shared", request_io_code(&m, 1, 0x2F8, 8, 0, 16), CS_IN_USE);
     expect_code("an alias, First Shared", request_io_code(&m, 1, 0x2F8, 8, 3, 16), CS_IN_USE);
     expect_code("an alias, shared", request_io_code(&m, 1, 0x2F8, 8, 1, 16), CS_SUCCESS);
     expect_code("a second on the socket", request_io_code(&m, 1, 0x300, 8, 1, 16), CS_IN_USE);
-    request_io(&m, 2, 0, 8, 1, 16, &given);
+    request_io_base(&m, 2, 0, 8, 1, 16, &given);
     expect("base 0 meets no live grant, also if shared", given == 0x300);
 }
 
@@ -254,37 +265,41 @@ static void io_choice(void)
     short_io(&m, CS_ACTION_ADD, 0x200, 16, CS_RESERVE);
     short_io(&m, CS_ACTION_ADD, 0x300, 4, 0);
     short_io(&m, CS_ACTION_ADD, 0x304, 4, CS_RESERVE);
-    request_io(&m, 0, 0, 8, 0, 16, &given);
+    request_io_base(&m, 0, 0, 8, 0, 16, &given);
     expect("half reserved is not wholly unreserved", given == 0x200);
-    request_io(&m, 1, 0, 4, 0, 16, &given);
+    request_io_base(&m, 1, 0, 4, 0, 16, &given);
     expect("unreserved first", given == 0x300);
-    request_io(&m, 2, 0, 4, 0, 16, &given);
+    request_io_base(&m, 2, 0, 4, 0, 16, &given);
     expect("then the lowest reserved", given == 0x208);
     ready(&m);
     long_io(&m, CS_ACTION_ADD, 0, CS_PORTS);
-    request_io(&m, 0, 0, 255, 0, 16, &given);
+    request_io_base(&m, 0, 0, 255, 0, 16, &given);
     expect("a positive multiple", given == 256);
 }
 
 /* ---- The choice by its letter ---- */
 
-/* A world of few ports; what is asked for has fewer than ROOM. */
+/* The ports below WORLD are managed by chance; those from there on all are, or none
+   is. What is asked for has fewer than ROOM. */
 enum { WORLD = 64, ROOM = 16 };
 
-/* For every port whether it is managed, and whether in an unreserved range. */
+/* For every port whether it is managed, and whether in an unreserved range; and for
+   every rest modulo two to the lines whether a port that leaves it isn't managed. */
 struct port_map {
-    bool managed[WORLD + ROOM], unreserved[WORLD + ROOM];
+    bool managed[CS_PORTS + ROOM], unreserved[CS_PORTS + ROOM], lacking[CS_PORTS];
 };
 
-static struct port_map map_of(const struct model *m)
+static void map_of(const struct model *m, unsigned lines, struct port_map *map)
 {
-    struct port_map map = {{false}, {false}};
+    memset(map, 0, sizeof *map);
     for (unsigned i = 0; i < m->ranges; i++)
         for (uint32_t p = 0; p < m->range[i].count; p++) {
-            map.managed[m->range[i].base + p] = true;
-            map.unreserved[m->range[i].base + p] = !m->range[i].reserved;
+            map->managed[m->range[i].base + p] = true;
+            map->unreserved[m->range[i].base + p] = !m->range[i].reserved;
         }
-    return map;
+    for (uint32_t p = 0; p < CS_PORTS; p++)
+        if (!map->managed[p])
+            map->lacking[p % (1u << lines)] = true;
 }
 
 static bool smallest_power(uint32_t power, uint32_t count)
@@ -293,8 +308,11 @@ static bool smallest_power(uint32_t power, uint32_t count)
 }
 
 /* "the positive multiples of the smallest power of two not below the count, all
-   ports managed, .. meeting no live grant", with every port in what is marked. */
-static bool is_candidate(const struct model *m, const bool *marked, const struct io_grant *wish)
+   ports managed, .. meeting no live grant", with every port in what is marked. K2:
+   "each port that equals a granted one modulo two to the lines must be managed
+   too". */
+static bool is_candidate(const struct model *m, const struct port_map *map, const bool *marked,
+                         const struct io_grant *wish)
 {
     uint32_t power = 1;
     while (!smallest_power(power, wish->count))
@@ -302,7 +320,7 @@ static bool is_candidate(const struct model *m, const bool *marked, const struct
     if (wish->base == 0 || wish->base % power != 0)
         return false;
     for (unsigned i = 0; i < wish->count; i++)
-        if (!marked[wish->base + i])
+        if (!marked[wish->base + i] || map->lacking[(wish->base + i) % (1u << wish->lines)])
             return false;
     for (unsigned s = 0; s < CS_SOCKETS; s++)
         if (m->io[s].live && meet_by_letter(&m->io[s], wish))
@@ -311,15 +329,19 @@ static bool is_candidate(const struct model *m, const bool *marked, const struct
 }
 
 /* 0 if there is none. */
-static uint16_t lowest_candidate(const struct model *m, const bool *marked, struct io_grant wish)
+static uint16_t lowest_candidate(const struct model *m, const struct port_map *map,
+                                 const bool *marked, struct io_grant wish)
 {
-    for (wish.base = 0; wish.base < WORLD; wish.base++)
-        if (is_candidate(m, marked, &wish))
+    for (uint32_t base = 0; base < CS_PORTS; base++) {
+        wish.base = (uint16_t)base;
+        if (is_candidate(m, map, marked, &wish))
             return wish.base;
+    }
     return 0;
 }
 
-/* Up to four ranges, and three grants if the requests are granted. */
+/* Up to four ranges, the ports from WORLD on, and three grants if the requests are
+   granted. */
 static void some_world(struct chance *c, struct model *m)
 {
     ready(m);
@@ -329,38 +351,44 @@ static void some_world(struct chance *c, struct model *m)
         if (base + count <= WORLD)
             short_io(m, CS_ACTION_ADD, (uint16_t)base, (uint8_t)count, attributes);
     }
+    if (one_in(c, 2))
+        m->range[m->ranges++] = (struct range){WORLD, CS_PORTS - WORLD, true};
     for (uint8_t s = 1; s <= 3; s++) {
         uint16_t base = (uint16_t)(1 + pick(c, WORLD - 1));
         uint8_t count = (uint8_t)(1 + pick(c, 4)), lines = (uint8_t)(4 + pick(c, 4));
-        request_io_code(m, s, base, count, (uint8_t)pick(c, 2), lines);
+        uint8_t attributes = (uint8_t)pick(c, 2);
+        request_io_code(m, s, base, count, attributes, one_in(c, 3) ? 16 : lines);
     }
 }
 
 /* "Candidates wholly in unreserved ranges come first, then the lowest; none:
-   IN_USE." */
+   IN_USE." K2: "The order by reserve looks at the range's own ports alone." */
 static void choice_by_letter(void)
 {
+    static struct port_map map;
     struct chance c = {2};
-    unsigned passed_over = 0, reserved = 0, none = 0, tried = 2000;
+    unsigned passed_over = 0, reserved = 0, few_lines = 0, none = 0, tried = 1000;
     for (unsigned i = 0; i < tried; i++) {
         struct model m;
         uint16_t given;
         some_world(&c, &m);
-        struct port_map map = map_of(&m);
         uint8_t count = (uint8_t)(1 + pick(&c, 9)), lines = one_in(&c, 2) ? 16 : 5;
-        uint16_t unreserved = lowest_candidate(&m, map.unreserved, ports(0, count, lines));
-        uint16_t any = lowest_candidate(&m, map.managed, ports(0, count, lines));
+        map_of(&m, lines, &map);
+        uint16_t unreserved = lowest_candidate(&m, &map, map.unreserved, ports(0, count, lines));
+        uint16_t any = lowest_candidate(&m, &map, map.managed, ports(0, count, lines));
         uint16_t by_letter = unreserved != 0 ? unreserved : any;
         expect_code("a choice by its letter",
-                    request_io(&m, 0, 0, count, (uint8_t)(i % 2), lines, &given),
+                    request_io_base(&m, 0, 0, count, (uint8_t)(i % 2), lines, &given),
                     by_letter == 0 ? CS_IN_USE : CS_SUCCESS);
         expect("the base by its letter", given == by_letter);
         passed_over += unreserved > any;
         reserved += unreserved == 0 && any != 0;
+        few_lines += lines == 5 && any != 0;
         none += any == 0;
     }
     expect("a lower reserved one was passed over", passed_over >= tried / 20);
     expect("reserved ones were taken", reserved >= tried / 20);
+    expect("some were by few lines", few_lines >= tried / 20);
     expect("some found none", none >= tried / 20);
 }
 

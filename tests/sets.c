@@ -58,6 +58,31 @@ void full_set(struct model *m, unsigned clients)
     }
 }
 
+/* clang-format off */
+static const struct range gapped[] = {
+    {0x0515, 411, false}, {0x09AC, 463, false}, {0x11FB, 268, false}, {0x19B5, 468, false},
+    {0x207C, 418, false}, {0x241B, 485, false}, {0x31DB, 147, false}, {0x3785, 186, false},
+    {0x3F59, 302, false}, {0x4B86, 138, false}, {0x57E5, 129, false}, {0x5B01, 562, false},
+    {0x62ED,  72, false}, {0x6E13, 145, false}, {0x7482, 915, true},  {0x7A27, 382, false},
+    {0x86AD, 202, false}, {0x8E16, 135, false}, {0x9377,  69, false}, {0x9ED2, 312, false},
+    {0xA34B,  17, false}, {0xAFA1,  55, false}, {0xB446,  82, false}, {0xBCD0, 658, false},
+    {0xC582, 1244, false}, {0xCC27, 284, false}, {0xD96B, 119, false}, {0xDD8F, 337, false},
+    {0xE7AF, 438, false}, {0xF055, 553, false}, {0xF617,  34, true},
+};
+/* clang-format on */
+
+void gapped_set(struct model *m)
+{
+    model_fresh(m, CS_SOCKETS);
+    m->clients = m->issued = CS_CLIENTS;
+    for (unsigned i = 0; i < CS_CLIENTS; i++)
+        m->client[i] = (struct client){.handle = (uint16_t)(i + 1), .attributes = CS_IO_CLIENT};
+    for (unsigned s = 0; s < CS_SOCKETS; s++)
+        m->card[s] = true;
+    m->ranges = sizeof gapped / sizeof *gapped;
+    memcpy(m->range, gapped, sizeof gapped);
+}
+
 static uint16_t allowed_attributes(struct chance *c)
 {
     uint32_t type = pick(c, 3), insertion = pick(c, 4);
@@ -101,9 +126,51 @@ static uint8_t some_lines(struct chance *c)
 static void random_range(struct chance *c, struct model *m)
 {
     uint32_t base = some_port(c), count = some_count(c);
+    if (m->ranges == CS_RANGES)
+        return;
     m->range[m->ranges++] = (struct range){base, count, one_in(c, 3)};
     if (!well_formed(m))
         m->ranges--;
+}
+
+/* All ports but a few: ranges that adjoin, or have a short gap between them. */
+static void nearly_all_ports(struct chance *c, struct model *m)
+{
+    uint32_t from = one_in(c, 2) ? 0 : pick(c, 4);
+    for (unsigned left = 1 + pick(c, 8); left > 0 && from < CS_PORTS; left--) {
+        uint32_t most = CS_PORTS - from, count = 1 + pick(c, one_in(c, 3) ? most : most / 4 + 1);
+        if (left == 1)
+            count = one_in(c, 4) ? most - pick(c, 2) : most;
+        m->range[m->ranges++] = (struct range){from, count, one_in(c, 3)};
+        from += count + (one_in(c, 2) ? 0 : pick(c, 4));
+    }
+}
+
+/* Ranges that lie alike, two to 11 or more ports apart; one of them may lack a
+   port. */
+static void alike_ranges(struct chance *c, struct model *m)
+{
+    uint32_t apart = 0x800u << pick(c, 5), from = pick(c, apart), most = apart - from;
+    uint32_t count = 1 + pick(c, most < 64 ? most : 64);
+    for (uint32_t base = from; base < CS_PORTS; base += apart)
+        m->range[m->ranges++] = (struct range){base, count, one_in(c, 3)};
+    if (count > 1 && one_in(c, 2))
+        m->range[pick(c, m->ranges)].count--;
+}
+
+void repeating_ranges(struct chance *c, struct model *m)
+{
+    switch (pick(c, 5)) {
+    case 0:
+        m->range[m->ranges++] = (struct range){0, CS_PORTS, one_in(c, 2)};
+        break;
+    case 1:
+    case 2:
+        alike_ranges(c, m);
+        break;
+    default:
+        nearly_all_ports(c, m);
+    }
 }
 
 static uint16_t some_client(struct chance *c, const struct model *m)
@@ -159,8 +226,8 @@ void random_set(struct chance *c, struct model *m)
     }
     for (unsigned tries = m->issued == 0 ? 0 : pick(c, CS_CLIENTS + 1); tries > 0; tries--)
         random_client(c, m);
-    if (one_in(c, 8))
-        m->range[m->ranges++] = (struct range){0, CS_PORTS, one_in(c, 2)};
+    if (one_in(c, 2))
+        repeating_ranges(c, m);
     for (unsigned tries = pick(c, CS_RANGES); tries > 0; tries--)
         random_range(c, m);
     for (unsigned s = 0; m->clients > 0 && s < m->sockets; s++)
@@ -217,7 +284,17 @@ static uint32_t perhaps_wide(struct chance *c, uint32_t number)
                         : known[pick(c, sizeof known / sizeof *known)];
 }
 
-/* Ports that are managed, or next to them, or others. */
+/* How many ports from here on up to the next range, or to the last port. */
+static uint32_t unmanaged_from(const struct model *m, uint32_t port)
+{
+    uint32_t next = CS_PORTS;
+    for (unsigned i = 0; i < m->ranges; i++)
+        if (m->range[i].base >= port && m->range[i].base < next)
+            next = m->range[i].base;
+    return next - port;
+}
+
+/* Ports that are managed, or next to them, or all of a short gap, or others. */
 static struct range some_ports(struct chance *c, const struct model *m)
 {
     uint32_t base = one_in(c, 2) ? pick(c, CS_PORTS) : some_port(c);
@@ -228,6 +305,8 @@ static struct range some_ports(struct chance *c, const struct model *m)
         switch (pick(c, 4)) {
         case 0:
             ports.base += known->count;
+            if (unmanaged_from(m, ports.base) < 16)
+                ports.count = unmanaged_from(m, ports.base);
             break;
         case 1:
             ports.base += pick(c, 3) - 1;
@@ -341,8 +420,9 @@ static void release_irq_packet(struct chance *c, const struct model *m, struct r
     r->handle = one_in(c, 4) || !g->live ? r->handle : g->client;
 }
 
-/* A managed port, a granted one or an image of it, or another. */
-static uint32_t some_base(struct chance *c, const struct model *m)
+/* A managed port, a granted one or an image of it, one near the image of a range's
+   end, or another. */
+static uint32_t some_base(struct chance *c, const struct model *m, uint8_t lines)
 {
     const struct io_grant *g = &m->io[pick(c, CS_SOCKETS)];
     if (g->live && one_in(c, 3))
@@ -350,18 +430,21 @@ static uint32_t some_base(struct chance *c, const struct model *m)
     if (m->ranges == 0 || one_in(c, 4))
         return some_port(c);
     const struct range *r = &m->range[pick(c, m->ranges)];
-    return r->base + pick(c, r->count);
+    uint32_t within = pick(c, r->count), near = pick(c, 12);
+    if (lines <= CS_LINES && one_in(c, 4))
+        return r->base + r->count + (pick(c, 4) << lines) - near;
+    return r->base + within;
 }
 
 /* Base 0 in every third. */
 static void request_io_packet(struct chance *c, const struct model *m, struct request *r)
 {
     put_socket(c, m, r, io_free);
-    put(r, 2, 2, one_in(c, 3) ? 0 : some_base(c, m));
+    r->packet[10] = one_in(c, 16) ? byte(c) : some_lines(c);
+    put(r, 2, 2, one_in(c, 3) ? 0 : some_base(c, m, r->packet[10]));
     r->packet[4] = (uint8_t)some_count(c);
     r->packet[5] = one_in(c, 8) ? byte(c) : (uint8_t)pick(c, 16);
     r->packet[8] = one_in(c, 16) ? byte(c) : 0;
-    r->packet[10] = one_in(c, 16) ? byte(c) : some_lines(c);
 }
 
 static void release_io_packet(struct chance *c, const struct model *m, struct request *r)

@@ -19,6 +19,15 @@ bool one_in(struct chance *c, uint32_t many);
    mask on each socket. */
 void full_set(struct model *m, unsigned clients);
 
+/* A table with 16 clients, a card in each socket, and 31 ranges of many sizes with
+   gaps between them. Nobody holds anything. The search for a base for a
+   card of 15 lines is long there. */
+void gapped_set(struct model *m);
+
+/* Ranges of a set that has none, by which many ports are repeated at managed ones:
+   all ports, all but a few, or ranges that lie alike; and then often a port short. */
+void repeating_ranges(struct chance *c, struct model *m);
+
 /* Some well-formed set. */
 void random_set(struct chance *c, struct model *m);
 

@@ -1,48 +1,67 @@
 -- What the bytes say of the ports at a named base: whether they are managed, and what is in their way. Assumes nothing.
 use mathlib.Core.Path.{_≡_, sym, subst}
-use mathlib.Core.Logic.{_⊎_, inl, inr}
+use mathlib.Core.Logic.{_⊎_, inl, inr, ⊎-elim}
 use mathlib.Core.List.{List}
 use mathlib.Core.Bool.{Bool, true, not}
 use Prim.Native.Nat.{ℕ, _+_, _<_}
+use native.Mathlib.Decide.{decLt}
 use native.Mathlib.Omega.{arith}
 use Rattle.facts.specs.Table
 use Rattle.facts.specs.Table.{Ports, IoGrant}
 use Rattle.facts.specs.Says.{Says}
 use Rattle.facts.specs.Packets.{byte}
-use Rattle.facts.specs.Ports.{Within, Meet, AllManaged}
+use Rattle.facts.specs.Ports.{Within, Meet, AllManaged, AnswersManaged}
 use Rattle.facts.specs.Io.{baseAsked, countAsked, linesAsked, portsAt, IoShared, IoFirstShared, NotAllManaged, InTheWay}
 use Rattle.facts.proofs.Says.{says-as, says-not}
+use Rattle.facts.proofs.Told.{told}
+use Rattle.facts.proofs.Formed.{own-answers}
 use Rattle.layout.specs.Reading.{ioPlace, ioIn}
-use Rattle.layout.specs.Sound.{Accepted, ManagedIn}
+use Rattle.layout.specs.Sound.{Accepted}
 use Rattle.layout.proofs.Of
 use Rattle.layout.proofs.Ios.{marked-shared, shared-marked}
 use Rattle.reading.proofs.Some.{Some}
+use Rattle.answering.specs.Gaps.{AllManagedIn}
 use Rattle.meeting.specs.Meeting.{MeetsOn}
 use Rattle.bases.specs.Bases.{Stands}
 
--- all the ports lie in listed ranges
-abbrev pub Covered : List ℕ → ℕ → ℕ → Type 0
-Covered b base count = (q : ℕ) → Within q base count → ManagedIn b q
-
--- whether the ports that a packet names are managed; base and count are what is read there
-module _ (b p : List ℕ) {base count : ℕ} (base-is : base ≡ baseAsked p) (count-is : count ≡ countAsked p) (a : Accepted b) where
+-- whether the ports that a packet names are managed, and wherever their card answers; base, count and lines are what is read there
+module _ (b p : List ℕ) {base count lines : ℕ} (base-is : base ≡ baseAsked p) (count-is : count ≡ countAsked p) (lines-is : lines ≡ linesAsked p)
+    (a : Accepted b) where
   pub past-ports : Table.allPorts < base + count → NotAllManaged (a .facts) p
   past-ports l = inl (omega (arith, base-is, count-is))
 
-  covered-said : Covered b base count → AllManaged (a .facts) (baseAsked p) (countAsked p)
-  covered-said f q w =
-      Of.managed-said b a q (f q (record { from = omega (arith, base-is, w .from); below = omega (arith, base-is, count-is, w .below) }))
+  -- the ports read are those asked for
+  abbrev read : Ports
+  read = record { base = base; count = count; lines = lines }
 
-  said-covered : AllManaged (a .facts) (baseAsked p) (countAsked p) → Covered b base count
-  said-covered f q w =
-      Of.said-managed b a q (f q (record { from = omega (arith, base-is, w .from); below = omega (arith, base-is, count-is, w .below) }))
+  asked : read ≡ portsAt p (baseAsked p)
+  asked = λ i. record { base = base-is i; count = count-is i; lines = lines-is i }
 
-  pub uncovered : (Covered b base count → ⊥) → NotAllManaged (a .facts) p
-  uncovered n = inr (λ f. n (said-covered f))
+  module _ (within : Table.allPorts < base + count → ⊥) where
+    -- the own ports are among those where the card answers
+    pub unmanaged : (AllManagedIn b read → ⊥) → NotAllManaged (a .facts) p
+    unmanaged n =
+        inr (inr (λ f.
+        subst (λ (r : Ports). AllManagedIn b r → ⊥) asked n
+        (record {
+          own = λ q w. Of.said-managed b a q (f q (own-answers (portsAt p (baseAsked p)) q (low q w) w));
+          answers = λ q y. Of.said-managed b a q (f q y);
+        })))
+      where
+        low : (q : ℕ) → Within q (baseAsked p) (countAsked p) → q < Table.allPorts
+        low q w = told (decLt q Table.allPorts) (λ d. within (omega (arith, base-is, count-is, w .below)))
 
-  pub all-covered : (Table.allPorts < base + count → ⊥) → Covered b base count → NotAllManaged (a .facts) p → ⊥
-  all-covered within f (inl l) = within (omega (arith, base-is, count-is))
-  all-covered within f (inr n) = n (covered-said f)
+    pub all-managed : AllManagedIn b read → NotAllManaged (a .facts) p → ⊥
+    all-managed f = ⊎-elim (λ l. within (omega (arith, base-is, count-is))) (⊎-elim (λ n. n own) (λ n. n answers))
+      where
+        here : AllManagedIn b (portsAt p (baseAsked p))
+        here = subst (AllManagedIn b) asked f
+
+        own : AllManaged (a .facts) (baseAsked p) (countAsked p)
+        own q w = Of.managed-said b a q (here .own q w)
+
+        answers : AnswersManaged (a .facts) (portsAt p (baseAsked p))
+        answers q y = Of.managed-said b a q (here .answers q y)
 
 -- a grant shares exactly if its record is marked
 pub share-says : (b p : List ℕ) (s : ℕ) {r : Bool} → IoShared p → Says r (byte b (ioPlace s + 6) ≡ 1)

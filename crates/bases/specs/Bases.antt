@@ -16,7 +16,7 @@ use Rattle.bases.specs.declared.Way.the-variants as way
 use Rattle.bases.specs.declared.Base.{Base}
 use Rattle.bases.specs.declared.Base.the-variants as base
 
--- the ports at the base that is named are managed, all of them, or not
+-- the ports at the base that is named are managed, all of them, and wherever their card answers; or not
 abbrev pub PortsAre : List ℕ → List ℕ → Ports → Type 0
 PortsAre b p ports.Managed = (a : Accepted b) → NotAllManaged (a .facts) p → ⊥
 PortsAre b p ports.Other = (a : Accepted b) → NotAllManaged (a .facts) p

@@ -1,4 +1,5 @@
 // The base that a request for I/O ports takes, on a table that is the image of a well-formed set: the one that it names, or the first candidate.
+use answering::ROWS;
 use candidates::Taken;
 use facts::Code;
 use facts::Socket;
@@ -20,22 +21,25 @@ ghost use Rattle.layout.specs.Reading.{ioIn};
 ghost use Rattle.layout.specs.Sound.{Accepted};
 ghost use Rattle.bases.specs.Bases.{Stands, PortsAre, WayIs, BaseIs};
 
-// "Base not 0: a port past FFFF or unmanaged, BAD_BASE."
+// "Base not 0: a port past FFFF or unmanaged, BAD_BASE"; so is one where the card would answer at a port that isn't managed (K2).
 pub enum Ports {
     Managed,
     Other,
 }
 
 fn ports_asked(t: &[u8], p: &[u8]) -> Ports
-    requires { ⌜ Accepted (now t) × (length (now p) ≡ requestIoLength) ⌝ }
+    requires { ⌜ Accepted (now t) × (length (now p) ≡ requestIoLength) × (linesAsked (now p) ≤ Table.mostLines) × (1 ≤ countAsked (now p)) ⌝ }
     ensures { λ r. ⌜ PortsAre (now (t .entry)) (now (p .entry)) r ⌝ }
 {
     let base = io_packets::base_asked(p);
     let count = io_packets::count_asked(p);
+    let lines = io_packets::lines_asked(p);
     if ALL_PORTS < base + count {
         return Ports::Other;
     }
-    if !reading::managed(t, base, count) {
+    let mut rows: [u16; ROWS] = [0; ROWS];
+    answering::gap_rows(t, lines, &mut rows);
+    if !answering::managed(t, &rows, base, count, lines) {
         return Ports::Other;
     }
     Ports::Managed
@@ -97,7 +101,7 @@ pub enum Base {
 
 // "Base not 0"
 fn named(t: &[u8], p: &[u8], base: usize) -> Base
-    requires { ⌜ Accepted (now t) × (length (now p) ≡ requestIoLength) × (linesAsked (now p) ≤ Table.mostLines) ⌝ }
+    requires { ⌜ Accepted (now t) × (length (now p) ≡ requestIoLength) × (linesAsked (now p) ≤ Table.mostLines) × (1 ≤ countAsked (now p)) ⌝ }
     requires { ⌜ (base ≡ baseAsked (now p)) × (base ≢ 0) × (base < 65536) ⌝ }
     ensures { λ r. ⌜ BaseIs (now (t .entry)) (now (p .entry)) r ⌝ }
 {

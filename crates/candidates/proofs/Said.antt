@@ -1,15 +1,17 @@
 -- The bytes say which bases are candidates, and which of these lie wholly in unreserved ranges; so the two searches give the candidate that is
 -- taken. Assumes nothing.
 use mathlib.Core.Path.{_≡_, refl, ap, sym, _∙_, subst}
-use mathlib.Core.Logic.{inl, inr}
+use mathlib.Core.Logic.{inl, inr, ⊎-elim}
 use mathlib.Core.List.{List}
 use mathlib.Core.Bool.{false}
 use Prim.Native.Nat.{ℕ, _+_, _-_, _*_, _≤_, _<_}
+use native.Mathlib.Decide.{decLt}
 use native.Mathlib.Omega.{arith}
 use borrow.Author.Tests.{eqb-false, ne-eqb}
+use Rattle.facts.specs.Table
 use Rattle.facts.specs.Table.{Range, IoGrant}
 use Rattle.facts.specs.Choice.{Lowest}
-use Rattle.facts.specs.Ports.{Meet, Has, Managed, WhollyUnreserved}
+use Rattle.facts.specs.Ports.{Meet, Has, Managed, Answers, WhollyUnreserved}
 use Rattle.facts.specs.Io.{countAsked, linesAsked, portsAt, SmallestPower, Candidate, CandidateTaken}
 use Rattle.facts.proofs.Told.{Unreserved, wholly-unreserved-told}
 use Rattle.facts.proofs.Choices.{chosen-first, chosen-then, smallest-power-unique}
@@ -17,9 +19,11 @@ use Rattle.layout.specs.Reading.{rangesIn, rangeIn, ioIn, marked}
 use Rattle.layout.specs.Sound.{Accepted, RangesSound}
 use Rattle.layout.proofs.Of
 use Rattle.layout.proofs.Managed.{HasPort}
+use Rattle.ports.proofs.Answering.{answers-own}
+use Rattle.answering.proofs.Gaps.{clear-answers, answers-clear}
 use Rattle.obstacles.specs.declared.Stretch.{Stretch}
 use Rattle.obstacles.specs.Obstacles.{Lies, Barring}
-use Rattle.obstacles.proofs.Periods.{met-some}
+use Rattle.obstacles.proofs.Periods.{met-barred}
 use Rattle.candidates.specs.declared.Taken.{Taken}
 use Rattle.candidates.specs.declared.Taken.the-variants.{Base, Nothing}
 use Rattle.candidates.specs.Candidates.{reserveMark, Counts, Free, CandidateIn, LowestIs, FirstIs, TakenIs}
@@ -75,80 +79,98 @@ module _ (b : List ℕ) (a : Accepted b) where
             has = said-has (x .0) q (subst (λ (r : Range). Has r q) (x .2) (u .0 .has));
           }
 
-  module _ (p : List ℕ) (step : ℕ) (align : SmallestPower (countAsked p) step) (one : 1 ≤ countAsked p) where
-    abbrev Found : ℕ → ℕ → Type 0
-    Found most = CandidateIn b most (countAsked p) (linesAsked p) step
+  module _ (p : List ℕ) (step : ℕ) (align : SmallestPower (countAsked p) step) (one : 1 ≤ countAsked p) (lines : linesAsked p ≤ Table.mostLines)
+    where
+      abbrev Found : ℕ → ℕ → Type 0
+      Found most = CandidateIn b most (countAsked p) (linesAsked p) step
 
-    abbrev Early : ℕ → Type 0
-    Early x = WhollyUnreserved (a .facts) x (countAsked p)
+      abbrev Early : ℕ → Type 0
+      Early x = WhollyUnreserved (a .facts) x (countAsked p)
 
-    -- a candidate by the bytes is a candidate, whichever ranges count
-    found-candidate : (most x : ℕ) → Found most x → Candidate (a .facts) p x
-    found-candidate most x c =
-        record {
-          step = step;
-          times = c .free .multiple .times;
-          align = align;
-          multiple = c .free .multiple .is;
-          positive = c .positive;
-          managed = λ q w. managed-by most q (c .counted q w);
-          within =
-              let last = c .counted (x + countAsked p - 1) (record { from = omega arith; below = omega arith }) in
-              omega (arith, counts-below b ordered most (x + countAsked p - 1) last);
-          meets-none = λ s g e m.
-              let said = Of.said-io b a s g e in
-              c .free .meets-none (
-                s,
-                said .0,
-                record { used = said .1; meets = subst (λ (h : IoGrant). Meet (portsAt p x) (h .ports)) (sym (said .2)) m },
-              );
-        }
+      -- wherever its card answers is managed: no gap bars it, or it decodes all lines and answers at its own ports alone
+      found-answers : (most x : ℕ) → Found most x → (q : ℕ) → Answers (portsAt p x) q → Managed (a .facts) q
+      found-answers most x c q y = go (decLt (linesAsked p) Table.mostLines)
+        where
+          go : Dec (linesAsked p < Table.mostLines) → Managed (a .facts) q
+          go (yes l) = Of.managed-said b a q (clear-answers b ordered (portsAt p x) lines (λ m. c .free .unbarred (inr (l, m))) q y)
+          go (no l) =
+              let own = c .counted (y .own) (y .own-in) in
+              let all : linesAsked p ≡ Table.mostLines = omega arith in
+              subst (Managed (a .facts)) (sym (answers-own (portsAt p x) all q y (counts-below b ordered most (y .own) own)))
+              (managed-by most (y .own) own)
 
-    -- and a candidate is one by the bytes, where all ranges count
-    candidate-free : (x : ℕ) → Candidate (a .facts) p x → Free b (countAsked p) (linesAsked p) step x
-    candidate-free x c =
-        record {
-          multiple = record {
-            times = c .times;
-            is =
-                subst (λ (n : ℕ). x ≡ c .times * n) (smallest-power-unique (countAsked p) (c .step) step (c .align) align) (c .multiple);
-          };
-          meets-none = λ m. c .meets-none (m .0) (ioIn b (m .0)) (Of.io-said b a (m .0) (m .1) (m .2 .used)) (m .2 .meets);
-        }
+      -- a candidate by the bytes is a candidate, whichever ranges count
+      found-candidate : (most x : ℕ) → Found most x → Candidate (a .facts) p x
+      found-candidate most x c =
+          record {
+            step = step;
+            times = c .free .multiple .times;
+            align = align;
+            multiple = c .free .multiple .is;
+            positive = c .positive;
+            managed = λ q w. managed-by most q (c .counted q w);
+            answers = found-answers most x c;
+            within =
+                let last = c .counted (x + countAsked p - 1) (record { from = omega arith; below = omega arith }) in
+                omega (arith, counts-below b ordered most (x + countAsked p - 1) last);
+            meets-none = λ s g e m.
+                let said = Of.said-io b a s g e in
+                c .free .unbarred
+                (inl (
+                  s,
+                  said .0,
+                  record { used = said .1; meets = subst (λ (h : IoGrant). Meet (portsAt p x) (h .ports)) (sym (said .2)) m },
+                ));
+          }
 
-    candidate-found : (x : ℕ) → Candidate (a .facts) p x → Found 1 x
-    candidate-found x c =
-        record { free = candidate-free x c; positive = c .positive; counted = λ q w. managed-counts q (c .managed q w) }
+      -- and a candidate is one by the bytes, where all ranges count
+      candidate-free : (x : ℕ) → Candidate (a .facts) p x → Free b (countAsked p) (linesAsked p) step x
+      candidate-free x c =
+          record {
+            multiple = record {
+              times = c .times;
+              is =
+                  subst (λ (n : ℕ). x ≡ c .times * n) (smallest-power-unique (countAsked p) (c .step) step (c .align) align) (c .multiple);
+            };
+            unbarred =
+                ⊎-elim (λ m. c .meets-none (m .0) (ioIn b (m .0)) (Of.io-said b a (m .0) (m .1) (m .2 .used)) (m .2 .meets))
+                (λ m. answers-clear b ordered (portsAt p x) lines (λ q y. Of.said-managed b a q (c .answers q y)) (m .1));
+          }
 
-    -- where unreserved ranges alone count, it is one that lies wholly in them
-    found-early : (x : ℕ) → Found 0 x → Candidate (a .facts) p x × Early x
-    found-early x c = (found-candidate 0 x c, λ q w. counts-unreserved q (c .counted q w))
+      candidate-found : (x : ℕ) → Candidate (a .facts) p x → Found 1 x
+      candidate-found x c =
+          record { free = candidate-free x c; positive = c .positive; counted = λ q w. managed-counts q (c .managed q w) }
 
-    early-found : (x : ℕ) → Candidate (a .facts) p x × Early x → Found 0 x
-    early-found x c =
-        record { free = candidate-free x (c .0); positive = c .0 .positive; counted = λ q w. unreserved-counts q (c .1 q w) }
+      -- where unreserved ranges alone count, it is one that lies wholly in them
+      found-early : (x : ℕ) → Found 0 x → Candidate (a .facts) p x × Early x
+      found-early x c = (found-candidate 0 x c, λ q w. counts-unreserved q (c .counted q w))
 
-    -- the lowest of these is taken, or else the lowest of all
-    taken-early : (x : ℕ) → Lowest (Found 0) x → CandidateTaken (a .facts) p x
-    taken-early x low =
-        chosen-first (λ y _. wholly-unreserved-told (a .facts) y (countAsked p)) (lowest-as found-early early-found (Base x) low)
+      early-found : (x : ℕ) → Candidate (a .facts) p x × Early x → Found 0 x
+      early-found x c =
+          record { free = candidate-free x (c .0); positive = c .0 .positive; counted = λ q w. unreserved-counts q (c .1 q w) }
 
-    taken-late : ((x : ℕ) → Found 0 x → ⊥) → (x : ℕ) → Lowest (Found 1) x → CandidateTaken (a .facts) p x
-    taken-late none x low = chosen-then (λ y c e. none y (early-found y (c, e))) (lowest-as (found-candidate 1) candidate-found (Base x) low)
+      -- the lowest of these is taken, or else the lowest of all
+      taken-early : (x : ℕ) → Lowest (Found 0) x → CandidateTaken (a .facts) p x
+      taken-early x low =
+          chosen-first (λ y _. wholly-unreserved-told (a .facts) y (countAsked p)) (lowest-as found-early early-found (Base x) low)
 
-module _ (b p : List ℕ) (step : ℕ) (align : SmallestPower (countAsked p) step) (one : 1 ≤ countAsked p) where
-  -- what comes first is taken
-  pub first-taken : (r : Taken) → FirstIs b (countAsked p) (linesAsked p) step r → TakenIs b p r
-  first-taken (Base x) (inl low) = λ a. taken-early b a p step align one x low
-  first-taken (Base x) (inr late) = λ a. taken-late b a p step align one (late .0) x (late .1)
-  first-taken Nothing none = λ a x c. none x (candidate-found b a p step align one x c)
+      taken-late : ((x : ℕ) → Found 0 x → ⊥) → (x : ℕ) → Lowest (Found 1) x → CandidateTaken (a .facts) p x
+      taken-late none x low = chosen-then (λ y c e. none y (early-found y (c, e))) (lowest-as (found-candidate 1) candidate-found (Base x) low)
 
-  -- where every base lies in a stretch that is barred, nothing is
-  pub barred-taken : (most : ℕ) (known : Stretch) → Barring b (countAsked p) (linesAsked p) most step known → ((x : ℕ) → Lies known x)
-      → TakenIs b p Nothing
-  barred-taken most known bars all a x c =
-      let free = candidate-free b a p step align one x c in
-      free .meets-none (met-some b (countAsked p) (linesAsked p) most x (bars .barred x (free .multiple) (all x)))
+module _ (b p : List ℕ) (step : ℕ) (align : SmallestPower (countAsked p) step) (one : 1 ≤ countAsked p) (lines : linesAsked p ≤ Table.mostLines)
+  where
+    -- what comes first is taken
+    pub first-taken : (r : Taken) → FirstIs b (countAsked p) (linesAsked p) step r → TakenIs b p r
+    first-taken (Base x) (inl low) = λ a. taken-early b a p step align one lines x low
+    first-taken (Base x) (inr late) = λ a. taken-late b a p step align one lines (late .0) x (late .1)
+    first-taken Nothing none = λ a x c. none x (candidate-found b a p step align one lines x c)
+
+    -- where every base lies in a stretch that is barred, nothing is
+    pub barred-taken : (most : ℕ) (known : Stretch) → Barring b (countAsked p) (linesAsked p) most step known → ((x : ℕ) → Lies known x)
+        → TakenIs b p Nothing
+    barred-taken most known bars all a x c =
+        let free = candidate-free b a p step align one lines x c in
+        free .unbarred (met-barred b (countAsked p) (linesAsked p) most x (bars .barred x (free .multiple) (all x)))
 
 -- the two searches, one after the other
 module _ (b : List ℕ) (count lines step : ℕ) where

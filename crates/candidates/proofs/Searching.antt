@@ -1,4 +1,4 @@
--- The lowest candidate: past what live grants bar, in one range, and over the ranges in order. Assumes nothing.
+-- The lowest candidate: past what live grants and gaps bar, in one range, and over the ranges in order. Assumes nothing.
 use mathlib.Core.Path.{_≡_, subst}
 use mathlib.Core.Logic.{inl}
 use mathlib.Core.List.{List}
@@ -18,9 +18,9 @@ use Rattle.candidates.specs.Candidates.{ReachIs, FreeBetween, CandidateI
 use Rattle.candidates.proofs.Choosing.{lowest-as}
 use Rattle.candidates.proofs.Runs.{counts-alike}
 
--- the lowest that no live grant bars, past what a search leapt over
-module _ (b : List ℕ) (count lines step period : ℕ) (all : List Stretch) (known : Stretch) (bars : Bars b count lines step period all known)
-    (from end x : ℕ) (o : Opened all known count step from end x)
+-- the lowest that is not barred, past what a search leapt over
+module _ (b : List ℕ) (count lines step period : ℕ) (all : List Stretch) (rows : List ℕ) (gapped : ℕ) (known : Stretch)
+    (bars : Bars b count lines step period all rows gapped known) (from end x : ℕ) (o : Opened all rows known count gapped step from end x)
   where
     abbrev Fit : ℕ → Type 0
     Fit = FreeBetween b count lines step from end
@@ -30,14 +30,14 @@ module _ (b : List ℕ) (count lines step period : ℕ) (all : List Stretch) (kn
       where
         go : Dec (y < x) → x ≤ y
         go (yes l) =
-            absurd (f .free .meets-none (bars .barred y (f .free .multiple) (o .barred y (f .free .multiple) (f .past) l)))
+            absurd (f .free .unbarred (bars .barred y (f .free .multiple) (o .barred y (f .free .multiple) (f .past) l)))
         go (no l) = omega arith
 
     pub open-found : x + count ≤ end → LowestIs Fit (Base x)
     open-found h =
         record {
           fits = record {
-            free = record { multiple = o .multiple; meets-none = λ m. o .free h (inl (bars .met x m)) };
+            free = record { multiple = o .multiple; unbarred = λ m. o .free h (inl (bars .met x m)) };
             past = o .past;
             before = h;
           };

@@ -10,9 +10,8 @@ use Rattle.facts.specs.Ports.{Within}
 use Rattle.facts.specs.Io.{CandidateTaken, NoCandidate}
 use Rattle.layout.specs.Reading.{rangesIn, rangePlace}
 use Rattle.layout.specs.Sound.{Accepted, rangeBase, rangeCount}
-use Rattle.meeting.specs.Meeting.{MeetsSome}
 use Rattle.obstacles.specs.declared.Stretch.{Stretch}
-use Rattle.obstacles.specs.Obstacles.{Multiple, Bars}
+use Rattle.obstacles.specs.Obstacles.{Multiple, Barred, Bars}
 use Rattle.candidates.specs.declared.Taken.{Taken}
 use Rattle.candidates.specs.declared.Taken.the-variants.{Base, Nothing}
 use Rattle.candidates.specs.declared.Search.{Search}
@@ -42,10 +41,10 @@ pub record ReachIs (b : List ℕ) (i most want r : ℕ) : Type 0 where
   pub counts : (p : ℕ) → rangeBase b i ≤ p → p < r → Counts b most p
   pub ends : r < want → Counts b most r → ⊥
 
--- x is a multiple of the step, and so many ports from there on, decoded by so many lines, meet no live grant
+-- x is a multiple of the step, and so many ports from there on, decoded by so many lines, meet no live grant and, where they aren't all, no gap
 pub record Free (b : List ℕ) (count lines step x : ℕ) : Type 0 where
   pub multiple : Multiple step x
-  pub meets-none : MeetsSome b (record { base = x; count = count; lines = lines }) → ⊥
+  pub unbarred : Barred b count lines x → ⊥
 
 -- such an x at or past one number, whose ports end at or before another
 pub record FreeBetween (b : List ℕ) (count lines step from end x : ℕ) : Type 0 where
@@ -70,9 +69,10 @@ LowestIs Fit (Base x) = Lowest Fit x
 LowestIs Fit Nothing = (x : ℕ) → Fit x → ⊥
 
 -- a search found the lowest of those that fit, and what it learnt is barred
-pub record Searched (b : List ℕ) (count lines step period : ℕ) (all : List Stretch) (Fit : ℕ → Type 0) (r : Search) : Type 0 where
-  pub lowest : LowestIs Fit (r .taken)
-  pub bars : Bars b count lines step period all (r .learnt)
+pub record Searched (b : List ℕ) (count lines step period : ℕ) (all : List Stretch) (rows : List ℕ) (gapped : ℕ) (Fit : ℕ → Type 0) (r : Search) : Type 0
+  where
+    pub lowest : LowestIs Fit (r .taken)
+    pub bars : Bars b count lines step period all rows gapped (r .learnt)
 
 -- the lowest where unreserved ranges alone count, or else where all do; or there is none
 abbrev pub FirstIs : List ℕ → ℕ → ℕ → ℕ → Taken → Type 0

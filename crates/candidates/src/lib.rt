@@ -1,4 +1,5 @@
 // The base that a request for I/O ports without a base takes, on a table that is the image of a well-formed set.
+use answering::ROWS;
 use layout::MARKED;
 use layout::MOST_LINES;
 use layout::MOST_SOCKETS;
@@ -15,7 +16,7 @@ ghost use Rattle.facts.specs.Says.{Says};
 ghost use Rattle.facts.specs.Io.{requestIoLength, countAsked, linesAsked, SmallestPower};
 ghost use Rattle.layout.specs.Reading.{rangesIn};
 ghost use Rattle.layout.specs.Sound.{Accepted, rangeBase};
-ghost use Rattle.obstacles.specs.Obstacles.{Power, Barring, Bars};
+ghost use Rattle.obstacles.specs.Obstacles.{Power, Barring, Bars, GapLines};
 ghost use Rattle.candidates.specs.Candidates.{Follows, ReachIs, CandidateIn, StartsIn, Searched, FirstIs, TakenIs};
 
 // "candidates are the positive multiples".
@@ -84,8 +85,8 @@ pub struct Search {
     pub learnt: Stretch,
 }
 
-// The lowest candidate whose first port the range `i` has: the lowest multiple that no live grant bars, of those whose ports end where the ports that
-// count do.
+// The lowest candidate whose first port the range `i` has: the lowest multiple that no live grant and no gap bars, of those whose ports end where the
+// ports that count do.
 fn first_in(
     t: &[u8],
     i: usize,
@@ -95,16 +96,18 @@ fn first_in(
     step: usize,
     period: usize,
     all: [Stretch; MOST_SOCKETS],
+    rows: &[u16; ROWS],
+    gapped: usize,
     known: Stretch,
 ) -> Search
     requires { ⌜ Accepted (now t) × (i < rangesIn (now t)) × (1 ≤ count) × (count < 256) ⌝ }
-    requires { ⌜ Power step × Bars (now t) count lines step period all known ⌝ }
-    ensures { λ r. ⌜ Searched (now (t .entry)) count lines step period all (StartsIn (now (t .entry)) i most count lines step) r ⌝ }
+    requires { ⌜ Power step × Bars (now t) count lines step period all (now rows) gapped known ⌝ }
+    ensures { λ r. ⌜ Searched (now (t .entry)) count lines step period all (now (rows .entry)) gapped (StartsIn (now (t .entry)) i most count lines step) r ⌝ }
 {
     let base = reading::word(t, RANGES_AT + i * RANGE_SIZE);
     let from = obstacles::up(ports::larger(base, LEAST), step);
     let end = reach(t, i, most, reading::range_end(t, i) + count - 1);
-    let open = obstacles::lowest(all, known, count, step, from, end);
+    let open = obstacles::lowest(all, rows, known, count, gapped, step, from, end);
     if open + count <= end {
         return Search {
             taken: Taken::Base(open),
@@ -126,16 +129,30 @@ fn first_of(
     step: usize,
     period: usize,
     all: [Stretch; MOST_SOCKETS],
+    rows: &[u16; ROWS],
+    gapped: usize,
     known: Stretch,
 ) -> Search
     requires { ⌜ Accepted (now t) × (1 ≤ count) × (count < 256) ⌝ }
-    requires { ⌜ Power step × Bars (now t) count lines step period all known ⌝ }
-    ensures { λ r. ⌜ Searched (now (t .entry)) count lines step period all (CandidateIn (now (t .entry)) most count lines step) r ⌝ }
+    requires { ⌜ Power step × Bars (now t) count lines step period all (now rows) gapped known ⌝ }
+    ensures { λ r. ⌜ Searched (now (t .entry)) count lines step period all (now (rows .entry)) gapped (CandidateIn (now (t .entry)) most count lines step) r ⌝ }
 {
     let ranges = reading::byte(t, RANGES_IN);
     let mut learnt = known;
     for i in 0..ranges {
-        let found = first_in(t, i, most, count, lines, step, period, all, learnt);
+        let found = first_in(
+            t,
+            i,
+            most,
+            count,
+            lines,
+            step,
+            period,
+            all,
+            rows,
+            gapped,
+            learnt,
+        );
         learnt = found.learnt;
         let taken = found.taken;
         if let Taken::Base(base) = taken {
@@ -152,20 +169,50 @@ fn first_of(
 }
 
 // "Candidates wholly in unreserved ranges come first, then the lowest": what the search in them finds, or else what the search in all ranges does.
-fn first(t: &[u8], count: usize, lines: usize, step: usize, known: Stretch) -> Taken
+fn first(
+    t: &[u8],
+    rows: &[u16; ROWS],
+    count: usize,
+    lines: usize,
+    gapped: usize,
+    step: usize,
+    known: Stretch,
+) -> Taken
     requires { ⌜ Accepted (now t) × (1 ≤ count) × (count < 256) × (lines ≤ Table.mostLines) × Power step ⌝ }
-    requires { ⌜ Barring (now t) count lines Table.mostLines step known ⌝ }
+    requires { ⌜ GapLines (now t) (now rows) count lines gapped × Barring (now t) count lines Table.mostLines step known ⌝ }
     ensures { λ r. ⌜ FirstIs (now (t .entry)) count lines step r ⌝ }
 {
-    let most = obstacles::lines_met(t, lines);
+    let most = obstacles::lines_met(t, lines, gapped);
     let period = obstacles::period(most, step);
     let all = obstacles::stretches(t, count, lines, most);
-    let early = first_of(t, UNRESERVED, count, lines, step, period, all, known);
+    let early = first_of(
+        t,
+        UNRESERVED,
+        count,
+        lines,
+        step,
+        period,
+        all,
+        rows,
+        gapped,
+        known,
+    );
     let taken = early.taken;
     if let Taken::Base(base) = taken {
         return Taken::Base(base);
     }
-    let late = first_of(t, ALL, count, lines, step, period, all, early.learnt);
+    let late = first_of(
+        t,
+        ALL,
+        count,
+        lines,
+        step,
+        period,
+        all,
+        rows,
+        gapped,
+        early.learnt,
+    );
     late.taken
 }
 
@@ -178,9 +225,12 @@ pub fn choose(t: &[u8], p: &[u8]) -> Taken
     let count = io_packets::count_asked(p);
     let lines = io_packets::lines_asked(p);
     let step = align(count);
-    let known = obstacles::passed(t, count, lines, step);
+    let mut rows: [u16; ROWS] = [0; ROWS];
+    answering::gap_rows(t, lines, &mut rows);
+    let gapped = answering::deciding(&rows, lines);
+    let known = obstacles::passed(t, &rows, count, lines, gapped, step);
     if obstacles::everywhere(known) {
         return Taken::Nothing;
     }
-    first(t, count, lines, step, known)
+    first(t, &rows, count, lines, gapped, step, known)
 }

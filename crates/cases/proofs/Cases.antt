@@ -27,7 +27,7 @@ module _ (F : Facts) (apart : Apart 0 (F .ranges)) (a b c d e f : ℕ) (action :
   abbrev shortPacket : List ℕ
   shortPacket = a ∷ 0x01 ∷ b ∷ c ∷ d ∷ e ∷ f ∷ []
 
-  adjusts : {o : Outcome} → AdjustIo Short F 1 shortPacket o → Exactly (AdjustResourceInfo F 1 shortPacket) o
+  pub adjusts : {o : Outcome} → AdjustIo Short F 1 shortPacket o → Exactly (AdjustResourceInfo F 1 shortPacket) o
   adjusts r =
       exactly (adjust-unique F 1 shortPacket apart)
       (inr (

@@ -10,7 +10,7 @@ use native.Mathlib.Decide.{decLe}
 use native.Mathlib.Omega.{arith}
 use lib.Pow.{pow-mono}
 use Rattle.facts.specs.Table.{Facts, Range, Ports, IoGrant}
-use Rattle.facts.specs.Ports.{Meet, Has, Managed}
+use Rattle.facts.specs.Ports.{Meet, Has, Managed, Answers}
 use Rattle.facts.specs.Io.{Candidate, SmallestPower, RequestIo}
 use Rattle.cases.specs.Cases.{Exactly, done, ports, ready, grantingIo, halfHeld, ioPacket}
 use Rattle.facts.proofs.Sets.{put-is}
@@ -30,6 +30,12 @@ eight n sized = record { power = 3; is = refl; not-below = sized .1; smallest = 
     go : (k : ℕ) → n ≤ 2 ^ k → Dec (3 ≤ k) → 8 ≤ 2 ^ k
     go k l (yes h) = pow-mono h
     go k l (no h) = absurd (omega (arith, pow-mono {i = k} {j = 2} (omega arith)))
+
+-- at sixteen lines a card answers at its own ports alone
+at-home : (r : Range) (n : ℕ) → (r .base ≤ 0x308) × (0x308 + n ≤ r .base + r .count) → n ≤ 8 → (x : ℕ) → Answers (ports 0x308 n 16) x → Has r x
+at-home r n inside sized x a =
+    let same : x ≡ a .own = sym (mod-eq-of-lt (a .below)) ∙ a .equal ∙ mod-eq-of-lt (omega (arith, a .own-in .below)) in
+    record { from = omega (arith, same, a .own-in .from, inside .0); below = omega (arith, same, a .own-in .below, inside .1) }
 
 -- the table of N8 and N9, with the I/O grants io and the one managed range r; and their packet
 abbrev pub ioTable : (ℕ → Option IoGrant) → Range → Facts
@@ -79,6 +85,7 @@ module _ (io : ℕ → Option IoGrant) (r : Range) (n : ℕ) (sized : (4 < n) ×
         multiple = refl;
         positive = omega arith;
         managed = λ x w. record { range = r; listed = inl refl; has = omega arith };
+        answers = λ x a. record { range = r; listed = inl refl; has = at-home r n inside (sized .1) x a };
         within = omega arith;
         meets-none = meets-none;
       } in

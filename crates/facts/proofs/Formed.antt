@@ -8,9 +8,9 @@ use Prim.Native.Nat.{ℕ, _+_, _≤_, _<_}
 use native.Mathlib.Omega.{arith}
 use lib.ListN.{length}
 use Rattle.facts.specs.Table
-use Rattle.facts.specs.Table.{Facts, Client, Level, Range, IoGrant, IrqGrant, fresh}
+use Rattle.facts.specs.Table.{Facts, Client, Level, Range, Ports, IoGrant, IrqGrant, fresh}
 use Rattle.facts.specs.Sets.{_∈_}
-use Rattle.facts.specs.Ports.{AllManaged}
+use Rattle.facts.specs.Ports.{Within, Managed, AllManaged, Answers, AnswersManaged}
 use Rattle.facts.specs.WellFormed.{WellFormed, ClientFits, IoFits, IrqFits, IoCompany, IrqCompany, Live, Rising, Apart}
 use Rattle.facts.specs.Sockets.{withCard}
 use Rattle.facts.specs.Resources.{withLevel, withRanges}
@@ -45,12 +45,14 @@ module _ (F G : Facts) where
   pub live-in : (h : ℕ) → ((c : Client) → c ∈ F .clients → c .handle ≡ h → c ∈ G .clients) → Live F h → Live G h
   live-in h f l = record { client = l .client; listed = f (l .client) (l .listed) (l .handle); handle = l .handle }
 
-  pub managed-in : ((r : Range) → r ∈ F .ranges → r ∈ G .ranges) → (base count : ℕ) → AllManaged F base count → AllManaged G base count
-  managed-in f base count a p w = let m = a p w in record { range = m .range; listed = f (m .range) (m .listed); has = m .has }
+  pub managed-in : ((r : Range) → r ∈ F .ranges → r ∈ G .ranges) → (p : ℕ) → Managed F p → Managed G p
+  managed-in f p m = record { range = m .range; listed = f (m .range) (m .listed); has = m .has }
 
   module _ (sockets : G .sockets ≡ F .sockets) where
-    pub io-fits : (s : ℕ) (g : IoGrant) → Live G (g .client) → AllManaged G (g .ports .base) (g .ports .count) → IoFits F s g → IoFits G s g
-    io-fits s g live managed f =
+    io-fits : (s : ℕ) (g : IoGrant) → Live G (g .client) → AllManaged G (g .ports .base) (g .ports .count) → AnswersManaged G (g .ports)
+        → IoFits F s g
+        → IoFits G s g
+    io-fits s g live managed answers f =
         record {
           client = live;
           socket = omega (arith, sockets, f .socket);
@@ -61,7 +63,12 @@ module _ (F G : Facts) where
           asked = f .asked;
           decoded = f .decoded;
           managed = managed;
+          answers = answers;
         }
+
+    -- where all ranges stay
+    io-stays : (s : ℕ) (g : IoGrant) → Live G (g .client) → ((r : Range) → r ∈ F .ranges → r ∈ G .ranges) → IoFits F s g → IoFits G s g
+    io-stays s g live kept f = io-fits s g live (λ p h. managed-in kept p (f .managed p h)) (λ p h. managed-in kept p (f .answers p h)) f
 
     pub irq-fits : (s : ℕ) (g : IrqGrant) → Live G (g .client) → G .level (g .level) .managed ≡ true → IrqFits F s g → IrqFits G s g
     irq-fits s g live managed f = record { client = live; socket = omega (arith, sockets, f .socket); managed = managed }
@@ -74,6 +81,14 @@ module _ (F G : Facts) where
           events = f .events;
           mask = λ s m e. let x = f .mask s m e in (omega (arith, sockets, x .0), x .1);
         }
+
+-- no managed port is past FFFF
+pub managed-below : (F : Facts) → WellFormed F → (p : ℕ) → Managed F p → p < Table.allPorts
+managed-below F w p m = omega (arith, m .has .below, w .ranges (m .range) (m .listed))
+
+-- a card answers at its own ports
+pub own-answers : (a : Ports) (p : ℕ) → p < Table.allPorts → Within p (a .base) (a .count) → Answers a p
+own-answers a p l h = record { below = l; own = p; own-in = h; equal = refl }
 
 -- the company that two grants keep doesn't depend on their order
 io-turned : (a b : IoGrant) → IoCompany a b → IoCompany b a
@@ -98,8 +113,7 @@ module _ (F : Facts) (w : WellFormed F) where
 
     still-io : G .ranges ≡ F .ranges → (t : ℕ) (g : IoGrant) → IoFits F t g → IoFits G t g
     still-io ranges t g f =
-        io-fits F G sockets t g (still-lives (f .client))
-        (managed-in F G (λ r m. subst (λ (rs : List Range). r ∈ rs) (sym ranges) m) _ _ (f .managed)) f
+        io-stays F G sockets t g (still-lives (f .client)) (λ r m. subst (λ (rs : List Range). r ∈ rs) (sym ranges) m) f
 
     still-irq : G .level ≡ F .level → (t : ℕ) (g : IrqGrant) → IrqFits F t g → IrqFits G t g
     still-irq level t g f = irq-fits F G sockets t g (still-lives (f .client)) (ap (λ (v : ℕ → Level). v (g .level) .managed) level ∙ f .managed) f
@@ -145,8 +159,7 @@ module _ (F : Facts) (w : WellFormed F) where
           ranges-most = w .ranges-most;
           apart = w .apart;
           ranges = w .ranges;
-          ios = λ t g e. let f = w .ios t g e in
-              io-fits F (listing F n cs) refl t g (io-live t g e) (managed-in F (listing F n cs) (λ r m. m) _ _ (f .managed)) f;
+          ios = λ t g e. io-stays F (listing F n cs) refl t g (io-live t g e) (λ r m. m) (w .ios t g e);
           irqs = λ t g e. let f = w .irqs t g e in irq-fits F (listing F n cs) refl t g (irq-live t g e) (f .managed) f;
           io-company = w .io-company;
           irq-company = w .irq-company;
@@ -182,11 +195,11 @@ module _ (F : Facts) (w : WellFormed F) where
           put-all (λ (k : ℕ) (x : Level). g .level ≡ k → x .managed ≡ true) (F .level) l v (held t g e)
           (λ k d q. subst (λ (i : ℕ). F .level i .managed ≡ true) q m) (g .level) refl
 
-  -- other ranges: in order, none past FFFF, and every granted port is still managed
+  -- other ranges: in order, none past FFFF, and wherever a card answers that is granted ports, the port is still managed
   pub ranges-formed : (rs : List Range) → length rs ≤ Table.mostRanges → Apart 0 rs → ((r : Range) → r ∈ rs → r .base + r .count ≤ Table.allPorts)
-      → ((s : ℕ) (g : IoGrant) → F .io s ≡ some g → AllManaged (withRanges F rs) (g .ports .base) (g .ports .count))
+      → ((s : ℕ) (g : IoGrant) → F .io s ≡ some g → (p : ℕ) → Answers (g .ports) p → Managed F p → Managed (withRanges F rs) p)
       → WellFormed (withRanges F rs)
-  ranges-formed rs most apart within managed =
+  ranges-formed rs most apart within stays =
       record {
         sockets-least = w .sockets-least;
         sockets-most = w .sockets-most;
@@ -201,7 +214,9 @@ module _ (F : Facts) (w : WellFormed F) where
         apart = apart;
         ranges = within;
         ios = λ t g e. let f = w .ios t g e in
-            io-fits F (withRanges F rs) refl t g (still-lives (withRanges F rs) refl refl (f .client)) (managed t g e) f;
+            io-fits F (withRanges F rs) refl t g (still-lives (withRanges F rs) refl refl (f .client))
+            (λ p h. let m = f .managed p h in stays t g e p (own-answers (g .ports) p (managed-below F w p m) h) m)
+            (λ p a. stays t g e p a (f .answers p a)) f;
         irqs = λ t g e. still-irq (withRanges F rs) refl refl refl t g (w .irqs t g e);
         io-company = w .io-company;
         irq-company = w .irq-company;

@@ -10,7 +10,7 @@ use borrow.Author.Tests.{eq-eqb}
 use Rattle.facts.specs.Table
 use Rattle.facts.specs.Table.{Facts, IoGrant, IrqGrant}
 use Rattle.facts.specs.Packets.{bit, Bytes}
-use Rattle.facts.specs.Ports.{Meet, AllManaged}
+use Rattle.facts.specs.Ports.{Meet, AllManaged, AnswersManaged}
 use Rattle.facts.specs.WellFormed.{WellFormed, IoFits, IrqFits, IoCompany, IrqCompany}
 use Rattle.facts.specs.Levels.{Together, Holds}
 use Rattle.facts.specs.Checks.{Outcome, Passed}
@@ -20,7 +20,7 @@ use Rattle.facts.specs.Io.{RequestIo, ReleaseIo, GrantsIo, BaseTaken, ow
 use Rattle.facts.specs.Io.{baseAsked, countAsked, linesAsked, ioAttributes}
 use Rattle.facts.proofs.Company.{together-symmetric}
 use Rattle.facts.proofs.Joining.{joined-together}
-use Rattle.facts.proofs.Told.{told, both-told, true-told, all-managed-told}
+use Rattle.facts.proofs.Told.{told, both-told, true-told, managed-told}
 use Rattle.facts.proofs.Formed.{io-formed, irq-formed}
 use Rattle.facts.proofs.ClientsStay.{live-passed, socket-passed, request-passed}
 
@@ -94,8 +94,14 @@ module _ (F : Facts) (h : ℕ) (p : List ℕ) (o : Outcome) (w : WellFormed F) w
       all-managed : BaseTaken F p base → AllManaged F base (countAsked p)
       all-managed (inl named) =
           subst (λ (b : ℕ). AllManaged F b (countAsked p)) (sym (named .1))
-          (told (all-managed-told F (baseAsked p) (countAsked p)) (λ d. own .1 .1 .1 .0 (named .0, inr d)))
+          (λ q h. told (managed-told F q) (λ d. own .1 .1 .1 .0 (named .0, inr (inl (λ all. d (all q h))))))
       all-managed (inr chosen) = chosen .1 .fits .managed
+
+      answers-managed : BaseTaken F p base → AnswersManaged F (portsAt p base)
+      answers-managed (inl named) =
+          subst (λ (b : ℕ). AnswersManaged F (portsAt p b)) (sym (named .1))
+          (λ q a. told (managed-told F q) (λ d. own .1 .1 .1 .0 (named .0, inr (inr (λ all. d (all q a))))))
+      answers-managed (inr chosen) = chosen .1 .fits .answers
 
       fits : IoFits F (socketOf p) new
       fits =
@@ -109,6 +115,7 @@ module _ (F : Facts) (h : ℕ) (p : List ℕ) (o : Outcome) (w : WellFormed F) w
             asked = omega (arith, bytes 4);
             decoded = told (decLe (countAsked p) (2 ^ linesAsked p)) (λ d. own .1 .0 (inr (inl (omega arith))));
             managed = all-managed (granted .taken);
+            answers = answers-managed (granted .taken);
           }
 
       -- a base named meets a live grant only if both share; a candidate meets none

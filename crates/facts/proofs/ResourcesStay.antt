@@ -15,7 +15,7 @@ use Rattle.facts.specs.declared.Record.{Record}
 use Rattle.facts.specs.Table
 use Rattle.facts.specs.Table.{Facts, Range, IoGrant}
 use Rattle.facts.specs.Sets.{_∈_}
-use Rattle.facts.specs.Ports.{Within, Has, Managed}
+use Rattle.facts.specs.Ports.{Has, Managed, Answers}
 use Rattle.facts.specs.WellFormed.{WellFormed, Apart}
 use Rattle.facts.specs.Checks.{Outcome, Passed}
 use Rattle.facts.specs.Resources.{AdjustResourceInfo, AdjustIrq, AdjustIo, inserted, withoutRange, ioRange}
@@ -94,7 +94,7 @@ module _ (F : Facts) (w : WellFormed F) (base count attributes lines : ℕ) wher
       ranges-formed F w (inserted new (F .ranges)) (omega (arith, room, inserted-more new (F .ranges)))
       (apart-inserted new 0 (F .ranges) (omega arith) port clear (w .apart))
       (λ r m. ⊎-elim (λ e. subst (λ (x : Range). x .base + x .count ≤ Table.allPorts) (sym e) within) (w .ranges r) (inserted-in new r (F .ranges) m))
-      (λ s g e. managed-in F _ (λ r m. in-inserted new r (F .ranges) m) _ _ (w .ios s g e .managed))
+      (λ s g e p a. managed-in F _ (λ r m. in-inserted new r (F .ranges) m) p)
     where
       new : Range
       new = record { base = base; count = count; reserved = eqb attributes reserveBit }
@@ -115,40 +115,32 @@ module _ (F : Facts) (w : WellFormed F) (base count attributes lines : ℕ) wher
   range-removed-formed passed =
       ranges-formed F w (withoutRange base (F .ranges)) (omega (arith, without-fewer at base (F .ranges), w .ranges-most))
       (apart-without 0 base (F .ranges) (w .apart)) (λ r m. w .ranges r (without-in at base r (F .ranges) m))
-      (λ s g e p h. let m = w .ios s g e .managed p h in
-      record { range = m .range; listed = in-without at base (m .range) (F .ranges) (m .listed) (stays s g e p h m); has = m .has })
+      (λ s g e p a m. record {
+        range = m .range;
+        listed = in-without at base (m .range) (F .ranges) (m .listed) (stays s g e p a m);
+        has = m .has;
+      })
     where
       at : Range → ℕ
       at r = r .base
 
-      -- a range that a grant holds a port of isn't the one removed
-      stays : (s : ℕ) (g : IoGrant) → F .io s ≡ some g → (p : ℕ) → Within p (g .ports .base) (g .ports .count) → (m : Managed F p)
-          → m .range .base ≢ base
-      stays s g e p h m q =
+      -- a range at a port of which a card answers isn't the one removed
+      stays : (s : ℕ) (g : IoGrant) → F .io s ≡ some g → (p : ℕ) → Answers (g .ports) p → (m : Managed F p) → m .range .base ≢ base
+      stays s g e p a m q =
           passed .1 .1 .1 .0
           (λ r just. passed .1 .1 .1 .1 .0 (
             r,
             just,
             record {
-              client = g .client;
-              shares = g .shared;
-              holder =
-                  record {
-                    socket = s;
-                    grant = g;
-                    live = e;
-                    overlap =
-                        record {
-                          port = p;
-                          one = h;
-                          other =
-                              subst (λ (x : Range). Has x p)
-                              (range-unique 0 (F .ranges) (m .range) r (w .apart) (m .listed) (just .0) (q ∙ sym (just .1)))
-                              (m .has);
-                        };
-                    client = refl;
-                    shared = refl;
-                  };
+              socket = s;
+              grant = g;
+              live = e;
+              port = p;
+              has =
+                  subst (λ (x : Range). Has x p)
+                  (range-unique 0 (F .ranges) (m .range) r (w .apart) (m .listed) (just .0) (q ∙ sym (just .1)))
+                  (m .has);
+              answers = a;
             },
           ))
 

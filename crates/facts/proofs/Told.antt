@@ -8,7 +8,7 @@ use native.Mathlib.Decide.{ℕ-discrete, decLe, decLt}
 use native.Mathlib.Omega.{arith}
 use Rattle.facts.specs.Table.{Facts, Client, Range}
 use Rattle.facts.specs.Sets.{_∈_}
-use Rattle.facts.specs.Ports.{Within, Has, Managed, AllManaged, WhollyUnreserved}
+use Rattle.facts.specs.Ports.{Within, Has, Managed, WhollyUnreserved}
 use Rattle.facts.specs.WellFormed.{Live, AttributesAllowed}
 
 pub told : {A : Type 0} → Dec A → ((A → ⊥) → ⊥) → A
@@ -83,9 +83,6 @@ managed-told F p = go (listed-told (λ (r : Range). Has r p) (λ r. has-told r p
     go : Dec ((r : Range) × (r ∈ F .ranges) × Has r p) → Dec (Managed F p)
     go (yes r) = yes (record { range = r .0; listed = r .1; has = r .2 })
     go (no n) = no (λ m. n (m .range, m .listed, m .has))
-
-pub all-managed-told : (F : Facts) (base count : ℕ) → Dec (AllManaged F base count)
-all-managed-told F = run-told (Managed F) (managed-told F)
 
 -- an unreserved range that has the port
 abbrev pub Unreserved : Facts → ℕ → Type 0

@@ -11,7 +11,7 @@ use Rattle.facts.specs.Table
 use Rattle.facts.specs.Table.{Facts, Ports, IoGrant}
 use Rattle.facts.specs.Sets.{put}
 use Rattle.facts.specs.Choice.{Chosen}
-use Rattle.facts.specs.Ports.{Meet, AllManaged, WhollyUnreserved}
+use Rattle.facts.specs.Ports.{Meet, AllManaged, AnswersManaged, WhollyUnreserved}
 use Rattle.facts.specs.Packets.{byte, word, withWord, bit}
 use Rattle.facts.specs.Sockets.{socketOf, requestChecks, releaseChecks}
 use Rattle.facts.specs.Checks.{Check, _gives_, Leaves, Outcome, Ruled, Rule}
@@ -58,9 +58,13 @@ IoAttributesBad p =
 abbrev pub IoSizeBad : List ℕ → Type 0
 IoSizeBad p = (countAsked p ≡ 0) ⊎ (2 ^ linesAsked p < countAsked p) ⊎ (secondCount p ≢ 0)
 
--- "Base not 0: a port past FFFF or unmanaged, BAD_BASE."
+-- "Base not 0: a port past FFFF or unmanaged, BAD_BASE." K2 (document 02): "each port that equals a granted one modulo two to the lines must be
+-- managed too: BAD_BASE for a named base"
 abbrev pub NotAllManaged : Facts → List ℕ → Type 0
-NotAllManaged F p = (Table.allPorts < baseAsked p + countAsked p) ⊎ (AllManaged F (baseAsked p) (countAsked p) → ⊥)
+NotAllManaged F p =
+    (Table.allPorts < baseAsked p + countAsked p)
+    ⊎ (AllManaged F (baseAsked p) (countAsked p) → ⊥)
+    ⊎ (AnswersManaged F (portsAt p (baseAsked p)) → ⊥)
 
 -- "It meets a live grant, and First Shared is set or the two don't both share: IN_USE."
 pub record InTheWay (F : Facts) (p : List ℕ) : Type 0 where
@@ -78,7 +82,7 @@ pub record SmallestPower (n a : ℕ) : Type 0 where
   pub smallest : (k : ℕ) → n ≤ 2 ^ k → a ≤ 2 ^ k
 
 -- "Base 0: candidates are the positive multiples of the smallest power of two not below the count, all ports managed, none past FFFF, meeting no
--- live grant."
+-- live grant." K2 (document 02): "each port that equals a granted one modulo two to the lines must be managed too: .. not a candidate for base 0"
 pub record Candidate (F : Facts) (p : List ℕ) (b : ℕ) : Type 0 where
   pub step : ℕ
   pub times : ℕ
@@ -86,13 +90,14 @@ pub record Candidate (F : Facts) (p : List ℕ) (b : ℕ) : Type 0 where
   pub multiple : b ≡ times * step
   pub positive : 1 ≤ b
   pub managed : AllManaged F b (countAsked p)
+  pub answers : AnswersManaged F (portsAt p b)
   pub within : b + countAsked p ≤ Table.allPorts
   pub meets-none : (s : ℕ) (g : IoGrant) → F .io s ≡ some g → Meet (portsAt p b) (g .ports) → ⊥
 
 abbrev pub NoCandidate : Facts → List ℕ → Type 0
 NoCandidate F p = (b : ℕ) → Candidate F p b → ⊥
 
--- "Candidates wholly in unreserved ranges come first, then the lowest"
+-- "Candidates wholly in unreserved ranges come first, then the lowest"; K2: "The order by reserve looks at the range's own ports alone."
 abbrev pub CandidateTaken : Facts → List ℕ → ℕ → Type 0
 CandidateTaken F p = Chosen (Candidate F p) (λ b. WhollyUnreserved F b (countAsked p))
 
@@ -120,7 +125,7 @@ ownIoChecks F p base = (IoAttributesBad p gives BadAttribute) ∷ (IoSizeBad p g
 abbrev pub ioAheadChecks : Facts → ℕ → List ℕ → List Check → List Check
 ioAheadChecks F h p base = requestChecks requestIoLength F h p (ownIoChecks F p base)
 
--- "a port past FFFF or unmanaged, BAD_BASE. It meets a live grant, and First Shared is set or the two don't both share: IN_USE. Base 0: candidates ..
+-- "a port past FFFF or unmanaged, BAD_BASE", and K2's. "It meets a live grant, and First Shared is set or the two don't both share: IN_USE. Base 0: candidates ..
 -- none: IN_USE."
 abbrev pub baseChecks : Facts → List ℕ → List Check
 baseChecks F p =

@@ -1,8 +1,9 @@
--- Ports: which a range has, which are managed, and when two ranges meet. Assumes nothing.
+-- Ports: which a range has, which are managed, when two ranges meet, and where a card answers. Assumes nothing.
 use mathlib.Core.Path.{_≡_}
 use mathlib.Core.Bool.{false}
 use Prim.Native.Nat.{ℕ, _+_, _%_, _^_, _≤_, _<_, min}
 use Rattle.facts.specs.Sets.{_∈_}
+use Rattle.facts.specs.Table
 use Rattle.facts.specs.Table.{Facts, Range, Ports}
 
 -- the port p is one of the count from base on
@@ -31,6 +32,18 @@ pub record Managed (F : Facts) (p : ℕ) : Type 0 where
 -- all the ports are managed
 abbrev pub AllManaged : Facts → ℕ → ℕ → Type 0
 AllManaged F base count = (p : ℕ) → Within p base count → Managed F p
+
+-- K2 (document 02): "each port that equals a granted one modulo two to the lines", up to FFFF: a card that is granted the ports answers at p. It
+-- answers at its own ports and, if it decodes fewer than 16 lines, at their images.
+pub record Answers (a : Ports) (p : ℕ) : Type 0 where
+  pub below : p < Table.allPorts
+  pub own : ℕ
+  pub own-in : Within own (a .base) (a .count)
+  pub equal : p % 2 ^ a .lines ≡ own % 2 ^ a .lines
+
+-- K2: wherever the card answers "must be managed too"
+abbrev pub AnswersManaged : Facts → Ports → Type 0
+AnswersManaged F a = (p : ℕ) → Answers a p → Managed F p
 
 -- every port lies in a range that is managed and not reserved
 abbrev pub WhollyUnreserved : Facts → ℕ → ℕ → Type 0

@@ -15,7 +15,7 @@ use Rattle.facts.specs.Table
 use Rattle.facts.specs.Table.{Facts, Level, Range, IoGrant, IrqGrant}
 use Rattle.facts.specs.Sets.{_∈_, put, without}
 use Rattle.facts.specs.Choice.{Lowest}
-use Rattle.facts.specs.Ports.{Within, Managed, Overlap}
+use Rattle.facts.specs.Ports.{Within, Has, Managed, Overlap, Answers}
 use Rattle.facts.specs.Levels.{Holds, typeOf}
 use Rattle.facts.specs.Packets.{byte, word, long, withWord, withLong}
 use Rattle.facts.specs.Checks.{Check, _gives_, Leaves, Outcome, Ruled, RuledThen, Rule}
@@ -155,6 +155,15 @@ pub record RangeHeld (F : Facts) (r : Range) : Type 0 where
   pub shares : Bool
   pub holder : RangeHolder F r client shares
 
+-- K2 (document 02): "a live grant holds or is repeated at any port of the range": its card answers there
+pub record RangeAnswered (F : Facts) (r : Range) : Type 0 where
+  pub socket : ℕ
+  pub grant : IoGrant
+  pub live : F .io socket ≡ some grant
+  pub port : ℕ
+  pub has : Has r port
+  pub answers : Answers (grant .ports) port
+
 -- "IRQ then: level over 15 BAD_IRQ; Add of a managed level IN_USE; Remove of an unmanaged one BAD_IRQ, of a held one IN_USE."
 abbrev pub withLevel : Facts → ℕ → Level → Facts
 withLevel F l v =
@@ -217,13 +226,14 @@ abbrev pub rangeAdded : Facts → ℕ → ℕ → ℕ → Facts
 rangeAdded F base count attributes =
     withRanges F (inserted (record { base = base; count = count; reserved = reserves attributes }) (F .ranges))
 
--- "Remove: no range with just that base and count BAD_BASE; a live grant holding a port of it IN_USE."
+-- "Remove: no range with just that base and count BAD_BASE; a live grant holding a port of it IN_USE." K2: "Remove is IN_USE if a live grant holds or
+-- is repeated at any port of the range."
 abbrev pub JustThat : Facts → ℕ → ℕ → Range → Type 0
 JustThat F base count r = (r ∈ F .ranges) × (r .base ≡ base) × (r .count ≡ count)
 
 abbrev pub takeChecks : ℕ → ℕ → Facts → List Check
 takeChecks base count F =
-    (((r : Range) → JustThat F base count r → ⊥) gives BadBase) ∷ (((r : Range) × JustThat F base count r × RangeHeld F r) gives InUse) ∷ []
+    (((r : Range) → JustThat F base count r → ⊥) gives BadBase) ∷ (((r : Range) × JustThat F base count r × RangeAnswered F r) gives InUse) ∷ []
 
 abbrev pub removeRangeChecks : Facts → ℕ → ℕ → ℕ → ℕ → List Check
 removeRangeChecks F base count attributes lines =

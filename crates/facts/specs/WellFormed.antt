@@ -9,7 +9,7 @@ use lib.ListN.{length}
 use Rattle.facts.specs.Sets.{_∈_}
 use Rattle.facts.specs.Table
 use Rattle.facts.specs.Table.{Facts, Client, Range, IoGrant, IrqGrant}
-use Rattle.facts.specs.Ports.{Meet, AllManaged}
+use Rattle.facts.specs.Ports.{Meet, AllManaged, AnswersManaged}
 use Rattle.facts.specs.Levels.{Together}
 
 -- handles in order: each over the one before it, and the first over lo
@@ -45,7 +45,7 @@ pub record ClientFits (F : Facts) (c : Client) : Type 0 where
   pub mask : (s m : ℕ) → c .mask s ≡ some m → (s < F .sockets) × EventsAllowed m
 
 -- "every grant .. has a live client and a socket below the count; granted .. ports are managed; an I/O grant has base 1 or more, lines 1 to 16 and a
--- count RequestIO allows"
+-- count RequestIO allows"; K2 (document 02): "each port that equals a granted one modulo two to the lines must be managed too"
 pub record IoFits (F : Facts) (s : ℕ) (g : IoGrant) : Type 0 where
   pub client : Live F (g .client)
   pub socket : s < F .sockets
@@ -56,6 +56,7 @@ pub record IoFits (F : Facts) (s : ℕ) (g : IoGrant) : Type 0 where
   pub asked : g .ports .count ≤ Table.mostAsked
   pub decoded : g .ports .count ≤ 2 ^ g .ports .lines
   pub managed : AllManaged F (g .ports .base) (g .ports .count)
+  pub answers : AnswersManaged F (g .ports)
 
 -- "every grant .. has a live client and a socket below the count; granted levels .. are managed"
 pub record IrqFits (F : Facts) (s : ℕ) (g : IrqGrant) : Type 0 where

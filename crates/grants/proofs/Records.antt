@@ -1,17 +1,19 @@
 -- Four bytes are zero where the number that they say is; a record that is used is sound, and records that are all zero keep company; managed ports, read,
 -- are those that a record says; and two grants are held against each other where both are there. Assumes nothing.
-use mathlib.Core.Path.{_≡_, ap, _∙_}
+use mathlib.Core.Path.{_≡_, ap, _∙_, subst}
 use mathlib.Core.Logic.{_⊎_, inl, _≢_}
 use mathlib.Core.List.{List}
 use mathlib.Core.Bool.{Bool, true, false, not}
 use Prim.Native.Nat.{ℕ, _+_, _-_, _≤_, _<_}
 use native.Mathlib.Omega.{arith}
+use Rattle.facts.specs.Table
 use Rattle.facts.specs.Table.{mostSockets}
 use Rattle.facts.specs.Says.{Says}
 use Rattle.facts.specs.Packets.{byte, word, long}
-use Rattle.facts.specs.Ports.{Within}
 use Rattle.facts.proofs.Says.{says-true, says-as, says-yes, says-no}
-use Rattle.layout.specs.Sound.{Zero, ManagedIn}
+use Rattle.layout.specs.Reading.{portsIn}
+use Rattle.layout.specs.Sound.{Zero}
+use Rattle.answering.specs.Gaps.{AllManagedIn}
 use Rattle.reading.proofs.All.{All, all-none, all-more}
 use Rattle.grants.specs.declared.ios.Ports.{Ports}
 use Rattle.grants.specs.Parts.{PortsAt, SocketSound}
@@ -60,13 +62,12 @@ module _ (b : List ℕ) (from to size : ℕ) (place : ℕ → ℕ) (two : 2 ≤ 
             )));
       }
 
--- whether the ports that a record says are managed
-abbrev Managed : List ℕ → ℕ → ℕ → Type 0
-Managed b base count = (q : ℕ) → Within q base count → ManagedIn b q
-
-pub managed-read : {b : List ℕ} {at : ℕ} {p : Ports} {r : Bool} → PortsAt b at p → Says r (Managed b (p .base) (p .count))
-    → Says r (Managed b (word b (at + 2)) (byte b (at + 4)))
-managed-read a s = rw (a .base, a .count) at s
+-- whether the ports that a record says are managed, and wherever their card answers
+pub managed-read : {b : List ℕ} {at : ℕ} {p : Ports} {r : Bool} → PortsAt b at p
+    → Says r (AllManagedIn b (record { base = p .base; count = p .count; lines = p .lines }))
+    → Says r (AllManagedIn b (portsIn b at))
+managed-read {b} {at} {p} {r} a s =
+    subst (λ (x : Table.Ports). Says r (AllManagedIn b x)) (λ i. record { base = a .base i; count = a .count i; lines = a .lines i }) s
 
 -- two records that may have a client each, and P where both have
 module _ {both : Bool} {A A′ P : Type 0} (used : Says both (A × A′)) where

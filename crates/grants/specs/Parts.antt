@@ -4,10 +4,11 @@ use mathlib.Core.List.{List}
 use Prim.Native.Nat.{ℕ, _+_, _^_, _≤_, _<_}
 use Rattle.facts.specs.Table
 use Rattle.facts.specs.Packets.{byte, word}
-use Rattle.facts.specs.Ports.{Within}
+use Rattle.facts.specs.Ports.{Within, Answers}
 use Rattle.layout.specs.Layout
-use Rattle.layout.specs.Reading.{socketsIn}
-use Rattle.layout.specs.Sound.{Zero, LiveIn, ManagedIn, CardSound, IoPlaceSound, IrqPlaceSound, IoPairSound, IrqPairSound}
+use Rattle.layout.specs.Reading.{socketsIn, ioPlace, portsIn}
+use Rattle.layout.specs.Sound.{Zero, LiveIn, ManagedIn, CardSound, IoUsed, IoPlaceSound, IrqPlaceSound, IoPairSound, IrqPairSound}
+use Rattle.answering.specs.Rows.{GapsAre}
 use Rattle.grants.specs.declared.ios.Ports.{Ports}
 
 -- "every grant .. has a live client and a socket below the count": the grant whose record stands at a place
@@ -23,7 +24,7 @@ pub record PortsAt (b : List ℕ) (at : ℕ) (p : Ports) : Type 0 where
   pub base-most : p .base < Table.allPorts
   pub count-most : p .count ≤ Table.mostAsked
 
--- "granted .. ports are managed; an I/O grant has base 1 or more, lines 1 to 16 and a count RequestIO allows"
+-- "granted .. ports are managed; an I/O grant has base 1 or more, lines 1 to 16 and a count RequestIO allows"; K2: wherever its card answers is managed
 pub record PortsSound (b : List ℕ) (at : ℕ) : Type 0 where
   pub base : 1 ≤ word b (at + 2)
   pub port : 1 ≤ byte b (at + 4)
@@ -31,6 +32,19 @@ pub record PortsSound (b : List ℕ) (at : ℕ) : Type 0 where
   pub lines : byte b (at + 5) ≤ Table.mostLines
   pub decoded : byte b (at + 4) ≤ 2 ^ byte b (at + 5)
   pub managed : (p : ℕ) → Within p (word b (at + 2)) (byte b (at + 4)) → ManagedIn b p
+  pub answers : (p : ℕ) → Answers (portsIn b at) p → ManagedIn b p
+
+-- the card of the socket's I/O grant decodes so many lines
+abbrev pub LinesOn : List ℕ → ℕ → ℕ → Type 0
+LinesOn b s r = IoUsed b s → r ≡ byte b (ioPlace s + 5)
+
+-- no I/O grant's card decodes fewer lines
+abbrev pub FewestLines : List ℕ → ℕ → Type 0
+FewestLines b r = (s : ℕ) → s < socketsIn b → IoUsed b s → r ≤ byte b (ioPlace s + 5)
+
+-- the rows of the gaps serve the card of every I/O grant
+abbrev pub RowsServe : List ℕ → List ℕ → Type 0
+RowsServe b rows = (s : ℕ) → s < socketsIn b → IoUsed b s → GapsAre b (byte b (ioPlace s + 5)) rows
 
 -- every card's mark is one, and there is none at a socket from the count on
 abbrev pub CardsMarked : List ℕ → Type 0

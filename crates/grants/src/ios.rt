@@ -1,5 +1,6 @@
 // The I/O grants: a socket's record, and the company that it keeps with those of the sockets below it.
 use crate::sockets::holder_sound;
+use answering::ROWS;
 use facts::Socket;
 use layout::IO_BASE;
 use layout::IO_COUNT;
@@ -12,6 +13,7 @@ use layout::IRQS_AT;
 use layout::MARKED;
 use layout::MOST_LINES;
 use layout::MOST_SOCKETS;
+use layout::SOCKETS_IN;
 ghost use mathlib.Core.Path.{_≡_};
 ghost use mathlib.Core.Logic.{_≢_};
 ghost use Prim.Native.Nat.{_+_, _^_, _<_, _≤_};
@@ -23,8 +25,9 @@ ghost use Rattle.facts.specs.Ports.{Meet};
 ghost use Rattle.layout.specs.Layout.{tableSize};
 ghost use Rattle.layout.specs.Reading.{rangesIn, ioIn};
 ghost use Rattle.layout.specs.Sound.{RangesSound, IoPlaceSound, IoPairSound, CountsSound, ClientsSound};
+ghost use Rattle.answering.specs.Rows.{GapsAre};
 ghost use Rattle.reading.specs.Sets.{Covers};
-ghost use Rattle.grants.specs.Parts.{PortsAt, PortsSound, PlacesSound, CompanySound, SocketSound, IosSound};
+ghost use Rattle.grants.specs.Parts.{PortsAt, PortsSound, PlacesSound, CompanySound, SocketSound, IosSound, LinesOn, FewestLines, RowsServe};
 ghost use Rattle.grants.specs.Company.{blockOf, BlocksWithin, Answers, CoversBelow};
 
 // Ports stand in blocks, which are counted modulo `BLOCKS`, so that a set of blocks has a bit for each.
@@ -54,9 +57,10 @@ fn ports_at(t: &[u8], at: usize) -> Ports
     Ports { base, count, lines }
 }
 
-// "granted .. ports are managed; an I/O grant has base 1 or more, lines 1 to 16 and a count RequestIO allows"
-fn ports_sound(t: &[u8], at: usize) -> bool
+// "granted .. ports are managed; an I/O grant has base 1 or more, lines 1 to 16 and a count RequestIO allows"; and wherever its card answers is managed (K2)
+fn ports_sound(t: &[u8], rows: &[u16; ROWS], at: usize) -> bool
     requires { ⌜ (length (now t) ≡ tableSize) × (rangesIn (now t) ≤ Table.mostRanges) × RangesSound (now t) × (at + 5 < tableSize) ⌝ }
+    requires { ⌜ GapsAre (now t) (Packets.byte (now t) (at + 5)) (now rows) ⌝ }
     ensures { λ r. ⌜ Says r (PortsSound (now (t .entry)) at) ⌝ }
 {
     let p = ports_at(t, at);
@@ -78,12 +82,13 @@ fn ports_sound(t: &[u8], at: usize) -> bool
     if ports::power(lines) < count {
         return false;
     }
-    reading::managed(t, base, count)
+    answering::managed(t, rows, base, count, lines)
 }
 
 // The I/O grant of the socket `s`, or a record that is all zero.
-fn io_place_sound(t: &[u8], s: Socket) -> bool
+fn io_place_sound(t: &[u8], rows: &[u16; ROWS], s: Socket) -> bool
     requires { ⌜ (length (now t) ≡ tableSize) × (s .0 < Table.mostSockets) × CountsSound (now t) × ClientsSound (now t) × RangesSound (now t) ⌝ }
+    requires { ⌜ RowsServe (now t) (now rows) ⌝ }
     ensures { λ r. ⌜ Says r (IoPlaceSound (now (t .entry)) (s .0)) ⌝ }
 {
     let number = s.0;
@@ -97,10 +102,10 @@ fn io_place_sound(t: &[u8], s: Socket) -> bool
     if MARKED < reading::byte(t, at + IO_SHARED) {
         return false;
     }
-    if !ports_sound(t, at) {
+    if !holder_sound(t, at, s) {
         return false;
     }
-    holder_sound(t, at, s)
+    ports_sound(t, rows, at)
 }
 
 // Whether the ports of the I/O grants of two sockets meet.
@@ -211,15 +216,41 @@ fn io_company_sound(t: &[u8], s: Socket, blocks: u64) -> bool
 }
 
 // The I/O record of the socket `s`, and the company that its grant keeps with those below it.
-fn io_socket_sound(t: &[u8], s: Socket, blocks: u64) -> bool
+fn io_socket_sound(t: &[u8], rows: &[u16; ROWS], s: Socket, blocks: u64) -> bool
     requires { ⌜ (length (now t) ≡ tableSize) × (s .0 < Table.mostSockets) × CountsSound (now t) × ClientsSound (now t) × RangesSound (now t) ⌝ }
-    requires { ⌜ PlacesSound (IoPlaceSound (now t)) (s .0) × CoversBelow blocks (s .0) (Answers (now t)) ⌝ }
+    requires { ⌜ RowsServe (now t) (now rows) × PlacesSound (IoPlaceSound (now t)) (s .0) × CoversBelow blocks (s .0) (Answers (now t)) ⌝ }
     ensures { λ r. ⌜ Says r (SocketSound (IoPlaceSound (now (t .entry))) (IoPairSound (now (t .entry))) (s .0)) ⌝ }
 {
-    if !io_place_sound(t, s) {
+    if !io_place_sound(t, rows, s) {
         return false;
     }
     io_company_sound(t, s, blocks)
+}
+
+// The lines that the card of the socket's I/O grant decodes; all, where there is no grant.
+fn lines_on(t: &[u8], s: Socket) -> usize
+    requires { ⌜ (length (now t) ≡ tableSize) × (s .0 < Table.mostSockets) ⌝ }
+    ensures { λ r. ⌜ LinesOn (now (t .entry)) (s .0) r ⌝ }
+{
+    let number = s.0;
+    let at = IOS_AT + number * IO_SIZE;
+    if reading::word(t, at) == 0 {
+        return MOST_LINES;
+    }
+    reading::byte(t, at + IO_LINES)
+}
+
+// The fewest lines that a card of any I/O grant decodes; all, where there is no grant.
+fn fewest_lines(t: &[u8]) -> usize
+    requires { ⌜ (length (now t) ≡ tableSize) × CountsSound (now t) ⌝ }
+    ensures { λ r. ⌜ FewestLines (now (t .entry)) r ⌝ }
+{
+    let sockets = reading::byte(t, SOCKETS_IN);
+    let mut fewest = MOST_LINES;
+    for s in 0..sockets {
+        fewest = ports::smaller(fewest, lines_on(t, Socket(s)));
+    }
+    fewest
 }
 
 // The I/O grants of all sockets: `blocks` are those in which the grants passed answer.
@@ -230,9 +261,11 @@ pub fn ios_sound(t: &[u8]) -> bool
     if reading::zero(t, IOS_AT, IRQS_AT) {
         return true;
     }
+    let mut rows: [u16; ROWS] = [0; ROWS];
+    answering::gap_rows(t, fewest_lines(t), &mut rows);
     let mut blocks: u64 = 0;
     for s in 0..MOST_SOCKETS {
-        if !io_socket_sound(t, Socket(s), blocks) {
+        if !io_socket_sound(t, &rows, Socket(s), blocks) {
             return false;
         }
         blocks = blocks | io_blocks(t, Socket(s));

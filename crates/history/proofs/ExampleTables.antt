@@ -26,9 +26,9 @@ use Rattle.cases.proofs.Permitted.{as-left, _then_, _nor_, listed-alone}
 use Rattle.history.proofs.Giving.{left}
 use Rattle.history.proofs.OnSockets.{Ready, ready, two-sockets, one-client, for, own-passed, irqRequests, ioRequests, maskRequests}
 
--- a card in each socket, and the level 3 and the ports 2F8 to 6FF managed
+-- a card in each socket, and the level 3 and all ports managed
 abbrev pub idle : Facts
-idle = rangeAdded (levelAdded (withCard (withCard oneClient 0 true) 1 true) 3 0) 0x2F8 0x408 0
+idle = rangeAdded (levelAdded (withCard (withCard oneClient 0 true) 1 true) 3 0) 0 0x10000 0
 
 pub idle-ready : Ready idle
 idle-ready =
@@ -36,7 +36,7 @@ idle-ready =
     (range-added-formed _
     (level-added-formed _ (card-formed _ (card-formed oneClient (one-client .formed) 0 true (omega arith)) 1 true (omega arith)) 3 0
     ((λ e. e (inl refl)) then (omega arith) then false≢true then tt))
-    0x2F8 0x408 0 16
+    0 0x10000 0 16
     (((λ e. e (inl refl)) nor omega arith) then (omega arith nor omega arith) then (omega arith) then (λ e. e .2 .listed) then (omega arith) then tt))
     _ (inl refl) refl
 
@@ -100,7 +100,8 @@ io-granted =
           then io-good 0x00 0x03 .0
           then io-good 0x00 0x03 .1
           then (λ e. e refl)
-          then (λ e. (omega arith nor (λ u. u (λ x m. record { range = _; listed = inl refl; has = omega arith }))) (e .1))
+          then (λ e. (omega arith nor (λ u. u (λ x m. record { range = _; listed = inl refl; has = omega arith }))
+          nor (λ u. u (λ x a. record { range = _; listed = inl refl; has = omega (arith, a .below) }))) (e .1))
           then (λ e. Option·none-ne-some _ (e .1 .live))
           then (omega arith)
           then tt),

@@ -43,7 +43,7 @@ from-two es b runs =
 pub says : {F : Facts} → WellFormed F → (a : Accepted (image F)) → a .facts ≡ F
 says w a = accepted-one a (accepted w)
 
--- a client registers, cards come in, and the level 3 and the ports 2F8 to 6FF are added
+-- a client registers, cards come in, and the level 3 and all ports are added
 abbrev pub registers : ℕ → Event
 registers h = call (serviceNumber registerClient) 0 clientPacket Success h clientPacket
 
@@ -51,7 +51,7 @@ abbrev addLevel : List ℕ
 addLevel = 1 ∷ 2 ∷ 0 ∷ 3 ∷ []
 
 abbrev portsAdded : List ℕ
-portsAdded = 0xF8 ∷ 0x02 ∷ 0 ∷ 0 ∷ 0x08 ∷ 0x04 ∷ 0 ∷ 0 ∷ 0 ∷ 16 ∷ []
+portsAdded = 0 ∷ 0 ∷ 0 ∷ 0 ∷ 0 ∷ 0 ∷ 1 ∷ 0 ∷ 0 ∷ 16 ∷ []
 
 abbrev addRange : List ℕ
 addRange = 1 ∷ 1 ∷ portsAdded
@@ -108,7 +108,7 @@ range-in =
     serves levelled-formed adjustResourceInfo 1 addRange (done 1 addRange idle) tt
     (inr (range-named portsAdded refl, inr (refl, Wide, refl, inl (refl, inr (range-free, (refl, as-left _))))))
   where
-    range-free : Passed (addRangeChecks levelled 0x2F8 0x408 0 16)
+    range-free : Passed (addRangeChecks levelled 0 0x10000 0 16)
     range-free =
         ((λ e. e (inl refl)) nor omega arith) then (omega arith nor omega arith) then (omega arith) then (λ e. e .2 .listed) then (omega arith) then tt
 

@@ -4,7 +4,7 @@ use mathlib.Core.Logic.{_⊎_, inl, inr, ⊎-elim, _≢_}
 use mathlib.Core.List.{List, [], _∷_, _++_}
 use mathlib.Core.Bool.{true, true≢false}
 use mathlib.Core.Option.{some, Option·none-ne-some, Option·some-injective}
-use Prim.Native.Nat.{ℕ, _+_, _*_, _^_, _≤_}
+use Prim.Native.Nat.{ℕ, _+_, _*_, _^_, _≤_, _<_}
 use native.Mathlib.Decide.{ℕ-discrete}
 use native.Mathlib.Omega.{arith}
 use lib.ListN.{length}
@@ -12,9 +12,10 @@ use lib.Dec.{T}
 use Rattle.facts.specs.declared.Code.{Code}
 use Rattle.facts.specs.declared.Code.the-variants.{Success, BadBase}
 use Rattle.facts.specs.declared.Manner.the-variants.{Exclusive, DynamicLevel}
-use Rattle.facts.specs.Table.{Facts, IoGrant, IrqGrant}
+use Rattle.facts.specs.Table.{Facts, Range, IoGrant, IrqGrant}
+use Rattle.facts.specs.Sets.{_∈_}
 use Rattle.facts.specs.Packets.{withWord}
-use Rattle.facts.specs.Ports.{Meet, Overlap, AllManaged}
+use Rattle.facts.specs.Ports.{Meet, Overlap, Managed}
 use Rattle.facts.specs.Levels.{Together, Holds, typeOf}
 use Rattle.facts.specs.Checks.{Check, _gives_, Passed}
 use Rattle.facts.specs.Sockets.{socketOf}
@@ -25,7 +26,7 @@ use Rattle.facts.specs.Services.{Service, requestIrq, requestIo, serviceNumber}
 use Rattle.facts.proofs.Sets.{put-is}
 use Rattle.facts.proofs.Unique.{number-injective}
 use Rattle.layout.specs.Layout.{image}
-use Rattle.cases.specs.Cases.{done, ports, irqPacket, dynamic, timeMultiplexed}
+use Rattle.cases.specs.Cases.{done, ports, range, irqPacket, dynamic, timeMultiplexed}
 use Rattle.cases.proofs.Cases.{cases}
 use Rattle.cases.proofs.Levels.{bits-A3, alone-taken}
 use Rattle.cases.proofs.Permitted.{as-left, _then_, _nor_}
@@ -139,17 +140,26 @@ two-ports Joins p p′ bytes granted passed named joins sockets meet x =
         ⊎-elim (λ k. subst (Joins p′) (Option·some-injective _ g (sym (k .1) ∙ e)) joins) (λ k. absurd (Option·none-ne-some g (sym (k .1) ∙ e)))
         (put-is (idle .io) (socketOf p) (some (ioGrant 1 p (baseAsked p))) s)
 
--- the ports 2F8 to 6FF are managed
-managed-here : (base count : ℕ) → 0x2F8 ≤ base → base + count ≤ 0x700 → AllManaged idle base count
-managed-here base count l m = λ x w. record { range = _; listed = inl refl; has = omega (arith, l, m, w .from, w .below) }
+-- all ports are managed, so that a base that is named is, and wherever its card answers
+all-managed : (F : Facts) → F .ranges ≡ idle .ranges → (p : List ℕ) → baseAsked p + countAsked p ≤ 0x10000 → NotAllManaged F p → ⊥
+all-managed F e p below =
+    (λ l. omega (arith, l, below)) nor (λ u. u (λ x w. managed x (omega (arith, w .below, below)))) nor (λ u. u (λ x a. managed x (a .below)))
+  where
+    managed : (x : ℕ) → x < 0x10000 → Managed F x
+    managed x l =
+        record {
+          range = range 0 0x10000;
+          listed = subst (λ (rs : List Range). range 0 0x10000 ∈ rs) (sym e) (inl refl);
+          has = record { from = omega arith; below = l };
+        }
 
--- a packet in order, past socket and function, that names ports in there
+-- a packet in order, past socket and function, that names ports
 pub record NamesPorts (s : ℕ) (q : List ℕ) : Type 0 where
   pub size : length q ≡ 9
   pub attributes : IoAttributesBad (for s q) → ⊥
   pub sizes : IoSizeBad (for s q) → ⊥
-  pub from : 0x2F8 ≤ baseAsked (for s q)
-  pub below : baseAsked (for s q) + countAsked (for s q) ≤ 0x700
+  pub from : 1 ≤ baseAsked (for s q)
+  pub below : baseAsked (for s q) + countAsked (for s q) ≤ 0x10000
 
 -- the first of them is granted, on the socket 0
 first-granted : (q : List ℕ) → NamesPorts 0 q → withWord (for 0 q) 2 (baseAsked (for 0 q)) ≡ for 0 q
@@ -161,7 +171,7 @@ first-granted q n kept =
           then n .attributes
           then n .sizes
           then (λ e. e refl)
-          then (λ e. ((λ l. omega (arith, l, n .below)) nor (λ u. u (managed-here _ _ (n .from) (n .below)))) (e .1))
+          then (λ e. all-managed idle refl (for 0 q) (n .below) (e .1))
           then (λ e. Option·none-ne-some _ (e .1 .live))
           then (λ e. omega (arith, e .0, n .from))
           then tt),
@@ -181,16 +191,15 @@ second-passes q q′ n =
     then n .attributes
     then n .sizes
     then (λ e. e refl)
-    then (λ e. ((λ l. omega (arith, l, n .below)) nor (λ u. u (λ x w. record { range = _; listed = inl refl; has = omega (arith, n .from, n .below, w .from, w .below) })))
-    (e .1))
+    then (λ e. all-managed (ioAlone (for 0 q)) refl (for 1 q′) (n .below) (e .1))
     then tt
 
 -- packets of eight ports, past socket and function: at a base, with attributes and lines; Shared or not
 abbrev eight : ℕ → ℕ → ℕ → ℕ → List ℕ
 eight low high attributes lines = low ∷ high ∷ 8 ∷ attributes ∷ 0 ∷ 0 ∷ 0 ∷ 0 ∷ lines ∷ []
 
-eight-names : (s low high attributes lines : ℕ) → attributes ≤ 1 → 1 ≤ lines → lines ≤ 16 → 8 ≤ 2 ^ lines → 0x2F8 ≤ low + 256 * high
-    → low + 256 * high + 8 ≤ 0x700 → NamesPorts s (eight low high attributes lines)
+eight-names : (s low high attributes lines : ℕ) → attributes ≤ 1 → 1 ≤ lines → lines ≤ 16 → 8 ≤ 2 ^ lines → 1 ≤ low + 256 * high
+    → low + 256 * high + 8 ≤ 0x10000 → NamesPorts s (eight low high attributes lines)
 eight-names s low high attributes lines a one most power from below =
     record {
       size = refl;

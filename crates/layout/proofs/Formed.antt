@@ -152,6 +152,7 @@ module _ (b : List ℕ) (bytes : Bytes b) (s : Sound b) where
         asked = omega (arith, bytes (ioPlace t + 4));
         decoded = u .decoded;
         managed = λ p h. managed-of p (u .managed p h);
+        answers = λ p h. managed-of p (u .answers p h);
       }
 
   irq-there : (t : ℕ) (g : IrqGrant) → factsIn b .irq t ≡ some g → (t < Table.mostSockets) × IrqUsed b t × IrqSound b t × (irqIn b t ≡ g)

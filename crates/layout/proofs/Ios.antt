@@ -16,7 +16,7 @@ use Rattle.facts.specs.Packets.{byte, word, withWord}
 use Rattle.facts.specs.Io.{withIo}
 use Rattle.layout.specs.Layout
 use Rattle.layout.specs.Layout.{image, two, ioBytes, mark}
-use Rattle.layout.specs.Reading.{ioPlace, irqPlace, ioIn}
+use Rattle.layout.specs.Reading.{ioPlace, irqPlace, portsIn, ioIn}
 use Rattle.layout.specs.Sound.{Accepted, IoPlaceSound}
 use Rattle.layout.specs.Changed.{ioEntered}
 use Rattle.layout.proofs.Of
@@ -30,8 +30,7 @@ module _ (b : List ℕ) (s : ℕ) where
   unfolding ioIn
   client-is = refl
 
-  pub ports-are :
-      _≡_ {A = Ports} (ioIn b s .ports) (record { base = word b (ioPlace s + 2); count = byte b (ioPlace s + 4); lines = byte b (ioPlace s + 5) })
+  pub ports-are : _≡_ {A = Ports} (ioIn b s .ports) (portsIn b (ioPlace s))
   unfolding ioIn
   ports-are = refl
 

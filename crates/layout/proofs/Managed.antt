@@ -38,6 +38,9 @@ pub end-before : (b : List ℕ) (i : ℕ) → i ≢ 0 → rangeEnd b (i - 1) ≡
 end-before b zero n = absurd (n refl)
 end-before b (suc k) n = ap (rangeEnd b) (omega arith)
 
+pub end-next : (b : List ℕ) (i : ℕ) → endBefore b (i + 1) ≡ rangeEnd b i
+end-next b i = let e : i + 1 ≡ suc i = omega arith in ap (endBefore b) e
+
 -- each range ends at or before the start of every later one
 pub ends-before : (b : List ℕ) → RangesSound b → (j i : ℕ) → j < i → i < rangesIn b → rangeEnd b j ≤ rangeBase b i
 ends-before b s j zero l h = absurd (omega arith)

@@ -11,7 +11,7 @@ use Rattle.facts.specs.declared.Manner.{Manner}
 use Rattle.facts.specs.declared.Manner.the-variants.{Exclusive, TimeMultiplexed, DynamicLevel, DynamicPulse}
 use Rattle.facts.specs.Table
 use Rattle.facts.specs.Table.{Facts, Client, Range, IoGrant, IrqGrant}
-use Rattle.facts.specs.Ports.{Managed}
+use Rattle.facts.specs.Ports.{Managed, Answers}
 use Rattle.facts.specs.Packets.{byte, word}
 use Rattle.facts.specs.WellFormed.{WellFormed, AttributesAllowed, Live, IoCompany, IrqCompany}
 use Rattle.facts.proofs.Sets.{rising-over, apart-port}
@@ -231,6 +231,7 @@ module _ (F : Facts) (w : WellFormed F) where
         decoded = subst₂ (λ (n k : ℕ). n ≤ 2 ^ k) (sym count) (sym lines) (fits .decoded);
         managed =
             λ p h. managed-in p (fits .managed p (record { from = omega (arith, base, h .from); below = omega (arith, base, count, h .below) }));
+        answers = λ p a. managed-in p (fits .answers p (subst (λ (x : IoGrant). Answers (x .ports) p) is a));
         mark = omega (arith, Image.io-at F s l 6 (omega arith) ∙ ap (λ (o : Option IoGrant). getD (ioBytes o) 6 0) e, mark-most (g .shared));
         spare = io-spare s g l e;
       }

@@ -7,7 +7,7 @@ use lib.Dec.{eqb, ltb}
 use Rattle.facts.specs.declared.Manner.{Manner}
 use Rattle.facts.specs.declared.Manner.the-variants.{Exclusive, TimeMultiplexed, DynamicLevel, DynamicPulse}
 use Rattle.facts.specs.Table
-use Rattle.facts.specs.Table.{Facts, Client, Level, Range, IoGrant, IrqGrant}
+use Rattle.facts.specs.Table.{Facts, Client, Level, Range, Ports, IoGrant, IrqGrant}
 use Rattle.facts.specs.Packets.{byte, word, long}
 use Rattle.layout.specs.Layout
 
@@ -76,13 +76,13 @@ rangeIn b i = record { base = word b (rangePlace i); count = long b (rangePlace 
 unfoldable pub levelIn : List ℕ → ℕ → Level
 levelIn b l = record { managed = marked (byte b (levelPlace l)); reserved = marked (byte b (levelPlace l + 1)) }
 
+-- the ports that the record of an I/O grant says
+abbrev pub portsIn : List ℕ → ℕ → Ports
+portsIn b at = record { base = word b (at + 2); count = byte b (at + 4); lines = byte b (at + 5) }
+
 unfoldable pub ioIn : List ℕ → ℕ → IoGrant
 ioIn b s =
-    record {
-      client = word b (ioPlace s);
-      ports = record { base = word b (ioPlace s + 2); count = byte b (ioPlace s + 4); lines = byte b (ioPlace s + 5) };
-      shared = marked (byte b (ioPlace s + 6));
-    }
+    record { client = word b (ioPlace s); ports = portsIn b (ioPlace s); shared = marked (byte b (ioPlace s + 6)) }
 
 abbrev pub mannerOf : ℕ → Manner
 mannerOf n = cond (eqb n 0) Exclusive (cond (eqb n 1) TimeMultiplexed (cond (eqb n 2) DynamicLevel DynamicPulse))

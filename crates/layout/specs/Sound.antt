@@ -7,11 +7,11 @@ use lib.ListN.{length}
 use Rattle.facts.specs.Table
 use Rattle.facts.specs.Table.{Facts}
 use Rattle.facts.specs.Packets.{byte, word, long}
-use Rattle.facts.specs.Ports.{Within}
+use Rattle.facts.specs.Ports.{Within, Answers}
 use Rattle.facts.specs.WellFormed.{WellFormed, AttributesAllowed, EventsAllowed, IoCompany, IrqCompany}
 use Rattle.layout.specs.Layout
 use Rattle.layout.specs.Reading.{socketsIn, clientsIn, rangesIn, issuedIn, clientPlace, rangePlace, levelPlace, ioPlace, irqPlace, handleIn}
-use Rattle.layout.specs.Reading.{maskPlace, ioIn, irqIn}
+use Rattle.layout.specs.Reading.{maskPlace, portsIn, ioIn, irqIn}
 
 -- the bytes are the image of some well-formed set
 pub record Accepted (b : List ℕ) : Type 0 where
@@ -103,6 +103,7 @@ pub record IoSound (b : List ℕ) (s : ℕ) : Type 0 where
   pub lines : byte b (ioPlace s + 5) ≤ Table.mostLines
   pub decoded : byte b (ioPlace s + 4) ≤ 2 ^ byte b (ioPlace s + 5)
   pub managed : (p : ℕ) → Within p (word b (ioPlace s + 2)) (byte b (ioPlace s + 4)) → ManagedIn b p
+  pub answers : (p : ℕ) → Answers (portsIn b (ioPlace s)) p → ManagedIn b p
   pub mark : byte b (ioPlace s + 6) ≤ 1
   pub spare : Zero b (ioPlace s + 7) (ioPlace s + Layout.ioSize)
 

@@ -12,6 +12,7 @@ use Rattle.facts.specs.Packets.{Bytes}
 use Rattle.facts.proofs.Says.{says-as}
 use Rattle.layout.specs.Reading.{rangesIn, rangePlace}
 use Rattle.layout.specs.Sound.{RangesSound, rangeBase, rangeCount, endBefore}
+use Rattle.layout.proofs.Managed.{end-next}
 use Rattle.reading.proofs.All.{All, all-none, all-more}
 use Rattle.lists.specs.Parts.{RangeFollows, RangeMarked}
 use Rattle.lists.proofs.Flaws.{Flawless, flawless-none, flawless-more}
@@ -24,9 +25,6 @@ pub record Passed (b : List ℕ) (low flaws i : ℕ) : Type 0 where
   pub marked : Flawless (RangeMarked b) i flaws
 
 module _ (b : List ℕ) where
-  end-next : (i : ℕ) → endBefore b (i + 1) ≡ rangeBase b i + rangeCount b i
-  end-next i = let e : i + 1 ≡ suc i = omega arith in ap (endBefore b) e
-
   pub passed-none : Passed b 0 0 0
   passed-none =
       record {
@@ -43,7 +41,7 @@ module _ (b : List ℕ) where
     passed-more next flaw l f m e =
         record {
           within = omega arith;
-          last = e ∙ sym (end-next i);
+          last = e ∙ sym (end-next b i);
           follow = all-more {P = λ k. RangeFollows b (endBefore b k) k} (p .follow)
               (record { from = omega (arith, p .last, f .from); port = f .port });
           marked = flawless-more flaw (p .marked) m;
@@ -72,8 +70,8 @@ module _ (b : List ℕ) where
           where
             go : Dec (k + 1 < i) → rangeBase b k + rangeCount b k ≤ allPorts
             go (yes n) =
-                omega (arith, end-next k, p .follow (k + 1) n .from, known (rangePlace (k + 1)), known (rangePlace (k + 1) + 1))
+                omega (arith, end-next b k, p .follow (k + 1) n .from, known (rangePlace (k + 1)), known (rangePlace (k + 1) + 1))
             go (no n) =
                 let at : k + 1 ≡ i = omega arith in
                 let here : endBefore b (k + 1) ≡ endBefore b i = ap (endBefore b) at in
-                omega (arith, end-next k, here, p .last, h)
+                omega (arith, end-next b k, here, p .last, h)

@@ -11,14 +11,15 @@ use lib.ListN.{length, getD, set, length-set}
 use Rattle.facts.specs.declared.Code.{Code}
 use Rattle.facts.specs.declared.Code.the-variants.{BadAttribute, BadBase, InUse, OutOfResource}
 use Rattle.facts.specs.Table
-use Rattle.facts.specs.Table.{Facts, Range}
+use Rattle.facts.specs.Table.{Facts, Range, Ports, IoGrant}
 use Rattle.facts.specs.Packets.{byte, withWord, withLong}
-use Rattle.facts.specs.Ports.{Within, Managed}
+use Rattle.facts.specs.Ports.{Within, Meet, Managed}
 use Rattle.facts.specs.Checks.{Check, _gives_, FirstGiven}
-use Rattle.facts.specs.Resources.{rangeChecks, rangeRemoved, withRanges, inserted, JustThat, RangeHeld, putChecks, takeChecks}
+use Rattle.facts.specs.Resources.{rangeChecks, rangeRemoved, withRanges, inserted, JustThat, RangeAnswered, putChecks, takeChecks}
+use Rattle.facts.proofs.Company.{meet-symmetric}
 use Rattle.layout.specs.Layout
 use Rattle.layout.specs.Layout.{image, mark, two, four}
-use Rattle.layout.specs.Reading.{rangesIn, rangePlace, rangeIn}
+use Rattle.layout.specs.Reading.{rangesIn, rangePlace, rangeIn, ioIn}
 use Rattle.layout.specs.Sound.{Accepted, ManagedIn, rangeBase}
 use Rattle.layout.specs.Changed.{TakenOut, PutIn}
 use Rattle.layout.proofs.Of
@@ -26,8 +27,8 @@ use Rattle.layout.proofs.Parts.{below-at}
 use Rattle.layout.proofs.Written.{byte-same, byte-other, word-length, word-low, word-high, word-other, long-length, long-bytes, long-other}
 use Rattle.layout.proofs.Managed.{range-put-in, range-taken-out}
 use Rattle.image.specs.Writing.{RoomMade}
-use Rattle.holders.specs.declared.Holders.the-variants.{Nobody}
-use Rattle.holders.specs.Holders.{RangeHoldersAre}
+use Rattle.ports.proofs.Answering.{answers-meet, meet-answers}
+use Rattle.meeting.specs.Meeting.{MeetsSome}
 use Rattle.answers.specs.declared.Change.{Change}
 use Rattle.answers.specs.declared.Change.the-variants.{Made, Refused}
 use Rattle.answers.specs.Changing.{Changes}
@@ -148,17 +149,55 @@ module _ (b : List ℕ) (a : Accepted b) (base n : ℕ) where
             count-is = sym (ap (λ (y : Range). y .count) (x .2) ∙ Of.range-count b a (x .0)) ∙ j .2;
           })
 
-  pub take-held : (i : ℕ) → FoundAt b base n i → RangeHeld (a .facts) (rangeIn b i) → TakesRange base n b b (Refused InUse)
-  take-held i f held =
-      refused (takeChecks base n) taken b a InUse
-      (inr ((λ none. none (rangeIn b i) (just i f)), inl ((rangeIn b i, just i f, held), refl)))
+  -- a card that is granted ports answers in the range exactly if they meet those of the range, all of whose lines count
+  abbrev whole : Ports
+  whole = record { base = base; count = n; lines = Table.mostLines }
 
-  pub take-made : (b′ : List ℕ) (i : ℕ) → FoundAt b base n i → RangeHoldersAre b base n Nobody
+  met-answered : (i : ℕ) → FoundAt b base n i → MeetsSome b whole → RangeAnswered (a .facts) (rangeIn b i)
+  met-answered i f (s, l, m) =
+      let live = Of.io-said b a s l (m .used) in
+      let here = Of.sound-in b a .ranges i (f .listed) .within in
+      let x =
+      meet-answers (ioIn b s .ports) (a .formed .ios s (ioIn b s) live .lines) base n (omega (arith, here, f .base-is, f .count-is))
+      (meet-symmetric whole (ioIn b s .ports) (m .meets)) in
+      record {
+        socket = s;
+        grant = ioIn b s;
+        live = live;
+        port = x .0;
+        has = record {
+          from = omega (arith, x .1 .from, Of.range-base b a i, f .base-is);
+          below = omega (arith, x .1 .below, Of.range-base b a i, Of.range-count b a i, f .base-is, f .count-is);
+        };
+        answers = x .2;
+      }
+
+  answered-met : (r : Range) → JustThat (a .facts) base n r → RangeAnswered (a .facts) r → MeetsSome b whole
+  answered-met r j x =
+      let g = x .grant in
+      let said = Of.said-io b a (x .socket) g (x .live) in
+      let met =
+      answers-meet (g .ports) (a .formed .ios (x .socket) g (x .live) .lines) base n (x .port) (x .answers)
+      (record { from = omega (arith, x .has .from, j .1); below = omega (arith, x .has .below, j .1, j .2) }) in (
+        x .socket,
+        said .0,
+        record {
+          used = said .1;
+          meets = subst (λ (y : IoGrant). Meet whole (y .ports)) (sym (said .2)) (meet-symmetric (g .ports) whole met);
+        },
+      )
+
+  pub take-held : (i : ℕ) → FoundAt b base n i → MeetsSome b whole → TakesRange base n b b (Refused InUse)
+  take-held i f met =
+      refused (takeChecks base n) taken b a InUse
+      (inr ((λ none. none (rangeIn b i) (just i f)), inl ((rangeIn b i, just i f, met-answered i f met), refl)))
+
+  pub take-made : (b′ : List ℕ) (i : ℕ) → FoundAt b base n i → (MeetsSome b whole → ⊥)
       → TakenOut b b′ 2 (rangePlace i) Layout.rangeSize Layout.restAt
       → TakesRange base n b b′ Made
-  take-made b′ i f nobody out =
+  take-made b′ i f silent out =
       made (takeChecks base n) taken b a b′
-      ((λ none. none (rangeIn b i) (just i f)), ((λ x. nobody a (x .0) (x .1 .1) (x .1 .2) (x .2)), tt))
+      ((λ none. none (rangeIn b i) (just i f)), ((λ x. silent (answered-met (x .0) (x .1) (x .2)), tt)))
       (subst (λ (x : ℕ). image (rangeRemoved (a .facts) x) ≡ b′) (f .base-is) (range-taken-out b b′ a i (f .listed) out))
 
 -- the record of a range, written where there is room for it

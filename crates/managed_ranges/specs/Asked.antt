@@ -18,6 +18,7 @@ use Rattle.layout.specs.Layout.{mark, two, four}
 use Rattle.layout.specs.Reading.{rangesIn, rangePlace}
 use Rattle.layout.specs.Sound.{Accepted, ManagedIn, rangeBase, rangeCount}
 use Rattle.layout.specs.Changed.{PutIn}
+use Rattle.meeting.specs.Meeting.{MeetsSome}
 use Rattle.answers.specs.declared.Change.{Change}
 use Rattle.answers.specs.Changing.{Changes}
 use Rattle.managed_ranges.specs.declared.Lines.{Lines}
@@ -34,6 +35,8 @@ use Rattle.managed_ranges.specs.declared.Room.{Room}
 use Rattle.managed_ranges.specs.declared.Room.the-variants as room
 use Rattle.managed_ranges.specs.declared.Found.{Found}
 use Rattle.managed_ranges.specs.declared.Found.the-variants as found
+use Rattle.managed_ranges.specs.declared.Cards.{Cards}
+use Rattle.managed_ranges.specs.declared.Cards.the-variants as cards
 use Rattle.managed_ranges.specs.declared.NextRange.{NextRange}
 use Rattle.managed_ranges.specs.declared.NextRange.the-variants as range
 
@@ -116,6 +119,11 @@ pub record FoundAt (b : List ℕ) (base count i : ℕ) : Type 0 where
 abbrev pub FoundIs : List ℕ → ℕ → ℕ → Found → Type 0
 FoundIs b base n (found.At i) = FoundAt b base n i
 FoundIs b base n found.Nowhere = (i : ℕ) → FoundAt b base n i → ⊥
+
+-- no card that is granted ports answers at one of these, all of whose lines count; or one does
+abbrev pub CardsAre : List ℕ → ℕ → ℕ → Cards → Type 0
+CardsAre b base n cards.Silent = MeetsSome b (record { base = base; count = n; lines = Table.mostLines }) → ⊥
+CardsAre b base n cards.Answering = MeetsSome b (record { base = base; count = n; lines = Table.mostLines })
 
 -- the range with the lowest base that isn't below the number, or there is none
 pub record NextIs (F : Facts) (from base count : ℕ) : Type 0 where

@@ -4,7 +4,6 @@ use answers::Change;
 use answers::Reserve;
 use facts::Asked;
 use facts::Code;
-use holders::Holders;
 use layout::ALL_PORTS;
 use layout::MOST_LINES;
 use layout::MOST_RANGES;
@@ -21,7 +20,7 @@ ghost use Rattle.facts.specs.Table;
 ghost use Rattle.layout.specs.Layout.{tableSize};
 ghost use Rattle.layout.specs.Reading.{rangesIn};
 ghost use Rattle.layout.specs.Sound.{Accepted, RangesSound};
-ghost use Rattle.managed_ranges.specs.Asked.{LinesAre, CountIs, ReachIs, NamedIs, PlaceOf, StartIs, FreeIs, FoundIs, RoomIs, Entered};
+ghost use Rattle.managed_ranges.specs.Asked.{LinesAre, CountIs, ReachIs, NamedIs, PlaceOf, StartIs, FreeIs, FoundIs, RoomIs, Entered, CardsAre};
 ghost use Rattle.managed_ranges.specs.Asked.{NextRangeIs, PutsRange, TakesRange, AddsRange, RemovesRange};
 
 // "both need lines of 16 for I/O".
@@ -225,7 +224,24 @@ fn find(t: &[u8], base: usize, count: usize) -> Found
     Found::At(i)
 }
 
-// The ports are taken out: "no range with just that base and count BAD_BASE; a live grant holding a port of it IN_USE".
+// "Remove is IN_USE if a live grant holds or is repeated at any port of the range" (K2): whether a card that is granted ports answers at one of these.
+pub enum Cards {
+    Silent,
+    Answering,
+}
+
+fn cards_at(t: &[u8], base: usize, count: usize) -> Cards
+    requires { ⌜ Accepted (now t) × (base < Table.allPorts) × (count ≤ Table.allPorts) ⌝ }
+    ensures { λ r. ⌜ CardsAre (now (t .entry)) base count r ⌝ }
+{
+    if meeting::some(t, base, count, MOST_LINES) {
+        Cards::Answering
+    } else {
+        Cards::Silent
+    }
+}
+
+// The ports are taken out: "no range with just that base and count BAD_BASE", and K2's IN_USE.
 fn take(t: &mut [u8], base: usize, count: usize) -> Change
     requires { ⌜ Accepted (now t) ⌝ }
     ensures { λ x. ⌜ TakesRange base count (now (t .entry)) (now (t .exit)) x ⌝ }
@@ -233,7 +249,7 @@ fn take(t: &mut [u8], base: usize, count: usize) -> Change
     let Found::At(i) = find(t, base, count) else {
         return Change::Refused(Code::BadBase);
     };
-    let Holders::Nobody = holders::of_range(t, base, count) else {
+    let Cards::Silent = cards_at(t, base, count) else {
         return Change::Refused(Code::InUse);
     };
     image::take_out(

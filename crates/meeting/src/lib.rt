@@ -1,18 +1,19 @@
-// Whether a range of ports meets a live grant.
+// Whether a range of ports meets a live grant: that of a socket, or any.
 use facts::Socket;
 use layout::IO_BASE;
 use layout::IO_COUNT;
 use layout::IO_LINES;
 use layout::IO_SIZE;
 use layout::IOS_AT;
+use layout::MOST_SOCKETS;
 ghost use mathlib.Core.Path.{_≡_};
 ghost use Prim.Native.Nat.{_<_, _≤_};
 ghost use lib.ListN.{length};
 ghost use Rattle.facts.specs.Table;
 ghost use Rattle.facts.specs.Says.{Says};
 ghost use Rattle.layout.specs.Layout.{tableSize};
-ghost use Rattle.layout.specs.Sound.{IoPlaceSound};
-ghost use Rattle.meeting.specs.Meeting.{MeetsOn};
+ghost use Rattle.layout.specs.Sound.{Accepted, IoPlaceSound};
+ghost use Rattle.meeting.specs.Meeting.{MeetsOn, MeetsSome};
 
 // Whether the ports meet those of the grant on the socket.
 pub fn on(t: &[u8], base: usize, count: usize, lines: usize, s: Socket) -> bool
@@ -29,4 +30,18 @@ pub fn on(t: &[u8], base: usize, count: usize, lines: usize, s: Socket) -> bool
     let ports = reading::byte(t, at + IO_COUNT);
     let decoded = reading::byte(t, at + IO_LINES);
     ports::meets(base, count, lines, held, ports, decoded)
+}
+
+// Whether the ports meet those of some grant.
+pub fn some(t: &[u8], base: usize, count: usize, lines: usize) -> bool
+    requires { ⌜ Accepted (now t) ⌝ }
+    requires { ⌜ (base < Table.allPorts) × (count ≤ Table.allPorts) × (lines ≤ Table.mostLines) ⌝ }
+    ensures { λ r. ⌜ Says r (MeetsSome (now (t .entry)) (record { base = base; count = count; lines = lines })) ⌝ }
+{
+    for s in 0..MOST_SOCKETS {
+        if on(t, base, count, lines, Socket(s)) {
+            return true;
+        }
+    }
+    false
 }

@@ -14,8 +14,9 @@ use Rattle.layout.specs.Reading.{ioIn}
 use Rattle.layout.specs.Sound.{IoUsed}
 use Rattle.ports.proofs.Remainders.{meet-near, near-meet}
 use Rattle.reading.proofs.All.{All}
+use Rattle.answering.specs.Rows.{portsFrom}
 use Rattle.obstacles.specs.declared.Stretch.{Stretch}
-use Rattle.obstacles.specs.Obstacles.{around, Lies, Fits, stretchAt, portsFrom, MetOn, StretchIs}
+use Rattle.obstacles.specs.Obstacles.{around, Lies, Fits, stretchAt, MetOn, StretchIs}
 
 -- the stretch that has no base
 abbrev pub Nowhere : Stretch → Type 0
@@ -39,7 +40,7 @@ module _ (b : List ℕ) (count lines most s : ℕ) where
 
   -- the stretch of a grant: as far ahead of its base as the ports asked for reach, and up to its last port
   module _ (g : Ports) (is : _≡_ {A = Ports} g (ioIn b s .ports)) (used : IoUsed b s) (some : 1 ≤ count) (few : count < 256)
-      (base : g .base < Table.allPorts) (port : 1 ≤ g .count) (ports : g .count < 256) (decoded : ℕ) (least : decoded ≡ min lines (g .lines))
+      (base : g .base ≤ Table.allPorts) (port : 1 ≤ g .count) (ports : g .count < 256) (decoded : ℕ) (least : decoded ≡ min lines (g .lines))
       (within : decoded ≤ Table.mostLines) (shown : decoded ≤ most) (r : Stretch) (start : r .start ≡ g .base + Table.allPorts + 1 - count)
       (mask : r .mask + 1 ≡ 2 ^ decoded) (width : r .width ≡ g .count + count - 1)
     where

@@ -1,4 +1,5 @@
--- The stretches of bases at which ports meet live grants, and the search that leaps past them: laws. Assumes nothing.
+-- The stretches of bases at which ports meet live grants, the gaps, and the search that leaps past them: laws. Assumes nothing.
+pub mod Gapped
 pub mod Grants
 pub mod Leaping
 pub mod Periods

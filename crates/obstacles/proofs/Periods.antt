@@ -3,18 +3,21 @@
 use mathlib.Core.Path.{_≡_, ap, sym, subst, _∙_}
 use mathlib.Core.Logic.{inl, inr}
 use mathlib.Core.List.{List}
-use Prim.Native.Nat.{ℕ, _+_, _-_, _%_, _^_, _≤_, _<_, max}
+use Prim.Native.Nat.{ℕ, _+_, _-_, _%_, _^_, _≤_, _<_, min, max}
 use native.Mathlib.Nat.{add-mod-mod}
 use native.Mathlib.Decide.{decLe, decLt}
 use native.Mathlib.Omega.{arith}
 use lib.Pow.{pow-mono, pow-lt}
 use Rattle.facts.specs.Table
+use Rattle.facts.specs.Table.{Ports}
+use Rattle.facts.specs.Ports.{Meet}
 use Rattle.layout.specs.Reading.{ioIn}
 use Rattle.ports.proofs.Remainders.{all-ports-mod, mod-fewer, meet-repeats}
-use Rattle.meeting.specs.Meeting.{MeetsSome}
+use Rattle.answering.specs.Gaps.{gapIn}
+use Rattle.answering.specs.Rows.{portsFrom}
 use Rattle.obstacles.specs.declared.Stretch.{Stretch}
-use Rattle.obstacles.specs.Obstacles.{around, Power, Multiple, Lies, Fits, LiesIn, portsFrom, MetUpTo, StretchesAre, LinesMet}
-use Rattle.obstacles.specs.Obstacles.{Opened, Period, Barring, OpenIn, Bars, Between, LearntIs}
+use Rattle.obstacles.specs.Obstacles.{around, Power, Multiple, Lies, Fits, LiesAmong, LiesIn, MetUpTo, Barred, StretchesAre, LinesMet}
+use Rattle.obstacles.specs.Obstacles.{Opened, Period, Barring, OpenIn, Bars, Between, LearntIs, GapsWithin, GapLines}
 use Rattle.obstacles.proofs.Grants.{Nowhere, nowhere-fits, nowhere-lies}
 use Rattle.obstacles.proofs.Steps.{multiple-mod, mod-multiple}
 
@@ -47,48 +50,78 @@ period-is most step power period h p e l = go (decLe most (p .lines))
         }
 
 module _ (b : List ℕ) (count lines : ℕ) where
-  -- a grant that so many lines decide is a live one, and one that few decide is among those that more do
-  pub met-some : (most x : ℕ) → MetUpTo b count lines most x → MeetsSome b (portsFrom count lines x)
-  met-some most x m = (m .0, m .1, m .2 .meets)
+  -- where ports meet a grant or a gap that so many lines decide, they are barred; and what few decide is among what more do
+  pub met-barred : (most x : ℕ) → MetUpTo b count lines most x → Barred b count lines x
+  met-barred most x (inl m) = inl (m .0, m .1, m .2 .meets)
+  met-barred most x (inr m) = inr (m .fewer, m .meets)
 
   met-more : (few most x : ℕ) → few ≤ most → MetUpTo b count lines few x → MetUpTo b count lines most x
-  met-more few most x l m = (m .0, m .1, record { meets = m .2 .meets; few = omega (arith, m .2 .few) })
+  met-more few most x l (inl m) = inl (m .0, m .1, record { meets = m .2 .meets; few = omega (arith, m .2 .few) })
+  met-more few most x l (inr m) = inr (record { meets = m .meets; fewer = m .fewer; few = omega (arith, m .few) })
+
+  -- the card's own lines are enough
+  met-lines : (most x : ℕ) → MetUpTo b count lines most x → MetUpTo b count lines lines x
+  met-lines most x (inl m) = inl (m .0, m .1, record { meets = m .2 .meets; few = omega arith })
+  met-lines most x (inr m) = inr (record { meets = m .meets; fewer = m .fewer; few = omega arith })
+
+  -- what lies in the stretches of grants and gaps is met so
+  among-met : (most : ℕ) (all : List Stretch) (rows : List ℕ) (gapped : ℕ) → StretchesAre b count lines most all
+      → GapsWithin b rows count lines gapped most
+      → (x : ℕ)
+      → LiesAmong all rows count gapped x
+      → MetUpTo b count lines most x
+  among-met most all rows gapped are within x (inl l) = inl (l .0, l .1, are (l .0) (l .1) .only x (l .2))
+  among-met most all rows gapped are within x (inr l) = inr (within .only x l)
 
 module _ (most step period : ℕ) (is : Period most step period) (b : List ℕ) (count lines : ℕ) where
-  -- ports that are moved by a period meet the same grants
-  met-again : (x y : ℕ) → x % period ≡ y % period → MetUpTo b count lines most x → MetUpTo b count lines most y
-  met-again x y e m = (
-    m .0,
-    m .1,
-    record {
-      meets = record {
-        used = m .2 .meets .used;
-        meets =
-            meet-repeats (portsFrom count lines x) (ioIn b (m .0) .ports) (is .power .lines) y (omega (arith, m .2 .few, is .decides))
-            (rw (is .power .is) at e) (m .2 .meets .meets);
-      };
-      few = m .2 .few;
-    },
-  )
+  -- ports that are moved by a period meet the same grants and gaps
+  moved : (x y : ℕ) (g : Ports) → min lines (g .lines) ≤ most → x % period ≡ y % period → Meet (portsFrom count lines x) g
+      → Meet (portsFrom count lines y) g
+  moved x y g few e = meet-repeats (portsFrom count lines x) g (is .power .lines) y (omega (arith, few, is .decides)) (rw (is .power .is) at e)
 
-  -- what the stretches of all live grants bar, and one more that is barred
-  pub bars-made : (all : List Stretch) (up-to : ℕ) (more : Stretch) → Barring b count lines up-to step more → StretchesAre b count lines most all
-      → LinesMet b lines most
-      → Bars b count lines step period all more
-  bars-made all up-to more known are few =
-      record {
-        fits = λ i l. are i l .fits;
-        more-fits = known .fits;
-        met = λ x m. (m .0, m .1, are (m .0) (m .1) .has x (record { meets = m .2; few = few .each (m .0) (m .1) }));
-        barred = λ x m. barred x m;
-        repeats = λ x y e m. met-some b count lines most y (met-again x y e (m .0, m .1, record { meets = m .2; few = few .each (m .0) (m .1) }));
-        power = is .power;
-        stepped = omega (arith, is .power .is, is .step-power .is, pow-mono (is .steps));
-      }
+  met-again : (x y : ℕ) → x % period ≡ y % period → MetUpTo b count lines most x → MetUpTo b count lines most y
+  met-again x y e (inl (s, l, m)) =
+      inl (s, l, record { meets = record { used = m .meets .used; meets = moved x y (ioIn b s .ports) (m .few) e (m .meets .meets) }; few = m .few })
+  met-again x y e (inr m) =
+      let i = m .meets in
+      inr
+      (record {
+        meets = (i .0, i .1, moved x y (gapIn b (i .0)) (omega (arith, m .few)) e (i .2));
+        fewer = m .fewer;
+        few = m .few;
+      })
+
+  -- what the stretches of all live grants and gaps bar, and one more that is barred
+  module _ (all : List Stretch) (rows : List ℕ) (gapped up-to : ℕ) (more : Stretch) (known : Barring b count lines up-to step more)
+      (are : StretchesAre b count lines most all) (gaps : GapLines b rows count lines gapped) (few : LinesMet b lines gapped most)
     where
-      barred : (x : ℕ) → Multiple step x → LiesIn all more x → MeetsSome b (portsFrom count lines x)
-      barred x m (inl l) = (l .0, l .1, are (l .0) (l .1) .only x (l .2) .meets)
-      barred x m (inr l) = met-some b count lines up-to x (known .barred x m l)
+      -- what is barred is so by no more lines than these
+      barred-met : (x : ℕ) → Barred b count lines x → MetUpTo b count lines most x
+      barred-met x (inl m) = inl (m .0, m .1, record { meets = m .2; few = few .each (m .0) (m .1) })
+      barred-met x (inr m) = inr (record { meets = m .1; fewer = m .0; few = few .gaps (gaps .has (m .0) x (m .1) .0) })
+
+      met : (x : ℕ) → Barred b count lines x → LiesAmong all rows count gapped x
+      met x (inl m) = inl (m .0, m .1, are (m .0) (m .1) .has x (record { meets = m .2; few = few .each (m .0) (m .1) }))
+      met x (inr m) = inr (gaps .has (m .0) x (m .1))
+
+      barred : (x : ℕ) → Multiple step x → LiesIn all rows more count gapped x → Barred b count lines x
+      barred x m (inl (inl l)) = inl (l .0, l .1, are (l .0) (l .1) .only x (l .2) .meets)
+      barred x m (inl (inr l)) = let y = gaps .within .only x l in inr (y .fewer, y .meets)
+      barred x m (inr l) = met-barred b count lines up-to x (known .barred x m l)
+
+      pub bars-made : Bars b count lines step period all rows gapped more
+      bars-made =
+          record {
+            fits = λ i l. are i l .fits;
+            rows-fit = gaps .within .fits;
+            lined = gaps .within .lined;
+            more-fits = known .fits;
+            met = met;
+            barred = barred;
+            repeats = λ x y e m. met-barred b count lines most y (met-again x y e (barred-met x m));
+            power = is .power;
+            stepped = omega (arith, is .power .is, is .step-power .is, pow-mono (is .steps));
+          }
 
 -- a multiple between two bases that is equal to x modulo the period
 record Moved (step from to period x : ℕ) : Type 0 where
@@ -141,8 +174,9 @@ module _ (from to period : ℕ) (power : Power period) (r : Stretch) (w : Betwee
           ∙ all-ports-mod k (power .most) x)
 
 -- a search that found none free has passed a stretch, which repeats
-module _ (b : List ℕ) (count lines step period : ℕ) (all : List Stretch) (known : Stretch) (bars : Bars b count lines step period all known)
-    (p : Power step) (from to : ℕ) (passed : (y : ℕ) → Multiple step y → from ≤ y → y < to → LiesIn all known y)
+module _ (b : List ℕ) (count lines step period : ℕ) (all : List Stretch) (rows : List ℕ) (gapped : ℕ) (known : Stretch)
+    (bars : Bars b count lines step period all rows gapped known) (p : Power step) (from to : ℕ)
+    (passed : (y : ℕ) → Multiple step y → from ≤ y → y < to → LiesIn all rows known count gapped y)
   where
     -- no step is longer than the period, so its lines are no more
     steps : p .lines ≤ bars .power .lines
@@ -154,10 +188,18 @@ module _ (b : List ℕ) (count lines step period : ℕ) (all : List Stretch) (kn
             let more : bars .power .lines < p .lines = omega arith in
             absurd (omega (arith, bars .stepped, bars .power .is, p .is, pow-lt more))
 
-    between-bars : (r : Stretch) → Between from to period r → Bars b count lines step period all r
+    -- a base in the stretch is equal to one that was passed
+    between-barred : (r : Stretch) → Between from to period r → (x : ℕ) → Multiple step x → Lies r x → Barred b count lines x
+    between-barred r w x m l =
+        let y = between-moved from to period (bars .power) r w step p steps x m l in
+        bars .repeats (y .base) x (y .same) (bars .barred (y .base) (y .multiple) (passed (y .base) (y .multiple) (y .past) (y .before)))
+
+    between-bars : (r : Stretch) → Between from to period r → Bars b count lines step period all rows gapped r
     between-bars r w =
         record {
           fits = bars .fits;
+          rows-fit = bars .rows-fit;
+          lined = bars .lined;
           more-fits = between-fits from to period (bars .power) r w;
           met = bars .met;
           barred = λ x m. barred x m;
@@ -166,27 +208,27 @@ module _ (b : List ℕ) (count lines step period : ℕ) (all : List Stretch) (kn
           stepped = bars .stepped;
         }
       where
-        barred : (x : ℕ) → Multiple step x → LiesIn all r x → MeetsSome b (portsFrom count lines x)
+        barred : (x : ℕ) → Multiple step x → LiesIn all rows r count gapped x → Barred b count lines x
         barred x m (inl l) = bars .barred x m (inl l)
-        barred x m (inr l) =
-            let y = between-moved from to period (bars .power) r w step p steps x m l in
-            bars .repeats (y .base) x (y .same) (bars .barred (y .base) (y .multiple) (passed (y .base) (y .multiple) (y .past) (y .before)))
+        barred x m (inr l) = between-barred r w x m l
 
-    pub bars-learnt : (r : Stretch) → LearntIs known from to period r → Bars b count lines step period all r
-    bars-learnt r (inl e) = subst (Bars b count lines step period all) (sym e) bars
+    pub bars-learnt : (r : Stretch) → LearntIs known from to period r → Bars b count lines step period all rows gapped r
+    bars-learnt r (inl e) = subst (Bars b count lines step period all rows gapped) (sym e) bars
     bars-learnt r (inr w) = between-bars r w
 
--- the search in one period passes bases at which the ports meet a grant
-pub open-in-is : (b : List ℕ) (count lines most step from end : ℕ) (all : List Stretch) (known : Stretch) → Barring b count lines most step known
+-- the search in one period passes bases at which the ports meet a grant or a gap
+pub open-in-is : (b : List ℕ) (count lines most step from end : ℕ) (all : List Stretch) (rows : List ℕ) (gapped : ℕ) (known : Stretch)
+    → Barring b count lines most step known
     → StretchesAre b count lines most all
+    → GapsWithin b rows count lines gapped most
     → (r : ℕ)
-    → Opened all known count step from end r
+    → Opened all rows known count gapped step from end r
     → OpenIn b count lines most step from r
-open-in-is b count lines most step from end all known bars are r o =
+open-in-is b count lines most step from end all rows gapped known bars are within r o =
     record { multiple = o .multiple; past = o .past; near = o .near; barred = λ y m f l. go y m (o .barred y m f l) }
   where
-    go : (y : ℕ) → Multiple step y → LiesIn all known y → MetUpTo b count lines most y
-    go y m (inl l) = (l .0, l .1, are (l .0) (l .1) .only y (l .2))
+    go : (y : ℕ) → Multiple step y → LiesIn all rows known count gapped y → MetUpTo b count lines most y
+    go y m (inl l) = among-met b count lines most all rows gapped are within y l
     go y m (inr l) = bars .barred y m l
 
 -- a search over several periods, each of more lines, has come to a base: at every multiple before it the ports meet a grant; what is known is barred
@@ -218,6 +260,16 @@ module _ (b : List ℕ) (count lines step : ℕ) where
         near = p .near;
         met = λ y m k. met-more b count lines few most y l (p .met y m k);
         bars = barring-more few most known l (p .bars);
+      }
+
+  -- whatever it has passed it has for the card's own lines
+  pub passed-lines : (most base : ℕ) (known : Stretch) → Passed b count lines step most base known → Passed b count lines step lines base known
+  passed-lines most base known p =
+      record {
+        multiple = p .multiple;
+        near = p .near;
+        met = λ y m k. met-lines b count lines most y (p .met y m k);
+        bars = record { fits = p .bars .fits; barred = λ x m k. met-lines b count lines most x (p .bars .barred x m k) };
       }
 
   -- from where it stands it goes on, and what it has passed is learnt

@@ -1,4 +1,5 @@
--- The bases at which ports meet live grants, as stretches that repeat, and what a search past them finds. Assumes nothing.
+-- The bases at which ports meet live grants, as stretches that repeat, or gaps between the managed ranges, and what a search past them finds. Assumes
+-- nothing.
 use mathlib.Core.Path.{_≡_}
 use mathlib.Core.Logic.{_⊎_}
 use mathlib.Core.List.{List}
@@ -6,8 +7,9 @@ use mathlib.Core.Bool.{Bool, true}
 use Prim.Native.Nat.{ℕ, _+_, _-_, _*_, _%_, _^_, _≤_, _<_, min}
 use lib.ListN.{getD}
 use Rattle.facts.specs.Table
-use Rattle.facts.specs.Table.{Ports}
 use Rattle.layout.specs.Reading.{ioIn}
+use Rattle.answering.specs.Gaps.{MeetsGap}
+use Rattle.answering.specs.Rows.{RowsFit, MeetsRows, portsFrom}
 use Rattle.meeting.specs.Meeting.{MeetsOn, MeetsSome}
 use Rattle.obstacles.specs.declared.Stretch.{Stretch}
 
@@ -49,25 +51,54 @@ stretchAt all i = getD all i (record { start = 0; mask = 0; width = 0 })
 abbrev pub AllFit : List Stretch → Type 0
 AllFit all = (i : ℕ) → i < Table.mostSockets → Fits (stretchAt all i)
 
--- the base lies in one of the first n stretches; in one of all of them, or in one more
+-- the base lies in one of the first n stretches
 abbrev pub LiesInFirst : List Stretch → ℕ → ℕ → Type 0
 LiesInFirst all n x = (i : ℕ) × (i < n) × Lies (stretchAt all i) x
 
-abbrev pub LiesIn : List Stretch → Stretch → ℕ → Type 0
-LiesIn all more x = LiesInFirst all Table.mostSockets x ⊎ Lies more x
+-- so many ports, decoded by so many lines, meet a gap of the rows there; where all lines are decoded, none is looked at
+abbrev pub InRows : List ℕ → ℕ → ℕ → ℕ → Type 0
+InRows rows count lines x = (lines < Table.mostLines) × MeetsRows rows (portsFrom count lines x)
 
--- so many ports from x on, decoded by so many lines
-abbrev pub portsFrom : ℕ → ℕ → ℕ → Ports
-portsFrom count lines x = record { base = x; count = count; lines = lines }
+-- it lies in one of all stretches, or a gap is met there; or it lies in one more
+abbrev pub LiesAmong : List Stretch → List ℕ → ℕ → ℕ → ℕ → Type 0
+LiesAmong all rows count lines x = LiesInFirst all Table.mostSockets x ⊎ InRows rows count lines x
+
+abbrev pub LiesIn : List Stretch → List ℕ → Stretch → ℕ → ℕ → ℕ → Type 0
+LiesIn all rows more count lines x = LiesAmong all rows count lines x ⊎ Lies more x
 
 -- they meet the grant on the socket s, and no more than `most` lines decide it
 pub record MetOn (b : List ℕ) (count lines most s x : ℕ) : Type 0 where
   pub meets : MeetsOn b (portsFrom count lines x) s
   pub few : min lines (ioIn b s .ports .lines) ≤ most
 
--- they meet some such grant
+-- they meet a gap, and no more than `most` lines decide it, which aren't all: a card that decodes all answers at its own ports alone
+pub record GapMet (b : List ℕ) (count lines most x : ℕ) : Type 0 where
+  pub meets : MeetsGap b (portsFrom count lines x)
+  pub fewer : lines < Table.mostLines
+  pub few : lines ≤ most
+
+-- they meet some such grant, or a gap so
 abbrev pub MetUpTo : List ℕ → ℕ → ℕ → ℕ → ℕ → Type 0
-MetUpTo b count lines most x = (s : ℕ) × (s < Table.mostSockets) × MetOn b count lines most s x
+MetUpTo b count lines most x = ((s : ℕ) × (s < Table.mostSockets) × MetOn b count lines most s x) ⊎ GapMet b count lines most x
+
+-- they meet some live grant, or, by a card that doesn't decode all lines, a gap
+abbrev pub Barred : List ℕ → ℕ → ℕ → ℕ → Type 0
+Barred b count lines x = MeetsSome b (portsFrom count lines x) ⊎ ((lines < Table.mostLines) × MeetsGap b (portsFrom count lines x))
+
+-- a gap of the rows is met only where one of the table is, and no more than `most` lines decide it
+pub record GapsWithin (b rows : List ℕ) (count lines gapped most : ℕ) : Type 0 where
+  pub fits : RowsFit rows
+  pub lined : gapped ≤ Table.mostLines
+  pub only : (x : ℕ) → InRows rows count gapped x → GapMet b count lines most x
+
+-- so many lines decide of the gaps: those of the card, or all, and then no gap is met
+abbrev pub OwnLines : ℕ → ℕ → Type 0
+OwnLines lines gapped = gapped < Table.mostLines → gapped ≡ lines
+
+pub record GapLines (b rows : List ℕ) (count lines gapped : ℕ) : Type 0 where
+  pub within : GapsWithin b rows count lines gapped lines
+  pub own : OwnLines lines gapped
+  pub has : lines < Table.mostLines → (x : ℕ) → MeetsGap b (portsFrom count lines x) → InRows rows count gapped x
 
 -- the stretch has just the bases at which the ports meet the grant on the socket s so; each socket's stretch does
 pub record StretchIs (b : List ℕ) (count lines most s : ℕ) (r : Stretch) : Type 0 where
@@ -90,23 +121,25 @@ pub record LeapsFirst (all : List Stretch) (n x r : ℕ) : Type 0 where
   pub each : (e : ℕ) → e < r → LiesInFirst all n (x + e)
   pub most : r ≤ around
 
--- the same of all the stretches and one more
-pub record LeapsIn (all : List Stretch) (more : Stretch) (x r : ℕ) : Type 0 where
-  pub none : r ≡ 0 → LiesIn all more x → ⊥
-  pub each : (e : ℕ) → e < r → LiesIn all more (x + e)
+-- the same of all the stretches, the gaps, and one more
+pub record LeapsIn (all : List Stretch) (rows : List ℕ) (more : Stretch) (count lines x r : ℕ) : Type 0 where
+  pub none : r ≡ 0 → LiesIn all rows more count lines x → ⊥
+  pub each : (e : ℕ) → e < r → LiesIn all rows more count lines (x + e)
   pub most : r ≤ around
 
--- the search from one multiple of the step on: every multiple before r lies in a stretch, and r doesn't where its ports end at or before `end`
-pub record Opened (all : List Stretch) (more : Stretch) (count step from end r : ℕ) : Type 0 where
+-- the search from one multiple of the step on: every multiple before r lies in a stretch or meets a gap, and r doesn't where its ports end at or
+-- before `end`
+pub record Opened (all : List Stretch) (rows : List ℕ) (more : Stretch) (count lines step from end r : ℕ) : Type 0 where
   pub multiple : Multiple step r
   pub past : from ≤ r
   pub near : r ≤ around + around
-  pub barred : (y : ℕ) → Multiple step y → from ≤ y → y < r → LiesIn all more y
-  pub free : r + count ≤ end → LiesIn all more r → ⊥
+  pub barred : (y : ℕ) → Multiple step y → from ≤ y → y < r → LiesIn all rows more count lines y
+  pub free : r + count ≤ end → LiesIn all rows more count lines r → ⊥
 
--- no more lines decide, of any grant, whether ports decoded by so many meet it
-pub record LinesMet (b : List ℕ) (lines r : ℕ) : Type 0 where
+-- no more lines decide, of any grant, whether ports decoded by so many meet it, nor of the gaps
+pub record LinesMet (b : List ℕ) (lines gapped r : ℕ) : Type 0 where
   pub most : r ≤ Table.mostLines
+  pub gaps : gapped < Table.mostLines → lines ≤ r
   pub each : (s : ℕ) → s < Table.mostSockets → min lines (ioIn b s .ports .lines) ≤ r
 
 -- a period: two to so many lines, which are at least those that decide, and a multiple of the step
@@ -116,12 +149,12 @@ pub record Period (most step period : ℕ) : Type 0 where
   pub decides : most ≤ power .lines
   pub steps : step-power .lines ≤ power .lines
 
--- a stretch that is barred: at every multiple of the step that lies in it, the ports meet a grant that no more than `most` lines decide
+-- a stretch that is barred: at every multiple of the step that lies in it, the ports meet a grant or a gap that no more than `most` lines decide
 pub record Barring (b : List ℕ) (count lines most step : ℕ) (r : Stretch) : Type 0 where
   pub fits : Fits r
   pub barred : (x : ℕ) → Multiple step x → Lies r x → MetUpTo b count lines most x
 
--- the search in one period: at every multiple before r the ports meet a grant that no more than `most` lines decide
+-- the search in one period: at every multiple before r the ports meet a grant or a gap that no more than `most` lines decide
 pub record OpenIn (b : List ℕ) (count lines most step from r : ℕ) : Type 0 where
   pub multiple : Multiple step r
   pub past : from ≤ r
@@ -132,14 +165,16 @@ pub record OpenIn (b : List ℕ) (count lines most step from r : ℕ) : Type 0 w
 abbrev pub Everywhere : Stretch → Bool → Type 0
 Everywhere s r = r ≡ true → (x : ℕ) → Lies s x
 
--- what the stretches bar: every base at which the ports meet a live grant lies in one of them, and every multiple of the step that lies in one of them
--- or in one more is such a base; and these repeat
-pub record Bars (b : List ℕ) (count lines step period : ℕ) (all : List Stretch) (more : Stretch) : Type 0 where
+-- what the stretches and the gaps bar: every base that is barred lies in one of them or meets a gap of the rows, and every multiple of the step that
+-- does or that lies in one more is such a base; and these repeat
+pub record Bars (b : List ℕ) (count lines step period : ℕ) (all : List Stretch) (rows : List ℕ) (gapped : ℕ) (more : Stretch) : Type 0 where
   pub fits : AllFit all
+  pub rows-fit : RowsFit rows
+  pub lined : gapped ≤ Table.mostLines
   pub more-fits : Fits more
-  pub met : (x : ℕ) → MeetsSome b (portsFrom count lines x) → LiesInFirst all Table.mostSockets x
-  pub barred : (x : ℕ) → Multiple step x → LiesIn all more x → MeetsSome b (portsFrom count lines x)
-  pub repeats : (x y : ℕ) → x % period ≡ y % period → MeetsSome b (portsFrom count lines x) → MeetsSome b (portsFrom count lines y)
+  pub met : (x : ℕ) → Barred b count lines x → LiesAmong all rows count gapped x
+  pub barred : (x : ℕ) → Multiple step x → LiesIn all rows more count gapped x → Barred b count lines x
+  pub repeats : (x y : ℕ) → x % period ≡ y % period → Barred b count lines x → Barred b count lines y
   pub power : Power period
   pub stepped : step ≤ period
 

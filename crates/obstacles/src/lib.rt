@@ -1,5 +1,6 @@
-// What the live grants bar of the bases that a request could take: for each grant a stretch of them, which repeats; and the search that leaps from one
-// stretch to the next.
+// What bars the bases that a request could take: for each live grant a stretch of them, which repeats, and the gaps between the managed ranges; and the
+// search that leaps from one stretch to the next.
+use answering::ROWS;
 use facts::Socket;
 use layout::ALL_PORTS;
 use layout::IO_BASE;
@@ -16,8 +17,10 @@ ghost use Rattle.facts.specs.Table;
 ghost use Rattle.layout.specs.Layout.{tableSize};
 ghost use Rattle.layout.specs.Reading.{ioIn};
 ghost use Rattle.layout.specs.Sound.{Accepted, IoPlaceSound};
+ghost use Rattle.answering.specs.Rows.{RowsFit};
 ghost use Rattle.obstacles.specs.Obstacles.{around, Power, Multiple, FirstMultiple, Fits, AllFit, StretchIs, StretchesAre};
 ghost use Rattle.obstacles.specs.Obstacles.{Leaps, LeapsFirst, LeapsIn, Opened, LinesMet, Period, Barring, OpenIn, Everywhere, LearntIs};
+ghost use Rattle.obstacles.specs.Obstacles.{GapsWithin, OwnLines, GapLines};
 
 // Twice all ports: a multiple of every period, from which a start is taken away.
 const AROUND: u32 = 131072;
@@ -124,17 +127,32 @@ fn leap(all: [Stretch; MOST_SOCKETS], base: u32) -> u32
     far
 }
 
-// How far a search can leap from a base: to the end of the stretch that is known, or else to the farthest of the others.
-fn leap_past(all: [Stretch; MOST_SOCKETS], known: Stretch, base: usize) -> usize
-    requires { ⌜ AllFit all × Fits known × (base ≤ Table.allPorts) ⌝ }
-    ensures { λ r. ⌜ LeapsIn all known base r ⌝ }
+// How far a search can leap from a base: to the end of the stretch that is known, or else to the farthest of the others, or else out of the gaps. So many
+// lines decide of the gaps; where all do, none is looked at.
+fn leap_past(
+    all: [Stretch; MOST_SOCKETS],
+    rows: &[u16; ROWS],
+    known: Stretch,
+    count: usize,
+    lines: usize,
+    base: usize,
+) -> usize
+    requires { ⌜ AllFit all × RowsFit (now rows) × Fits known × (1 ≤ count) × (count < 256) × (lines ≤ Table.mostLines) × (base ≤ Table.allPorts) ⌝ }
+    ensures { λ r. ⌜ LeapsIn all (now (rows .entry)) known count lines base r ⌝ }
 {
     let from = base as u32;
-    let far = ahead(known, from);
+    let near = ahead(known, from);
+    if near != 0 {
+        return near as usize;
+    }
+    let far = leap(all, from);
     if far != 0 {
         return far as usize;
     }
-    leap(all, from) as usize
+    if lines == MOST_LINES {
+        return 0;
+    }
+    answering::leap(rows, base, count, lines)
 }
 
 // The first multiple of the step at or past a number.
@@ -150,19 +168,21 @@ pub fn up(from: usize, step: usize) -> usize
 // does, the search goes on at the first past the end of its stretch.
 pub fn lowest(
     all: [Stretch; MOST_SOCKETS],
+    rows: &[u16; ROWS],
     known: Stretch,
     count: usize,
+    lines: usize,
     step: usize,
     from: usize,
     end: usize,
 ) -> usize
-    requires { ⌜ AllFit all × Fits known × Power step × Multiple step from × (from ≤ around + around) ⌝ }
-    requires { ⌜ (count ≤ Table.allPorts) × (end < Table.allPorts + count) ⌝ }
-    ensures { λ r. ⌜ Opened all known count step from end r ⌝ }
+    requires { ⌜ AllFit all × RowsFit (now rows) × Fits known × Power step × Multiple step from × (from ≤ around + around) ⌝ }
+    requires { ⌜ (1 ≤ count) × (count < 256) × (lines ≤ Table.mostLines) × (end < Table.allPorts + count) ⌝ }
+    ensures { λ r. ⌜ Opened all (now (rows .entry)) known count lines step from end r ⌝ }
 {
     let mut base = from;
     while base + count <= end {
-        let far = leap_past(all, known, base);
+        let far = leap_past(all, rows, known, count, lines, base);
         if far == 0 {
             return base;
         }
@@ -192,11 +212,14 @@ pub fn learnt(known: Stretch, from: usize, to: usize, period: usize) -> Stretch
     }
 }
 
-// The most lines that decide so of any live grant: after as many ports as they tell apart, what the grants bar repeats.
-pub fn lines_met(t: &[u8], lines: usize) -> usize
-    requires { ⌜ Accepted (now t) × (lines ≤ Table.mostLines) ⌝ }
-    ensures { λ r. ⌜ LinesMet (now (t .entry)) lines r ⌝ }
+// The most lines that decide so of any live grant, or of the gaps: after as many ports as they tell apart, what is barred repeats.
+pub fn lines_met(t: &[u8], lines: usize, gapped: usize) -> usize
+    requires { ⌜ Accepted (now t) × (lines ≤ Table.mostLines) × OwnLines lines gapped ⌝ }
+    ensures { λ r. ⌜ LinesMet (now (t .entry)) lines gapped r ⌝ }
 {
+    if gapped < MOST_LINES {
+        return lines;
+    }
     let mut most = 0;
     for s in 0..MOST_SOCKETS {
         most = ports::larger(most, deciding(t, Socket(s), lines));
@@ -204,7 +227,7 @@ pub fn lines_met(t: &[u8], lines: usize) -> usize
     most
 }
 
-// The period of what the grants bar that so many lines decide, for bases that are multiples of the step.
+// The period of what is barred that so many lines decide, for bases that are multiples of the step.
 pub fn period(most: usize, step: usize) -> usize
     requires { ⌜ (most ≤ Table.mostLines) × Power step ⌝ }
     ensures { λ r. ⌜ Period most step r ⌝ }
@@ -223,11 +246,13 @@ fn numbers(t: &[u8], lines: usize) -> usize
     some
 }
 
-// The first multiple from one on, in one period, at which the ports meet no grant that no more than `most` lines decide.
+// The first multiple from one on, in one period, at which the ports meet no grant that no more than `most` lines decide, and no gap if so many do.
 fn open_in(
     t: &[u8],
+    rows: &[u16; ROWS],
     count: usize,
     lines: usize,
+    gapped: usize,
     most: usize,
     step: usize,
     known: Stretch,
@@ -235,14 +260,16 @@ fn open_in(
 ) -> usize
     requires { ⌜ Accepted (now t) × (1 ≤ count) × (count < 256) × (lines ≤ Table.mostLines) ⌝ }
     requires { ⌜ (most ≤ Table.mostLines) × Power step × Multiple step from × (from ≤ around + around) ⌝ }
-    requires { ⌜ Barring (now t) count lines most step known ⌝ }
+    requires { ⌜ Barring (now t) count lines most step known × GapsWithin (now t) (now rows) count lines gapped most ⌝ }
     ensures { λ r. ⌜ OpenIn (now (t .entry)) count lines most step from r ⌝ }
 {
     let all = stretches(t, count, lines, most);
     lowest(
         all,
+        rows,
         known,
         count,
+        gapped,
         step,
         from,
         period(most, step) + count - 1,
@@ -256,9 +283,18 @@ pub fn everywhere(s: Stretch) -> bool
     s.mask < s.width
 }
 
-// The bases from 0 on that grants bar which few lines decide: the fewest lines first, and for more lines the search goes on where it stands.
-pub fn passed(t: &[u8], count: usize, lines: usize, step: usize) -> Stretch
+// The bases from 0 on that are barred: by grants which few lines decide, the fewest lines first, and for more lines the search goes on where it stands;
+// last, where gaps bar any, by all grants and gaps.
+pub fn passed(
+    t: &[u8],
+    rows: &[u16; ROWS],
+    count: usize,
+    lines: usize,
+    gapped: usize,
+    step: usize,
+) -> Stretch
     requires { ⌜ Accepted (now t) × (1 ≤ count) × (count < 256) × (lines ≤ Table.mostLines) × Power step ⌝ }
+    requires { ⌜ GapLines (now t) (now rows) count lines gapped ⌝ }
     ensures { λ r. ⌜ Barring (now (t .entry)) count lines Table.mostLines step r ⌝ }
 {
     let some = numbers(t, lines);
@@ -268,11 +304,15 @@ pub fn passed(t: &[u8], count: usize, lines: usize, step: usize) -> Stretch
         if !reading::is_set(some, most) {
             continue;
         }
-        base = open_in(t, count, lines, most, step, known, base);
+        base = open_in(t, rows, count, lines, MOST_LINES, most, step, known, base);
         known = learnt(known, 0, base, period(most, step));
         if everywhere(known) {
             return known;
         }
     }
-    known
+    if gapped == MOST_LINES {
+        return known;
+    }
+    base = open_in(t, rows, count, lines, gapped, lines, step, known, base);
+    learnt(known, 0, base, period(lines, step))
 }

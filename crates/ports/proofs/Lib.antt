@@ -1,3 +1,4 @@
--- When two ranges meet: laws. Assumes nothing.
+-- When two ranges meet, and where a card answers: laws. Assumes nothing.
+pub mod Answering
 pub mod Meeting
 pub mod Remainders

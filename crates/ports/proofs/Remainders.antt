@@ -45,7 +45,7 @@ module _ (a b : Ports) (k : ℕ) (e : k ≡ min (a .lines) (b .lines)) (h : k �
         equal = subst (λ (n : ℕ). c .one % 2 ^ n ≡ c .other % 2 ^ n) e (c .equal);
       }
 
-  module _ (n : 1 ≤ a .count) (n′ : 1 ≤ b .count) (l : b .base < allPorts) where
+  module _ (n : 1 ≤ a .count) (n′ : 1 ≤ b .count) (l : b .base ≤ allPorts) where
     look : Common (a .base) (a .count) (b .base) (b .count) (2 ^ k)
         ↔ ((a .base + a .count - 1 + allPorts - b .base) % 2 ^ k < a .count + b .count - 1)
     look = common-look (2 ^ k) allPorts (pow-pos k) (whole k h) (a .base) (a .count) (b .base) (b .count) n n′ (omega arith)

@@ -1,17 +1,21 @@
--- `bases::ports_asked` meets its contract: a port lies past the last one, or is not managed, or all are.
+-- `bases::ports_asked` meets its contract: a port lies past the last one, or one where the card answers is not managed, or all are.
 -- Assumes nothing.
+use mathlib.Core.Path.{refl}
 use native.Mathlib.Omega.{arith}
 use denote.Ref.{now}
 use Rattle.facts.proofs.Says.{says-yes, says-no}
 use Rattle.layout.proofs.Of.{size-in, sound-in}
-use Rattle.bases.proofs.Said.{past-ports, uncovered, all-covered}
+use Rattle.bases.proofs.Said.{past-ports, unmanaged, all-managed}
 use borrow.Author.Needs.{needs}
 use Rattle.bases.proofs.ports_asked.Statement.{statement}
 use Rattle.bases.proofs.ports_asked.Tie as tie
 
--- where the call began; then base and count are read
+-- where the count was read, after the base, and where the call began
+abbrev counted : tie.After-lines-asked → tie.After-count-asked
+counted c = c .before
+
 abbrev start : tie.After-count-asked → tie.Start
-start c = c .before .before .before .before
+start c = let based = c .before in based .before .before .before
 
 base-asked-requires : tie.Need-base-asked-requires
 base-asked-requires c κs = search needs
@@ -19,37 +23,73 @@ base-asked-requires c κs = search needs
 count-asked-requires : tie.Need-count-asked-requires
 count-asked-requires c κs = search needs
 
+lines-asked-requires : tie.Need-lines-asked-requires
+lines-asked-requires c κs = search needs
+
 add-if1 : tie.Need-add-if1
 add-if1 c = search needs
 
 returns : tie.Need-returns
 returns c =
     let read = c .before in
-    let s = start read .args in
-    λ a. past-ports (now (s .t)) (now (s .p)) (read .before .base-asked .ensures .0) (read .count-asked .ensures .0) a (c .if1 .taken)
+    let k = counted read in
+    let s = start k .args in
+    λ a. past-ports (now (s .t)) (now (s .p)) (k .before .base-asked .ensures .0) (k .count-asked .ensures .0) (read .lines-asked .ensures .0) a
+    (c .if1 .taken)
+
+-- where no port was found to lie past the last one
+abbrev asked : tie.Else1 → tie.After-lines-asked
+asked c = c .before
+
+gap-rows-requires : tie.Need-gap-rows-requires
+gap-rows-requires c κs =
+    let s = start (counted (asked (c .before))) in
+    let b = now (s .args .t) in
+    let sound = sound-in b (s .pre .0) in ((size-in b (s .pre .0), sound .ranges-most, sound .ranges), refl)
+
+-- where the rows were filled, and before that no port was found to lie past the last one
+abbrev filled : tie.After-managed → tie.After-gap-rows
+filled c = c .before .before
+
+abbrev within : tie.After-gap-rows → tie.Else1
+within c = c .before .before
 
 managed-requires : tie.Need-managed-requires
 managed-requires c κs =
-    let read = c .before in
-    let b = now (start read .args .t) in
-    let a = start read .pre .0 in
-    let sound = sound-in b a in
-    ((size-in b a, sound .ranges-most, sound .ranges), (omega (arith, read .before .base-asked .ensures .1), omega (arith, read .count-asked .ensures .1)))
+    let made = c .before in
+    let read = asked (within made) in
+    let k = counted read in
+    let s = start k in
+    let b = now (s .args .t) in
+    let sound = sound-in b (s .pre .0) in (
+      (size-in b (s .pre .0), sound .ranges-most, sound .ranges, made .gap-rows .ensures),
+      (
+        omega (arith, k .before .base-asked .ensures .1),
+        omega (arith, k .count-asked .ensures .0, s .pre .3),
+        k .count-asked .ensures .1,
+        omega (arith, read .lines-asked .ensures .0, s .pre .2),
+      ),
+    )
 
 returns-2 : tie.Need-returns-2
 returns-2 c =
-    let read = c .before .before .before in
-    let s = start read .args in
-    λ a. uncovered (now (s .t)) (now (s .p)) (read .before .base-asked .ensures .0) (read .count-asked .ensures .0) a
-    (says-no (c .before .managed .ensures) (c .if2 .taken))
+    let looked = c .before in
+    let at = within (filled looked) in
+    let read = asked at in
+    let k = counted read in
+    let s = start k .args in
+    λ a. unmanaged (now (s .t)) (now (s .p)) (k .before .base-asked .ensures .0) (k .count-asked .ensures .0) (read .lines-asked .ensures .0) a
+    (λ l. omega (arith, at .if1 .left)) (says-no (looked .managed .ensures) (c .if2 .taken))
 
 returns-3 : tie.Need-returns-3
 returns-3 c =
-    let within = c .before .before in
-    let read = within .before in
-    let s = start read .args in
-    λ a. all-covered (now (s .t)) (now (s .p)) (read .before .base-asked .ensures .0) (read .count-asked .ensures .0) a (λ l. omega (arith, within .if1 .left))
-    (says-yes (c .before .managed .ensures) (c .if2 .left))
+    let looked = c .before in
+    let at = within (filled looked) in
+    let read = asked at in
+    let k = counted read in
+    let s = start k .args in
+    λ a. all-managed (now (s .t)) (now (s .p)) (k .before .base-asked .ensures .0) (k .count-asked .ensures .0) (read .lines-asked .ensures .0) a
+    (λ l. omega (arith, at .if1 .left)) (says-yes (looked .managed .ensures) (c .if2 .left))
 
 pub ports-asked-spec : {M : Type 1} → statement M
 ports-asked-spec =
@@ -57,8 +97,10 @@ ports-asked-spec =
     (tie.spec
     base-asked-requires
     count-asked-requires
+    lines-asked-requires
     add-if1
     returns
+    gap-rows-requires
     managed-requires
     returns-2
     returns-3)

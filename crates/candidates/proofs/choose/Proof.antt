@@ -1,6 +1,6 @@
--- `candidates::choose` meets its contract: what comes first is taken; where live grants bar every multiple, nothing is.
+-- `candidates::choose` meets its contract: what comes first is taken; where live grants and gaps bar every multiple, nothing is.
 -- Assumes nothing.
-use mathlib.Core.Path.{subst, subst₂}
+use mathlib.Core.Path.{refl, subst, subst₂}
 use mathlib.Core.List.{List}
 use Prim.Native.Nat.{ℕ, _≤_, _<_}
 use native.Mathlib.Omega.{arith}
@@ -8,8 +8,12 @@ use denote.Ref.{now}
 use borrow.Author.Needs.{needs}
 use Rattle.facts.specs.Table
 use Rattle.facts.specs.Io.{countAsked, SmallestPower}
-use Rattle.obstacles.specs.Obstacles.{Power, Barring}
-use Rattle.candidates.specs.Candidates.{FirstIs}
+use Rattle.layout.proofs.Of.{size-in, sound-in}
+use Rattle.obstacles.specs.declared.Stretch.{Stretch}
+use Rattle.obstacles.specs.Obstacles.{Power, Lies, Barring, GapLines}
+use Rattle.obstacles.proofs.Gapped.{gap-lines}
+use Rattle.candidates.specs.declared.Taken.the-variants.{Nothing}
+use Rattle.candidates.specs.Candidates.{FirstIs, TakenIs}
 use Rattle.candidates.proofs.Steps.{smallest-power-lines}
 use Rattle.candidates.proofs.Said.{first-taken, barred-taken}
 use Rattle.candidates.proofs.choose.Statement.{statement}
@@ -51,6 +55,29 @@ counted c =
       smallest-power-lines (count c) (step c) (c .align .ensures) (omega (arith, read c .count-asked .ensures .1)),
     )
 
+-- where every base lies in a stretch that is barred, nothing is taken
+nothing : (c : tie.After-align) (known : Stretch) → Barring (table c) (count c) (lines c) Table.mostLines (step c) known → ((x : ℕ) → Lies known x)
+    → TakenIs (table c) (packet c) Nothing
+nothing c known bars =
+    barred-taken (table c) (packet c) (step c) (aligned c) (start c .pre .1 .0) (start c .pre .1 .1) Table.mostLines known
+    (subst₂ (λ (m n : ℕ). Barring (table c) m n Table.mostLines (step c) known) (read c .count-asked .ensures .0) (c .before .lines-asked .ensures .0)
+    bars)
+
+-- where the rows were filled, which are the table's, and the lines told that decide of the gaps
+abbrev filled : tie.After-deciding → tie.After-gap-rows
+filled c = c .before .before
+
+abbrev rows : tie.After-deciding → List ℕ
+rows c = filled c .gap-rows .last .1 .1 .0
+
+abbrev told : tie.After-deciding → tie.After-align
+told c = filled c .before .before
+
+gapped : (c : tie.After-deciding) → let k = told c in GapLines (table k) (rows c) (count k) (lines k) (c .deciding .result)
+gapped c =
+    let k = told c in
+    gap-lines (table k) (rows c) (count k) (lines k) (c .deciding .result) (filled c .gap-rows .ensures) (counted k .2) (c .deciding .ensures)
+
 count-asked-requires : tie.Need-count-asked-requires
 count-asked-requires c κs = search needs
 
@@ -60,8 +87,19 @@ lines-asked-requires c κs = search needs
 align-requires : tie.Need-align-requires
 align-requires c κs = search needs
 
+gap-rows-requires : tie.Need-gap-rows-requires
+gap-rows-requires c κs =
+    let k = c .before in
+    let a = start k .pre .0 .0 in
+    let sound = sound-in (table k) a in ((size-in (table k) a, sound .ranges-most, sound .ranges), refl)
+
+deciding-requires : tie.Need-deciding-requires
+deciding-requires c κs = search needs
+
 passed-requires : tie.Need-passed-requires
-passed-requires c κs = let k = counted c in (start c .pre .0 .0, k .0, k .1, omega (arith, k .2), k .3)
+passed-requires c κs =
+    let d = c .before in
+    let k = counted (told d) in ((start (told d) .pre .0 .0, k .0, k .1, k .2, k .3), gapped d)
 
 everywhere-requires : tie.Need-everywhere-requires
 everywhere-requires c κs = search needs
@@ -69,21 +107,20 @@ everywhere-requires c κs = search needs
 returns : tie.Need-returns
 returns c =
     let at = c .before .before in
-    let k = at .before in
-    barred-taken (table k) (packet k) (step k) (aligned k) (start k .pre .1 .0) Table.mostLines (at .passed .result)
-    (subst₂ (λ (m n : ℕ). Barring (table k) m n Table.mostLines (step k) (at .passed .result)) (read k .count-asked .ensures .0)
-    (k .before .lines-asked .ensures .0) (at .passed .ensures)) (c .before .everywhere .ensures (c .if1 .taken))
+    nothing (told (at .before .before)) (at .passed .result) (at .passed .ensures) (c .before .everywhere .ensures (c .if1 .taken))
 
 first-requires : tie.Need-first-requires
 first-requires c κs =
-    let at = c .before .before in
-    let k = counted (at .before) in ((start (at .before) .pre .0 .0, k .0, k .1, k .2, k .3), at .passed .ensures)
+    let at = c .before .before .before in
+    let d = at .before .before in
+    let k = counted (told d) in ((start (told d) .pre .0 .0, k .0, k .1, k .2, k .3), (gapped d, at .passed .ensures))
 
 returns-2 : tie.Need-returns-2
 returns-2 c =
     let at = c .before .before .before in
-    let k = at .before in
-    first-taken (table k) (packet k) (step k) (aligned k) (start k .pre .1 .0) (c .first .result)
+    let search = at .before in
+    let k = told (search .before .before) in
+    first-taken (table k) (packet k) (step k) (aligned k) (start k .pre .1 .0) (start k .pre .1 .1) (c .first .result)
     (subst₂ (λ (m n : ℕ). FirstIs (table k) m n (step k) (c .first .result)) (read k .count-asked .ensures .0) (k .before .lines-asked .ensures .0)
     (c .first .ensures))
 
@@ -94,6 +131,8 @@ choose-spec =
     count-asked-requires
     lines-asked-requires
     align-requires
+    gap-rows-requires
+    deciding-requires
     passed-requires
     everywhere-requires
     returns

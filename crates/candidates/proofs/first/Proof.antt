@@ -23,14 +23,14 @@ start c = told c .before .before
 abbrev table : tie.After-stretches → List ℕ
 table c = now (start c .args .t)
 
--- what the live grants bar
+-- what the live grants and the gaps bar
 bars : (c : tie.After-stretches)
     → let a = start c .args in
-    Bars (table c) (a .count) (a .lines) (a .step) (c .before .period .result) (c .stretches .result) (a .known)
+    Bars (table c) (a .count) (a .lines) (a .step) (c .before .period .result) (c .stretches .result) (now (a .rows)) (a .gapped) (a .known)
 bars c =
     let a = start c .args in
     bars-made (told c .lines-met .result) (a .step) (c .before .period .result) (c .before .period .ensures) (table c) (a .count) (a .lines)
-    (c .stretches .result) _ (a .known) (start c .pre .1) (c .stretches .ensures) (told c .lines-met .ensures)
+    (c .stretches .result) (now (a .rows)) (a .gapped) _ (a .known) (start c .pre .1 .1) (c .stretches .ensures) (start c .pre .1 .0) (told c .lines-met .ensures)
 
 -- the candidates of the first search; where it found one, and where it found none
 abbrev Early : tie.After-stretches → ℕ → Type 0

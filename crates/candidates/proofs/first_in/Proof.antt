@@ -106,8 +106,8 @@ lowest-requires c κs =
     let s = start (based (gone c)) in
     let up = first (gone c) in
     let bars = s .pre .1 .1 in (
-      (bars .fits, bars .more-fits, s .pre .1 .0, up .multiple, omega (arith, up .near, range s .within, range s .port, power-most _ (s .pre .1 .0))),
-      (omega (arith, s .pre .0 .3), omega (arith, c .reach .ensures .within, s .pre .0 .2)),
+      (bars .fits, bars .rows-fit, bars .more-fits, s .pre .1 .0, up .multiple, omega (arith, up .near, range s .within, range s .port, power-most _ (s .pre .1 .0))),
+      (s .pre .0 .2, s .pre .0 .3, omega (arith, bars .lined), omega (arith, c .reach .ensures .within, s .pre .0 .2)),
     )
 
 add-if1 : tie.Need-add-if1
@@ -120,7 +120,7 @@ returns c =
     record {
       lowest =
           found at (Base (at .lowest .result))
-          (open-found (table s) _ _ _ _ _ _ (s .pre .1 .1) _ _ (at .lowest .result) (at .lowest .ensures) (c .if1 .taken));
+          (open-found (table s) _ _ _ _ _ _ _ _ (s .pre .1 .1) _ _ (at .lowest .result) (at .lowest .ensures) (c .if1 .taken));
       bars = s .pre .1 .1;
     }
 
@@ -134,9 +134,9 @@ returns-2 c =
     record {
       lowest =
           found at Nothing
-          (open-none (table s) _ _ _ _ _ _ (s .pre .1 .1) _ _ (at .lowest .result) (at .lowest .ensures) (omega (arith, c .before .if1 .left)));
+          (open-none (table s) _ _ _ _ _ _ _ _ (s .pre .1 .1) _ _ (at .lowest .result) (at .lowest .ensures) (omega (arith, c .before .if1 .left)));
       bars =
-          bars-learnt (table s) _ _ _ _ _ _ (s .pre .1 .1) (s .pre .1 .0) _ (at .lowest .result) (at .lowest .ensures .barred) (c .learnt .result)
+          bars-learnt (table s) _ _ _ _ _ _ _ _ (s .pre .1 .1) (s .pre .1 .0) _ (at .lowest .result) (at .lowest .ensures .barred) (c .learnt .result)
           (c .learnt .ensures);
     }
 

@@ -17,11 +17,11 @@ use Rattle.candidates.proofs.first_of.Statement.{statement}
 use Rattle.candidates.proofs.first_of.Tie as tie
 
 abbrev Inv-loop : tie.InvT-loop
-Inv-loop t most count lines step period all ranges learnt₀ i₀ learnt i =
-    SoFar ranges (NoneIn t most count lines step) i × Bars t count lines step period all learnt
+Inv-loop t most count lines step period all rows gapped ranges learnt₀ i₀ learnt i =
+    SoFar ranges (NoneIn t most count lines step) i × Bars t count lines step period all rows gapped learnt
 
 abbrev μ-loop : tie.MeasureT-loop
-μ-loop t most count lines step period all ranges learnt₀ i₀ learnt i = ranges - i
+μ-loop t most count lines step period all rows gapped ranges learnt₀ i₀ learnt i = ranges - i
 
 -- where the call began, its table, and that it is sound
 abbrev start : tie.At-loop Inv-loop μ-loop → tie.Start Inv-loop μ-loop

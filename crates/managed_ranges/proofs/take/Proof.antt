@@ -1,18 +1,16 @@
--- `managed_ranges::take` meets its contract: no range is just that, somebody holds a port of it, or it is taken out.
+-- `managed_ranges::take` meets its contract: no range is just that, a card answers at a port of it, or it is taken out.
 -- Assumes nothing.
-use mathlib.Core.Path.{_∙_, subst}
+use mathlib.Core.Path.{subst}
 use mathlib.Core.List.{List}
 use Prim.Native.Nat.{ℕ, _<_}
 use native.Mathlib.Omega.{arith}
 use borrow.Author.Needs.{needs}
 use denote.Ref.{now}
 use Rattle.facts.specs.Table
-use Rattle.facts.specs.Resources.{RangeHeld}
-use Rattle.layout.specs.Reading.{rangeIn}
-use Rattle.layout.proofs.Of.{size-in, sound-in, range-base, range-count}
-use Rattle.holders.specs.declared.Holders.the-variants.{Nobody}
-use Rattle.holders.specs.Holders.{RangeHoldersAre}
-use Rattle.managed_ranges.specs.Asked.{FoundAt, FoundIs}
+use Rattle.layout.specs.Sound.{RangeSound, endBefore}
+use Rattle.layout.proofs.Of.{size-in, sound-in}
+use Rattle.managed_ranges.specs.declared.Cards.the-variants.{Silent, Answering}
+use Rattle.managed_ranges.specs.Asked.{FoundAt, FoundIs, CardsAre}
 use Rattle.managed_ranges.proofs.Ends.{take-nowhere, take-held, take-made}
 use Rattle.managed_ranges.proofs.take.Statement.{statement}
 use Rattle.managed_ranges.proofs.take.Tie as tie
@@ -42,25 +40,24 @@ found c =
 in-table : (c : tie.After-known-told) → place c < Table.mostRanges
 in-table c = let k = sent c in omega (arith, found c .listed, sound-in (table k) (began k .pre) .ranges-most)
 
--- nobody holds a port of it, or somebody does
-abbrev placed : tie.After-of-range → tie.After-known-told
+range : (c : tie.After-known-told) → let k = sent c in RangeSound (table k) (endBefore (table k) (place c)) (place c)
+range c = let k = sent c in sound-in (table k) (began k .pre) .ranges (place c) (found c .listed)
+
+-- no card answers at a port of it, or one does
+abbrev placed : tie.After-cards-at → tie.After-known-told
 placed c = c .before .before
 
-nobody : (c : tie.After-enum-told2) → let k = sent (placed (c .before .before)) in
-    RangeHoldersAre (table k) (began k .args .base) (began k .args .count) Nobody
-nobody c =
+silent : (c : tie.After-enum-told2)
+    → let k = sent (placed (c .before .before)) in CardsAre (table k) (began k .args .base) (began k .args .count) Silent
+silent c =
     let k = sent (placed (c .before .before)) in
-    subst (RangeHoldersAre (table k) (began k .args .base) (began k .args .count)) (c .enum-told2 .given .1) (c .before .before .of-range .ensures)
+    subst (CardsAre (table k) (began k .args .base) (began k .args .count)) (c .enum-told2 .given .1) (c .before .before .cards-at .ensures)
 
-held : (c : tie.After-enum-told3) → let at = placed (c .before .before) in let k = sent at in RangeHeld (began k .pre .facts)
-    (rangeIn (table k) (place at))
-held c =
-    let at = placed (c .before .before) in
-    let k = sent at in
-    let b = table k in
-    let a = began k .pre in
-    subst (RangeHoldersAre b (began k .args .base) (began k .args .count)) (c .enum-told3 .given .1) (c .before .before .of-range .ensures) a
-    (rangeIn b (place at)) (range-base b a (place at) ∙ found at .base-is) (range-count b a (place at) ∙ found at .count-is) .0
+answering : (c : tie.After-enum-told3)
+    → let k = sent (placed (c .before .before)) in CardsAre (table k) (began k .args .base) (began k .args .count) Answering
+answering c =
+    let k = sent (placed (c .before .before)) in
+    subst (CardsAre (table k) (began k .args .base) (began k .args .count)) (c .enum-told3 .given .1) (c .before .before .cards-at .ensures)
 
 -- where it is taken out
 abbrev free : tie.After-take-out-arg → tie.After-known-told
@@ -88,8 +85,10 @@ returns c =
     take-nowhere (table k) (s .pre) (s .args .base) (s .args .count)
     (subst (FoundIs (table k) (s .args .base) (s .args .count)) (c .enum-told .given .1) (find .find .ensures))
 
-of-range-requires : tie.Need-of-range-requires
-of-range-requires c κs = search needs
+cards-at-requires : tie.Need-cards-at-requires
+cards-at-requires c κs =
+    let at = c .before in
+    (began (sent at) .pre, omega (arith, range at .within, range at .port, found at .base-is), omega (arith, range at .within, found at .count-is))
 
 enum-told-2 : tie.Need-enum-told-2
 enum-told-2 c = search needs
@@ -105,7 +104,7 @@ returns-2 c =
     let at = placed (c .before .before) in
     let k = sent at in
     let s = began k in
-    take-held (table k) (s .pre) (s .args .base) (s .args .count) (place at) (found at) (held c)
+    take-held (table k) (s .pre) (s .args .base) (s .args .count) (place at) (found at) (answering c)
 
 mul-take-out : tie.Need-mul-take-out
 mul-take-out c = omega (arith, in-table (free c))
@@ -129,7 +128,7 @@ returns-3 c =
     let at = placed (told .before .before) in
     let k = sent at in
     let s = began k in
-    take-made (table k) (s .pre) (s .args .base) (s .args .count) (out .take-out .last .0) (place at) (found at) (nobody told)
+    take-made (table k) (s .pre) (s .args .base) (s .args .count) (out .take-out .last .0) (place at) (found at) (silent told)
     (out .take-out .ensures)
 
 pub take-spec : {M : Type 1} → statement M
@@ -141,7 +140,7 @@ take-spec =
     enum-told
     same-length
     returns
-    of-range-requires
+    cards-at-requires
     enum-told-2
     enum-told-3
     same-length-2

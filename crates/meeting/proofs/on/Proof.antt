@@ -58,7 +58,14 @@ byte-requires-2 c κs = search needs
 meets-requires : tie.Need-meets-requires
 meets-requires c κs =
     let s = start (granted c .before) in
-    (s .pre .1 .0, s .pre .1 .1, s .pre .1 .2, based c .word2 .ensures .1, omega (arith, c .byte2 .ensures .0, lines-most (now (s .args .t)) (s .args .s .0) (s .pre .0 .2)), omega (arith, c .before .byte .ensures .1))
+    let lines = lines-most (now (s .args .t)) (s .args .s .0) (s .pre .0 .2) in (
+      s .pre .1 .0,
+      s .pre .1 .1,
+      s .pre .1 .2,
+      omega (arith, based c .word2 .ensures .1),
+      omega (arith, c .byte2 .ensures .0, lines),
+      omega (arith, c .before .byte .ensures .1),
+    )
 
 returns-2 : tie.Need-returns-2
 returns-2 c =

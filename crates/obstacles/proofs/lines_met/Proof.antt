@@ -12,22 +12,29 @@ use Rattle.obstacles.proofs.lines_met.Statement.{statement}
 use Rattle.obstacles.proofs.lines_met.Tie as tie
 
 abbrev Inv-loop : tie.InvT-loop
-Inv-loop t lines most₀ s₀ most s =
+Inv-loop t lines gapped most₀ s₀ most s =
     (s ≤ Table.mostSockets) × (most ≤ Table.mostLines) × All s (λ i. min lines (ioIn t i .ports .lines) ≤ most)
 
 abbrev μ-loop : tie.MeasureT-loop
-μ-loop t lines most₀ s₀ most s = Table.mostSockets - s
+μ-loop t lines gapped most₀ s₀ most s = Table.mostSockets - s
 
 -- the turn in which a grant was looked at
 abbrev turn : tie.After-larger Inv-loop μ-loop → tie.At-loop Inv-loop μ-loop
 turn c = c .before .before .before
+
+-- where the call began, once no gap was found to count
+abbrev start : tie.At-loop Inv-loop μ-loop → tie.Start Inv-loop μ-loop
+start c = c .before .before .before
+
+returns : tie.Need-returns Inv-loop μ-loop
+returns c = record { most = c .before .before .pre .1; gaps = λ l. omega arith; each = λ s l. omega arith }
 
 loop-holds : tie.Need-loop-holds Inv-loop μ-loop
 loop-holds c = (omega arith, omega arith, all-none _)
 
 deciding-requires : tie.Need-deciding-requires Inv-loop μ-loop
 deciding-requires c κs =
-    let s = c .before .before .before in (size-in (now (s .args .t)) (s .pre .0), omega arith)
+    let s = start (c .before) in (size-in (now (s .args .t)) (s .pre .0), omega arith)
 
 larger-requires : tie.Need-larger-requires Inv-loop μ-loop
 larger-requires c κs = search needs
@@ -43,12 +50,14 @@ loop-again c =
     let told = c .before .deciding .ensures in
     let k = turn c in (
       omega arith,
-      omega (arith, c .larger .ensures, told, k .loop .inv .1, k .before .before .pre .1),
+      omega (arith, c .larger .ensures, told, k .loop .inv .1, start k .pre .1),
       all-more (λ i l. omega (arith, c .larger .ensures, k .loop .inv .2 i l)) (omega (arith, c .larger .ensures, told)),
     )
 
-returns : tie.Need-returns Inv-loop μ-loop
-returns c = let k = c .before .loop in record { most = k .inv .1; each = λ s l. k .inv .2 s (omega arith) }
+returns-2 : tie.Need-returns-2 Inv-loop μ-loop
+returns-2 c =
+    let k = c .before in
+    record { most = k .loop .inv .1; gaps = λ l. absurd (omega (arith, k .before .if1 .left)); each = λ s l. k .loop .inv .2 s (omega arith) }
 
 pub lines-met-spec : {M : Type 1} → statement M
 lines-met-spec =
@@ -56,10 +65,11 @@ lines-met-spec =
     (tie.spec
     Inv-loop
     μ-loop
+    returns
     loop-holds
     deciding-requires
     larger-requires
     add-s
     loop-less
     loop-again
-    returns)
+    returns-2)

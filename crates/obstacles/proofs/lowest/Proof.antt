@@ -8,10 +8,10 @@ use Rattle.obstacles.proofs.lowest.Statement.{statement}
 use Rattle.obstacles.proofs.lowest.Tie as tie
 
 abbrev Inv-loop : tie.InvT-loop
-Inv-loop all known count step from end base₀ base = Gone all known count step from end base
+Inv-loop all rows known count lines step from end base₀ base = Gone all rows known count lines step from end base
 
 abbrev μ-loop : tie.MeasureT-loop
-μ-loop all known count step from end base₀ base = end + 1 - base
+μ-loop all rows known count lines step from end base₀ base = end + 1 - base
 
 -- where the call began, and the turn in which a leap was tried
 abbrev start : tie.At-loop Inv-loop μ-loop → tie.Start Inv-loop μ-loop
@@ -21,19 +21,27 @@ abbrev turn : tie.After-leap-past Inv-loop μ-loop → tie.At-loop Inv-loop μ-l
 turn c = c .before .before
 
 loop-holds : tie.Need-loop-holds Inv-loop μ-loop
-loop-holds c = gone-start _ _ _ _ _ _ (c .pre .0 .3) (c .pre .0 .4)
+loop-holds c = gone-start _ _ _ _ _ _ _ _ (c .pre .0 .4) (c .pre .0 .5)
 
 add-loop : tie.Need-add-loop Inv-loop μ-loop
-add-loop c = omega (arith, c .loop .inv .near, start c .pre .1 .0)
+add-loop c = omega (arith, c .loop .inv .near, start c .pre .1 .1)
 
 leap-past-requires : tie.Need-leap-past-requires Inv-loop μ-loop
 leap-past-requires c κs =
-    let s = start (c .before) in (s .pre .0 .0, s .pre .0 .1, omega (arith, c .loop-test .taken, s .pre .1 .1))
+    let s = start (c .before) in (
+      s .pre .0 .0,
+      s .pre .0 .1,
+      s .pre .0 .2,
+      s .pre .1 .0,
+      s .pre .1 .1,
+      s .pre .1 .2,
+      omega (arith, c .loop-test .taken, s .pre .1 .3),
+    )
 
 returns : tie.Need-returns Inv-loop μ-loop
 returns c =
     let at = c .before in
-    gone-free _ _ _ _ _ _ (turn at .loop .base) (turn at .loop .inv) (at .leap-past .ensures .none (c .if1 .taken))
+    gone-free _ _ _ _ _ _ _ _ (turn at .loop .base) (turn at .loop .inv) (at .leap-past .ensures .none (c .if1 .taken))
 
 add-up : tie.Need-add-up Inv-loop μ-loop
 add-up c =
@@ -44,7 +52,7 @@ up-requires : tie.Need-up-requires Inv-loop μ-loop
 up-requires c κs =
     let at = c .before in
     let s = start (turn at) in
-    (omega (arith, at .before .loop-test .taken, s .pre .1 .1, at .leap-past .ensures .most), s .pre .0 .2)
+    (omega (arith, at .before .loop-test .taken, s .pre .1 .3, at .leap-past .ensures .most), s .pre .0 .3)
 
 loop-less : tie.Need-loop-less Inv-loop μ-loop
 loop-less c =
@@ -55,11 +63,11 @@ loop-again : tie.Need-loop-again Inv-loop μ-loop
 loop-again c =
     let at = c .before .before in
     let s = start (turn at) in
-    gone-on _ _ _ _ _ _ (turn at .loop .base) (turn at .loop .inv) (at .leap-past .result) (c .up .result) (at .leap-past .ensures) (c .up .ensures)
-    (omega (arith, c .up .ensures .near, at .before .loop-test .taken, s .pre .1 .1, at .leap-past .ensures .most, power-most _ (s .pre .0 .2)))
+    gone-on _ _ _ _ _ _ _ _ (turn at .loop .base) (turn at .loop .inv) (at .leap-past .result) (c .up .result) (at .leap-past .ensures) (c .up .ensures)
+    (omega (arith, c .up .ensures .near, at .before .loop-test .taken, s .pre .1 .3, at .leap-past .ensures .most, power-most _ (s .pre .0 .3)))
 
 returns-2 : tie.Need-returns-2 Inv-loop μ-loop
-returns-2 c = gone-past _ _ _ _ _ _ (c .before .loop .base) (c .before .loop .inv) (omega (arith, c .loop-test .left))
+returns-2 c = gone-past _ _ _ _ _ _ _ _ (c .before .loop .base) (c .before .loop .inv) (omega (arith, c .loop-test .left))
 
 pub lowest-spec : {M : Type 1} → statement M
 lowest-spec =

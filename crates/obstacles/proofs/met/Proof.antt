@@ -126,7 +126,7 @@ returns-3 c =
     grant-is b (s .args .count) (s .args .lines) (s .args .most) (s .args .s .0)
     (record { base = ground .result; count = c .byte .result; lines = ioIn b (s .args .s .0) .ports .lines })
     (ports-read b (s .args .s .0) (ground .ensures .0) (c .byte .ensures .0) (lines-are b (s .args .s .0))) (used held) (s .pre .1 .0) (s .pre .1 .1)
-    (ground .ensures .1) (omega (arith, sound .port, c .byte .ensures .0)) (c .byte .ensures .1) (lines .result) (lines .ensures) (few k)
+    (omega (arith, ground .ensures .1)) (omega (arith, sound .port, c .byte .ensures .0)) (c .byte .ensures .1) (lines .result) (lines .ensures) (few k)
     (omega (arith, c .before .before .before .if2 .left)) _ (omega arith) (omega (arith, c .before .power .ensures, pow-pos (lines .result)))
     (omega arith)
 

@@ -30,16 +30,16 @@ sub-lowest c = search needs
 lowest-requires : tie.Need-lowest-requires
 lowest-requires c κs =
     let s = start (made c) in (
-      (λ i l. made c .stretches .ensures i l .fits, s .pre .1 .1 .fits, s .pre .1 .0 .1, s .pre .1 .0 .2, s .pre .1 .0 .3),
-      (omega (arith, s .pre .0 .2), omega (arith, power-most _ (c .period .ensures .power), s .pre .0 .1)),
+      (λ i l. made c .stretches .ensures i l .fits, s .pre .1 .1 .1 .fits, s .pre .1 .1 .0 .fits, s .pre .1 .0 .1, s .pre .1 .0 .2, s .pre .1 .0 .3),
+      (s .pre .0 .1, s .pre .0 .2, s .pre .1 .1 .1 .lined, omega (arith, power-most _ (c .period .ensures .power), s .pre .0 .1)),
     )
 
 returns : tie.Need-returns
 returns c =
     let k = made (c .before) in
     let a = start k .args in
-    open-in-is (now (a .t)) (a .count) (a .lines) (a .most) (a .step) (a .from) _ (k .stretches .result) (a .known)
-    (start k .pre .1 .1) (k .stretches .ensures) (c .lowest .result) (c .lowest .ensures)
+    open-in-is (now (a .t)) (a .count) (a .lines) (a .most) (a .step) (a .from) _ (k .stretches .result) (now (a .rows)) (a .gapped) (a .known)
+    (start k .pre .1 .1 .0) (k .stretches .ensures) (start k .pre .1 .1 .1) (c .lowest .result) (c .lowest .ensures)
 
 pub open-in-spec : {M : Type 1} → statement M
 open-in-spec =

@@ -1,19 +1,21 @@
--- `obstacles::passed` meets its contract: for so many lines, the search has passed every multiple before `base`, and what is known is barred.
+-- `obstacles::passed` meets its contract: for so many lines, the search has passed every multiple before `base`, and what is known is barred; last, for
+-- the card's own lines, with the gaps.
 -- Assumes nothing.
 use Prim.Native.Nat.{_-_, _≤_}
 use native.Mathlib.Omega.{arith}
 use denote.Ref.{now}
 use borrow.Author.Needs.{needs}
 use Rattle.facts.specs.Table
-use Rattle.obstacles.proofs.Periods.{Passed, passed-none, passed-more, passed-on, barring-more}
+use Rattle.obstacles.proofs.Gapped.{none-within}
+use Rattle.obstacles.proofs.Periods.{Passed, passed-none, passed-more, passed-lines, passed-on, barring-more}
 use Rattle.obstacles.proofs.passed.Statement.{statement}
 use Rattle.obstacles.proofs.passed.Tie as tie
 
 abbrev Inv-loop : tie.InvT-loop
-Inv-loop t count lines step some known₀ base₀ most₀ known base most = (most ≤ Table.mostLines) × Passed t count lines step most base known
+Inv-loop t rows count lines gapped step some known₀ base₀ most₀ known base most = (most ≤ Table.mostLines) × Passed t count lines step most base known
 
 abbrev μ-loop : tie.MeasureT-loop
-μ-loop t count lines step some known₀ base₀ most₀ known base most = Table.mostLines - most
+μ-loop t rows count lines gapped step some known₀ base₀ most₀ known base most = Table.mostLines - most
 
 -- where the call began, and the turn in which a number of lines was looked up
 abbrev begun : tie.After-numbers Inv-loop μ-loop → tie.Start Inv-loop μ-loop
@@ -40,8 +42,16 @@ gone c =
     passed-on _ _ _ _ (k .loop .most) (k .loop .base) (found c .open-in .result) (c .before .period .result) (k .loop .known) (c .learnt .result)
     (k .loop .inv .1) (found c .open-in .ensures) (c .before .period .ensures) (c .learnt .ensures)
 
+-- where few lines had been searched, and what was passed was for the card's own lines
+abbrev ended : tie.Else3 Inv-loop μ-loop → tie.At-loop Inv-loop μ-loop
+ended c = c .before .before
+
+all-lines : (c : tie.At-loop Inv-loop μ-loop)
+    → let a = start c .args in Passed (now (a .t)) (a .count) (a .lines) (a .step) (a .lines) (c .loop .base) (c .loop .known)
+all-lines c = passed-lines _ _ _ _ (c .loop .most) (c .loop .base) (c .loop .known) (c .loop .inv .1)
+
 numbers-requires : tie.Need-numbers-requires Inv-loop μ-loop
-numbers-requires c κs = let pre = c .before .pre in (pre .0, pre .3)
+numbers-requires c κs = let pre = c .before .pre .0 in (pre .0, pre .3)
 
 nowhere-requires : tie.Need-nowhere-requires Inv-loop μ-loop
 nowhere-requires c κs = search needs
@@ -64,11 +74,15 @@ loop-again c = let k = turn (c .before) in (omega arith, passed-more _ _ _ _ (k 
 open-in-requires : tie.Need-open-in-requires Inv-loop μ-loop
 open-in-requires c κs =
     let k = turn (c .before) in
-    let pre = start k .pre in
-    let p = k .loop .inv .1 in ((pre .0, pre .1, pre .2, pre .3), ((k .loop .inv .0, pre .4, p .multiple, p .near), p .bars))
+    let s = start k in
+    let pre = s .pre .0 in
+    let p = k .loop .inv .1 in (
+      (pre .0, pre .1, pre .2, pre .3),
+      ((k .loop .inv .0, pre .4, p .multiple, p .near), (p .bars, none-within _ _ _ _ _ (s .pre .1 .within .fits))),
+    )
 
 period-requires : tie.Need-period-requires Inv-loop μ-loop
-period-requires c κs = let k = searched c in (k .loop .inv .0, start k .pre .4)
+period-requires c κs = let k = searched c in (k .loop .inv .0, start k .pre .0 .4)
 
 learnt-requires : tie.Need-learnt-requires Inv-loop μ-loop
 learnt-requires c κs = c .period .ensures .power
@@ -95,8 +109,32 @@ loop-again-2 c =
 
 returns-2 : tie.Need-returns-2 Inv-loop μ-loop
 returns-2 c =
-    let k = c .before in
+    let k = c .before .before in
     barring-more _ _ _ _ (k .loop .most) _ _ (k .loop .inv .0) (k .loop .inv .1 .bars)
+
+open-in-requires-2 : tie.Need-open-in-requires-2 Inv-loop μ-loop
+open-in-requires-2 c κs =
+    let k = ended c in
+    let s = start k in
+    let pre = s .pre .0 in
+    let p = all-lines k in ((pre .0, pre .1, pre .2, pre .3), ((pre .3, pre .4, p .multiple, p .near), (p .bars, s .pre .1 .within)))
+
+period-requires-2 : tie.Need-period-requires-2 Inv-loop μ-loop
+period-requires-2 c κs = let pre = start (ended (c .before)) .pre .0 in (pre .3, pre .4)
+
+learnt-requires-2 : tie.Need-learnt-requires-2 Inv-loop μ-loop
+learnt-requires-2 c κs = c .period2 .ensures .power
+
+returns-3 : tie.Need-returns-3 Inv-loop μ-loop
+returns-3 c =
+    let at = c .before in
+    let search = at .before in
+    let k = ended (search .before) in
+    let s = start k in
+    let last =
+    passed-on _ _ _ _ (s .args .lines) (k .loop .base) (search .open-in2 .result) (at .period2 .result) (k .loop .known) (c .learnt2 .result) (all-lines k)
+    (search .open-in2 .ensures) (at .period2 .ensures) (c .learnt2 .ensures) in
+    barring-more _ _ _ _ (s .args .lines) _ _ (s .pre .0 .3) (last .bars)
 
 pub passed-spec : {M : Type 1} → statement M
 passed-spec =
@@ -119,4 +157,8 @@ passed-spec =
     add-most-2
     loop-less-2
     loop-again-2
-    returns-2)
+    returns-2
+    open-in-requires-2
+    period-requires-2
+    learnt-requires-2
+    returns-3)

@@ -9,8 +9,9 @@ use denote.Ref.{now}
 use Rattle.facts.proofs.Says.{says-as, says-yes, says-no}
 use Rattle.layout.specs.Layout.{ioSize}
 use Rattle.layout.specs.Reading.{ioPlace}
-use Rattle.layout.specs.Sound.{Zero}
+use Rattle.layout.specs.Sound.{Zero, IoUsed}
 use Rattle.reading.proofs.Zeros.{place-false, place-says, live-used}
+use Rattle.grants.specs.Parts.{HolderSound}
 use Rattle.grants.proofs.Records.{long-zero, zero-long}
 use Rattle.grants.proofs.ios.io_place_sound.Statement.{statement}
 use Rattle.grants.proofs.ios.io_place_sound.Tie as tie
@@ -29,6 +30,9 @@ used : (c : tie.Else1) → let a = begun c .args in Zero (now (a .t)) (ioPlace (
 used c z =
     let at = ioPlace (begun c .args .s .0) in
     c .if1 .left (omega (arith, c .before .word .ensures .0, z at (omega arith) (omega arith), z (at + 1) (omega arith) (omega arith)))
+
+there : (c : tie.Else1) → let a = begun c .args in IoUsed (now (a .t)) (a .s .0)
+there c e = c .if1 .left (c .before .word .ensures .0 ∙ e)
 
 mul-at : tie.Need-mul-at
 mul-at c = search needs
@@ -72,33 +76,42 @@ byte-requires c κs = search needs
 returns-3 : tie.Need-returns-3
 returns-3 c = place-false (used (spared (c .before .before))) (λ g. omega arith)
 
-ports-sound-requires : tie.Need-ports-sound-requires
-ports-sound-requires c κs =
-    let pre = begun (spared (marked c)) .pre in
-    (pre .0, pre .2 .ranges-most, pre .4, omega arith)
+holder-sound-requires : tie.Need-holder-sound-requires
+holder-sound-requires c κs =
+    let pre = begun (spared (marked c)) .pre .0 in
+    (pre .0, omega arith, pre .2 .clients-most)
 
 returns-4 : tie.Need-returns-4
 returns-4 c =
     place-false (used (spared (marked (c .before .before))))
-    (λ g. says-no (c .before .ports-sound .ensures) (c .if4 .taken)
-    (record { base = g .base; port = g .port; line = g .line; lines = g .lines; decoded = g .decoded; managed = g .managed }))
+    (λ g. says-no (c .before .holder-sound .ensures) (c .if4 .taken) (record { client = g .client; socket = g .socket }))
 
-holder-sound-requires : tie.Need-holder-sound-requires
-holder-sound-requires c κs =
-    let pre = begun (spared (marked (c .before .before))) .pre in
-    (pre .0, omega arith, pre .2 .clients-most)
+-- the grant has a holder
+abbrev tested : tie.Else4 → tie.Else3
+tested c = c .before .before
+
+holder : (c : tie.Else4)
+    → let a = begun (spared (marked (tested c))) .args in HolderSound (now (a .t)) (ioPlace (a .s .0)) (a .s .0)
+holder c = says-yes (c .before .holder-sound .ensures) (c .if4 .left)
+
+ports-sound-requires : tie.Need-ports-sound-requires
+ports-sound-requires c κs =
+    let begin = spared (marked (tested c)) in
+    let s = begun begin in
+    let pre = s .pre .0 in
+    ((pre .0, pre .2 .ranges-most, pre .4, omega arith), s .pre .1 (s .args .s .0) (holder c .socket) (there begin))
 
 returns-5 : tie.Need-returns-5
 returns-5 c =
-    let tested = c .before .before .before in
-    let free = marked tested in
+    let h = holder (c .before) in
+    let test = tested (c .before) in
+    let free = marked test in
     let begin = spared free in
     let b = now (begun begin .args .t) in
     let at = ioPlace (begun begin .args .s .0) in
-    let p = says-yes (c .before .before .ports-sound .ensures) (c .before .if4 .left) in
-    place-says (used begin) (c .holder-sound .ensures)
-    (λ h. (
-      live-used b (begun begin .pre .3) (h .client),
+    place-says (used begin) (c .ports-sound .ensures)
+    (λ p. (
+      live-used b (begun begin .pre .0 .3) (h .client),
       record {
         client = h .client;
         socket = h .socket;
@@ -108,11 +121,20 @@ returns-5 c =
         lines = p .lines;
         decoded = p .decoded;
         managed = p .managed;
-        mark = rw (tested .before .byte .ensures .0) at (tested .if3 .left);
+        answers = p .answers;
+        mark = rw (test .before .byte .ensures .0) at (test .if3 .left);
         spare = long-zero b (at + 7) (at + ioSize) (omega arith) (sym (free .before .long .ensures .0) ∙ free .if2 .left);
       },
     ))
-    (λ g. record { client = g .client; socket = g .socket })
+    (λ g. record {
+      base = g .base;
+      port = g .port;
+      line = g .line;
+      lines = g .lines;
+      decoded = g .decoded;
+      managed = g .managed;
+      answers = g .answers;
+    })
 
 pub io-place-sound-spec : {M : Type 1} → statement M
 io-place-sound-spec =
@@ -130,7 +152,7 @@ io-place-sound-spec =
     add-byte
     byte-requires
     returns-3
-    ports-sound-requires
-    returns-4
     holder-sound-requires
+    returns-4
+    ports-sound-requires
     returns-5)

@@ -24,7 +24,7 @@ returns c = says-false-by (c .before .io-place-sound .ensures) (c .if1 .taken) (
 io-company-sound-requires : tie.Need-io-company-sound-requires
 io-company-sound-requires c κs =
     let pre = begun c .pre in
-    ((pre .0 .0, pre .0 .1, all-more (pre .1 .0) (place c)), pre .1 .1)
+    ((pre .0 .0, pre .0 .1, all-more (pre .1 .1) (place c)), pre .1 .2)
 
 returns-2 : tie.Need-returns-2
 returns-2 c =

@@ -1,5 +1,6 @@
 -- `grants::ios::ios_sound` meets its contract. The loop's invariant: the sockets passed are sound, and the set has each block in which their grants answer.
 -- Assumes nothing.
+use mathlib.Core.Path.{refl}
 use Prim.Native.Nat.{_-_}
 use native.Mathlib.Omega.{arith}
 use denote.Ref.{now}
@@ -9,7 +10,7 @@ use Rattle.layout.specs.Layout.{iosAt, irqsAt, ioSize}
 use Rattle.layout.specs.Reading.{ioPlace}
 use Rattle.layout.specs.Sound.{IoPlaceSound, IoPairSound}
 use Rattle.reading.proofs.All.{SoFar, so-far-none, so-far-next, so-far-stop, so-far-end}
-use Rattle.grants.specs.Parts.{SocketSound}
+use Rattle.grants.specs.Parts.{SocketSound, RowsServe}
 use Rattle.grants.specs.Company.{Answers, CoversBelow}
 use Rattle.grants.proofs.Covering.{covers-none, covers-more}
 use Rattle.grants.proofs.Records.{zero-sound}
@@ -17,17 +18,33 @@ use Rattle.grants.proofs.ios.ios_sound.Statement.{statement}
 use Rattle.grants.proofs.ios.ios_sound.Tie as tie
 
 abbrev Inv-loop : tie.InvT-loop
-Inv-loop t blocks₀ s₀ blocks s = SoFar mostSockets (SocketSound (IoPlaceSound t) (IoPairSound t)) s × CoversBelow blocks s (Answers t)
+Inv-loop t rows blocks₀ s₀ blocks s = SoFar mostSockets (SocketSound (IoPlaceSound t) (IoPairSound t)) s × CoversBelow blocks s (Answers t)
 
 abbrev μ-loop : tie.MeasureT-loop
-μ-loop t blocks₀ s₀ blocks s = mostSockets - s
+μ-loop t rows blocks₀ s₀ blocks s = mostSockets - s
 
 -- where the call began, and where a turn did
 abbrev begun : tie.After-zero Inv-loop μ-loop → tie.Start Inv-loop μ-loop
 begun c = c .before .before
 
+-- where the rows of the gaps were made, for the fewest lines of any card: they serve each
+abbrev made : tie.At-loop Inv-loop μ-loop → tie.After-gap-rows Inv-loop μ-loop
+made c = c .before
+
+abbrev few : tie.After-gap-rows Inv-loop μ-loop → tie.After-fewest-lines Inv-loop μ-loop
+few c = c .before .before
+
+abbrev start : tie.After-gap-rows Inv-loop μ-loop → tie.Start Inv-loop μ-loop
+start c = let looked = few c .before in begun (looked .before)
+
+serve : (c : tie.At-loop Inv-loop μ-loop) → RowsServe (now (start (made c) .args .t)) (made c .gap-rows .last .1 .1 .0)
+serve c s l u =
+    let k = made c in
+    let fewer = few k .fewest-lines .ensures s l u in
+    record { fits = k .gap-rows .ensures .fits; are = λ m. k .gap-rows .ensures .are (omega arith) }
+
 abbrev turn : tie.Else2 Inv-loop μ-loop → tie.In-loop Inv-loop μ-loop
-turn c = c .before .before
+turn c = c .before .before .before
 
 zero-requires : tie.Need-zero-requires Inv-loop μ-loop
 zero-requires c κs = omega arith
@@ -38,21 +55,31 @@ returns c =
     (zero-sound (now (begun (c .before) .args .t)) iosAt irqsAt ioSize ioPlace (omega arith) (λ s. omega arith) (λ s l. omega arith)
     (c .before .zero .ensures .holds (c .if1 .taken)))
 
+fewest-lines-requires : tie.Need-fewest-lines-requires Inv-loop μ-loop
+fewest-lines-requires c κs = let pre = begun (c .before) .pre in (pre .0, pre .1)
+
+gap-rows-requires : tie.Need-gap-rows-requires Inv-loop μ-loop
+gap-rows-requires c κs =
+    let looked = c .before .before in
+    let pre = begun (looked .before) .pre in ((pre .0, pre .1 .ranges-most, pre .3), refl)
+
 loop-holds : tie.Need-loop-holds Inv-loop μ-loop
 loop-holds c = (so-far-none, covers-none _)
 
 io-socket-sound-requires : tie.Need-io-socket-sound-requires Inv-loop μ-loop
 io-socket-sound-requires c κs =
-    let inv = c .before .loop .inv in
-    let pre = begun (c .before .before .before) .pre in
-    ((pre .0, c .loop-test .taken, pre .1, pre .2, pre .3), (λ u l. inv .0 .each u l .place, inv .1))
+    let test = c .before in
+    let k = test .before in
+    let inv = k .loop .inv in
+    let pre = start (made k) .pre in
+    ((pre .0, test .loop-test .taken, pre .1, pre .2, pre .3), (serve k, λ u l. inv .0 .each u l .place, inv .1))
 
 returns-2 : tie.Need-returns-2 Inv-loop μ-loop
-returns-2 c = so-far-stop (c .before .before .loop-test .taken) (c .before .io-socket-sound .ensures) (c .if2 .taken)
+returns-2 c = so-far-stop (c .before .before .before .loop-test .taken) (c .before .io-socket-sound .ensures) (c .if2 .taken)
 
 io-blocks-requires : tie.Need-io-blocks-requires Inv-loop μ-loop
 io-blocks-requires c κs =
-    let pre = begun (turn c .before .before .before) .pre in
+    let pre = start (made (turn c .before)) .pre in
     (pre .0, turn c .loop-test .taken, says-yes (c .before .io-socket-sound .ensures) (c .if2 .left) .place)
 
 add-s : tie.Need-add-s Inv-loop μ-loop
@@ -80,6 +107,8 @@ ios-sound-spec =
     μ-loop
     zero-requires
     returns
+    fewest-lines-requires
+    gap-rows-requires
     loop-holds
     io-socket-sound-requires
     returns-2

@@ -43,7 +43,10 @@ managed-requires : tie.Need-managed-requires
 managed-requires c κs =
     let known = read (c .before .before .before) in
     let pre = known .before .before .pre in
-    ((pre .0, pre .1, pre .2), (known .ports-at .ensures .base-most, omega (arith, known .ports-at .ensures .count-most)))
+    let ports = known .ports-at .ensures in (
+      (pre .0 .0, pre .0 .1, pre .0 .2, rw (ports .lines) (pre .1)),
+      (ports .base-most, omega arith, omega (arith, ports .count-most), c .before .before .if4 .left),
+    )
 
 returns-6 : tie.Need-returns-6
 returns-6 c =
@@ -56,9 +59,10 @@ returns-6 c =
       line = omega arith;
       lines = rw (ports .lines) at (tested .before .if4 .left);
       decoded = rw (ports .count, power tested) at (c .before .if5 .left);
-      managed = m;
+      managed = m .own;
+      answers = m .answers;
     })
-    (λ p. p .managed)
+    (λ p. record { own = p .managed; answers = p .answers })
 
 pub ports-sound-spec : {M : Type 1} → statement M
 ports-sound-spec =

@@ -1,0 +1,163 @@
+-- `answering::leap` meets its contract: the farthest end of the gaps passed.
+-- Assumes nothing.
+use mathlib.Core.Path.{_≡_, ap, _∙_}
+use Prim.Native.Nat.{ℕ, _+_, _-_, _%_, _^_, _≤_, _<_}
+use native.Mathlib.Nat.{mod-lt}
+use native.Mathlib.Omega.{arith}
+use denote.Ref.{now}
+use borrow.Author.Needs.{needs}
+use lib.Bits.{bitAnd}
+use lib.Pow.{pow-pos, pow-mono}
+use Rattle.answering.specs.Rows.{mostGaps, rowAt, Masks, aheadOf}
+use Rattle.answering.proofs.Walking.{masked, Leaping, leaping-start, leaping-more, leaping-end}
+use Rattle.answering.proofs.leap.Statement.{statement}
+use Rattle.answering.proofs.leap.Tie as tie
+
+abbrev Inv-loop : tie.InvT-loop
+Inv-loop rows base count lines period mask last more far₀ i₀ far i = Leaping rows count lines base i far
+
+abbrev μ-loop : tie.MeasureT-loop
+μ-loop rows base count lines period mask last more far₀ i₀ far i = mostGaps - i
+
+-- where the call began, and the turn in which a gap was looked at
+abbrev start : tie.At-loop Inv-loop μ-loop → tie.Start Inv-loop μ-loop
+start c = c .before .before
+
+abbrev turn : tie.After-ahead-arg2 Inv-loop μ-loop → tie.At-loop Inv-loop μ-loop
+turn c = c .before .before .before
+
+-- the period, its mask, and the last port within it
+period : (c : tie.After-power Inv-loop μ-loop) → (1 ≤ c .power .result) × (c .power .result ≤ 2 ^ 15)
+period c =
+    let lines = c .before .args .lines in
+    let l : lines ≤ 15 = omega (arith, c .before .pre .4) in
+    (omega (arith, c .power .ensures, pow-pos lines), omega (arith, c .power .ensures, pow-mono l))
+
+whole : (c : tie.At-loop Inv-loop μ-loop) → c .before .power .result - 1 + 1 ≡ 2 ^ start c .args .lines
+whole c = omega (arith, period (c .before) .0, c .before .power .ensures)
+
+masks : (c : tie.At-loop Inv-loop μ-loop) → Masks (c .before .power .result - 1)
+masks c = record { lines = start c .args .lines; fewer = start c .pre .4; is = whole c }
+
+remainder : (c : tie.At-loop Inv-loop μ-loop)
+    → let a = start c .args in bitAnd (a .base + a .count - 1) (c .before .power .result - 1) ≡ (a .base + a .count - 1) % 2 ^ a .lines
+remainder c =
+    let a = start c .args in
+    masked (a .base + a .count - 1) _ (masks c) ∙ ap (λ (n : ℕ). (a .base + a .count - 1) % n) (whole c)
+
+last : (c : tie.At-loop Inv-loop μ-loop)
+    → let a = start c .args in bitAnd (a .base + a .count - 1) (c .before .power .result - 1) ≤ c .before .power .result - 1
+last c =
+    let a = start c .args in
+    omega (arith, remainder c, whole c, mod-lt (a .base + a .count - 1) (pow-pos (a .lines)))
+
+-- what is ahead of the gap in the place i, by the period
+by-period : (c : tie.At-loop Inv-loop μ-loop) (i : ℕ)
+    → let a = start c .args in
+    let g = rowAt (now (a .rows)) i in
+    aheadOf (g .base) (g .count) (bitAnd (a .base + a .count - 1) (c .before .power .result - 1)) (a .count - 1) (c .before .power .result - 1 + 1)
+    ≡ aheadOf (g .base) (g .count) ((a .base + a .count - 1) % 2 ^ a .lines) (a .count - 1) (2 ^ a .lines)
+by-period c i =
+    let a = start c .args in
+    let g = rowAt (now (a .rows)) i in
+    ap (λ (n : ℕ). aheadOf (g .base) (g .count) n (a .count - 1) (c .before .power .result - 1 + 1)) (remainder c)
+    ∙ ap (λ (n : ℕ). aheadOf (g .base) (g .count) ((a .base + a .count - 1) % 2 ^ a .lines) (a .count - 1) n) (whole c)
+
+power-requires : tie.Need-power-requires Inv-loop μ-loop
+power-requires c κs = omega (arith, c .pre .4)
+
+sub-mask : tie.Need-sub-mask Inv-loop μ-loop
+sub-mask c = omega (arith, period c .0)
+
+add-last : tie.Need-add-last Inv-loop μ-loop
+add-last c = omega (arith, c .before .pre .1, c .before .pre .3)
+
+sub-last : tie.Need-sub-last Inv-loop μ-loop
+sub-last c = omega (arith, c .before .pre .2)
+
+sub-more : tie.Need-sub-more Inv-loop μ-loop
+sub-more c = omega (arith, c .before .pre .2)
+
+loop-holds : tie.Need-loop-holds Inv-loop μ-loop
+loop-holds c = leaping-start _ _ _ _
+
+mul-ahead : tie.Need-mul-ahead Inv-loop μ-loop
+mul-ahead c = omega (arith, c .loop-test .taken)
+
+element-copy-out-ahead : tie.Need-element-copy-out-ahead Inv-loop μ-loop
+element-copy-out-ahead c = omega (arith, c .loop-test .taken)
+
+add-ahead : tie.Need-add-ahead Inv-loop μ-loop
+add-ahead c = omega (arith, c .before .loop-test .taken)
+
+mul-ahead-2 : tie.Need-mul-ahead-2 Inv-loop μ-loop
+mul-ahead-2 c = omega (arith, c .before .loop-test .taken)
+
+element-copy-out-ahead-2 : tie.Need-element-copy-out-ahead-2 Inv-loop μ-loop
+element-copy-out-ahead-2 c = omega (arith, c .before .loop-test .taken)
+
+cast-ahead : tie.Need-cast-ahead Inv-loop μ-loop
+cast-ahead c = let k = turn c in omega (arith, last k, period (k .before) .1)
+
+cast-ahead-2 : tie.Need-cast-ahead-2 Inv-loop μ-loop
+cast-ahead-2 c = omega (arith, start (turn c) .pre .3)
+
+cast-ahead-3 : tie.Need-cast-ahead-3 Inv-loop μ-loop
+cast-ahead-3 c = omega (arith, period (turn c .before) .1)
+
+ahead-requires : tie.Need-ahead-requires Inv-loop μ-loop
+ahead-requires c κs = let k = turn c in let s = start k in (s .pre .0 .counts (k .loop .i) (omega (arith, c .before .before .loop-test .taken)), last k, omega (arith, s .pre .3), masks k)
+
+larger-requires : tie.Need-larger-requires Inv-loop μ-loop
+larger-requires c κs = search needs
+
+add-i : tie.Need-add-i Inv-loop μ-loop
+add-i c = let at = c .before .before in omega (arith, at .before .before .loop-test .taken)
+
+loop-less : tie.Need-loop-less Inv-loop μ-loop
+loop-less c = let at = c .before .before in omega (arith, at .before .before .loop-test .taken)
+
+loop-again : tie.Need-loop-again Inv-loop μ-loop
+loop-again c =
+    let at = c .before .before in
+    let k = turn at in
+    let s = start k in
+    rw (c .larger .ensures)
+    (leaping-more _ (s .args .count) (s .args .lines) (s .args .base) (s .pre .0) (s .pre .2) (s .pre .3) (s .pre .4) (k .loop .i) (k .loop .far)
+    (c .before .ahead .result) (k .loop .inv) (omega (arith, at .before .before .loop-test .taken)) (c .before .ahead .ensures ∙ by-period k (k .loop .i)))
+
+cast-result : tie.Need-cast-result Inv-loop μ-loop
+cast-result c = search needs
+
+returns : tie.Need-returns Inv-loop μ-loop
+returns c =
+    let k = c .before in
+    leaping-end _ _ _ _ (k .loop .i) (k .loop .far) (k .loop .inv) (omega (arith, c .loop-test .left))
+
+pub leap-spec : {M : Type 1} → statement M
+leap-spec =
+    tie.close
+    (tie.spec
+    Inv-loop
+    μ-loop
+    power-requires
+    sub-mask
+    add-last
+    sub-last
+    sub-more
+    loop-holds
+    mul-ahead
+    element-copy-out-ahead
+    add-ahead
+    mul-ahead-2
+    element-copy-out-ahead-2
+    cast-ahead
+    cast-ahead-2
+    cast-ahead-3
+    ahead-requires
+    larger-requires
+    add-i
+    loop-less
+    loop-again
+    cast-result
+    returns)

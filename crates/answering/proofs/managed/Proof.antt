@@ -1,0 +1,57 @@
+-- `answering::managed` meets its contract: with all lines decoded its own ports decide; with fewer, the gaps do.
+-- Assumes nothing.
+use Prim.Native.Nat.{_<_}
+use native.Mathlib.Omega.{arith}
+use denote.Ref.{now}
+use borrow.Author.Needs.{needs}
+use Rattle.facts.specs.Table
+use Rattle.facts.specs.Table.{Ports}
+use Rattle.facts.proofs.Says.{says-false}
+use Rattle.answering.proofs.Gaps.{clear-says, own-says, past-unmanaged}
+use Rattle.answering.proofs.Filling.{leaps-says}
+use Rattle.answering.proofs.managed.Statement.{statement}
+use Rattle.answering.proofs.managed.Tie as tie
+
+-- where the call began, once the lines were looked at, which aren't all; the ports asked about
+abbrev start : tie.Else1 → tie.Start
+start c = c .before .before
+
+fewer : (c : tie.Else1) → start c .args .lines < Table.mostLines
+fewer c = omega (arith, c .if1 .left, start c .pre .1 .3)
+
+abbrev asked : tie.Start → Ports
+asked s = record { base = s .args .base; count = s .args .count; lines = s .args .lines }
+
+managed-requires : tie.Need-managed-requires
+managed-requires c κs = search needs
+
+returns : tie.Need-returns
+returns c =
+    let s = c .before .before .before in
+    own-says (now (s .args .t)) (s .pre .0 .2) (asked s) (c .before .if1 .taken) (c .managed .ensures)
+
+add-if2 : tie.Need-add-if2
+add-if2 c = search needs
+
+returns-2 : tie.Need-returns-2
+returns-2 c =
+    let s = start (c .before) in
+    says-false (past-unmanaged (now (s .args .t)) (s .pre .0 .2) (asked s) (omega (arith, c .if2 .taken)) (s .pre .1 .1))
+
+leap-requires : tie.Need-leap-requires
+leap-requires c κs =
+    let k = c .before in
+    let pre = start k .pre in (pre .0 .3 .fits, omega (arith, pre .1 .0), pre .1 .1, pre .1 .2, fewer k)
+
+returns-3 : tie.Need-returns-3
+returns-3 c =
+    let at = c .before in
+    let k = at .before in
+    let s = start k in
+    clear-says (now (s .args .t)) (s .pre .0 .2) (asked s) (s .pre .1 .3) (omega (arith, at .if2 .left))
+    (leaps-says (now (s .args .t)) (now (s .args .rows)) (s .args .count) (s .args .lines) (s .args .base) (c .leap .result) (s .pre .0 .3) (fewer k)
+    (c .leap .ensures))
+
+pub managed-spec : {M : Type 1} → statement M
+managed-spec =
+    tie.close (tie.spec managed-requires returns add-if2 returns-2 leap-requires returns-3)

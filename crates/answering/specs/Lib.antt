@@ -1,0 +1,3 @@
+-- What the contracts of `answering` cite. Assumes nothing.
+pub mod Gaps
+pub mod Rows
