@@ -27,6 +27,7 @@ noGaps = replicate (mostGaps + mostGaps) 0
 abbrev pub rowAt : List ℕ → ℕ → Ports
 rowAt rows i = record { base = getD rows i 0; count = getD rows (mostGaps + i) 0; lines = Table.mostLines }
 
+-- numbers that a gap can have, in every place
 pub record RowsFit (rows : List ℕ) : Type 0 where
   pub bases : (i : ℕ) → i < mostGaps → rowAt rows i .base ≤ Table.allPorts
   pub counts : (i : ℕ) → i < mostGaps → rowAt rows i .count ≤ mostCounted
@@ -40,6 +41,7 @@ pub record RowsAre (b rows : List ℕ) : Type 0 where
   pub has : (a : Ports) → a .lines < Table.mostLines → MeetsGap b a → MeetsRows rows a
   pub only : (a : Ports) → a .lines < Table.mostLines → MeetsRows rows a → MeetsGap b a
 
+-- the rows serve cards of so many lines; those of one that decodes all may have anything that fits
 pub record GapsAre (b : List ℕ) (lines : ℕ) (rows : List ℕ) : Type 0 where
   pub fits : RowsFit rows
   pub are : lines < Table.mostLines → RowsAre b rows
@@ -68,8 +70,8 @@ pub record LeapsRows (rows : List ℕ) (count lines x r : ℕ) : Type 0 where
   pub most : r ≤ Table.allPorts
 
 -- no gap has more ports
-abbrev pub WidestIs : List ℕ → ℕ → Type 0
-WidestIs rows r = (i : ℕ) → i < mostGaps → rowAt rows i .count ≤ r
+abbrev pub NoneWider : List ℕ → ℕ → Type 0
+NoneWider rows r = (i : ℕ) → i < mostGaps → rowAt rows i .count ≤ r
 
 -- so many lines decide, or no gap has a port
 abbrev pub DecidingIs : List ℕ → ℕ → ℕ → Type 0

@@ -14,7 +14,7 @@ ghost use Rattle.layout.specs.Layout.{tableSize};
 ghost use Rattle.layout.specs.Reading.{rangesIn};
 ghost use Rattle.layout.specs.Sound.{RangesSound};
 ghost use Rattle.answering.specs.Gaps.{AllManagedIn};
-ghost use Rattle.answering.specs.Rows.{noGaps, Masks, reachOf, aheadOf, RowsFit, GapsAre, LeapsRows, WidestIs, DecidingIs};
+ghost use Rattle.answering.specs.Rows.{mostCounted, noGaps, Masks, reachOf, aheadOf, RowsFit, GapsAre, LeapsRows, NoneWider, DecidingIs};
 
 // The gaps stand in two rows of 16-bit numbers, one after the other, so that many are looked at side by side: where each begins, and how many ports it
 // has. There may be one more than ranges; the rows have room for whole eights, and the rest is 0.
@@ -58,7 +58,7 @@ fn larger(a: u16, b: u16) -> u16
 
 // How far a gap and so many more ports reach; a gap without a port reaches nowhere.
 fn reach_of(ports: u16, more: u16) -> u16
-    requires { ⌜ (ports ≤ 32768) × (more < 256) ⌝ }
+    requires { ⌜ (ports ≤ mostCounted) × (more < 256) ⌝ }
     ensures { λ r. ⌜ r ≡ reachOf ports more ⌝ }
 {
     if ports == 0 {
@@ -70,7 +70,7 @@ fn reach_of(ports: u16, more: u16) -> u16
 // How far a card's last port, which lies so far in the period, has to move to be past a gap and its own other ports past it too; 0 where it answers at no
 // port of the gap.
 fn ahead(base: u16, ports: u16, last: u16, more: u16, mask: u16) -> u16
-    requires { ⌜ (ports ≤ 32768) × (last ≤ mask) × (more < 256) × Masks mask ⌝ }
+    requires { ⌜ (ports ≤ mostCounted) × (last ≤ mask) × (more < 256) × Masks mask ⌝ }
     ensures { λ r. ⌜ r ≡ aheadOf base ports last more (mask + 1) ⌝ }
 {
     let behind = (last + (mask + 1) - (base & mask)) & mask;
@@ -107,7 +107,7 @@ pub fn leap(rows: &[u16; ROWS], base: usize, count: usize, lines: usize) -> usiz
 }
 
 fn widest(rows: &[u16; ROWS]) -> u16
-    ensures { λ r. ⌜ WidestIs (now (rows .entry)) r ⌝ }
+    ensures { λ r. ⌜ NoneWider (now (rows .entry)) r ⌝ }
 {
     let mut most: u16 = 0;
     for i in 0..MOST_GAPS {

@@ -3,7 +3,7 @@ use mathlib.Core.List.{List, [], _∷_}
 use mathlib.Core.Bool.{true}
 use Prim.Native.Nat.{ℕ}
 use Rattle.facts.specs.declared.Code.the-variants.{BadBase, InUse}
-use Rattle.facts.specs.Table.{Facts, Range}
+use Rattle.facts.specs.Table.{Facts}
 use Rattle.facts.specs.Resources.{AdjustResourceInfo, withRanges}
 use Rattle.facts.specs.Io.{RequestIo}
 use Rattle.cases.specs.Cases.{Exactly, done, refused, ports, range, ready, grantingIo}

@@ -17,7 +17,7 @@ use Rattle.facts.specs.Checks.{Outcome, Passed}
 use Rattle.facts.specs.Sockets.{socketOf, requestChecks}
 use Rattle.facts.specs.Irq.{RequestIrq, ReleaseIrq, GrantsIrq, ownIrqChecks, levelChecks, irqGrant, mannerAsked, requestIrqLength}
 use Rattle.facts.specs.Io.{RequestIo, ReleaseIo, GrantsIo, BaseTaken, ownIoChecks, baseChecks, ioGrant, portsAt, requestIoLength}
-use Rattle.facts.specs.Io.{baseAsked, countAsked, linesAsked, ioAttributes}
+use Rattle.facts.specs.Io.{countAsked, linesAsked, ioAttributes}
 use Rattle.facts.proofs.Company.{together-symmetric}
 use Rattle.facts.proofs.Joining.{joined-together}
 use Rattle.facts.proofs.Told.{told, both-told, true-told, managed-told}

@@ -57,7 +57,7 @@ pub fn meets(
     count2: usize,
     lines2: usize,
 ) -> bool
-    requires { ⌜ (base < allPorts) × (count ≤ allPorts) × (lines ≤ mostLines) × (base2 ≤ allPorts) × (lines2 ≤ mostLines) × (count2 ≤ allPorts) ⌝ }
+    requires { ⌜ (base < allPorts) × (count ≤ allPorts) × (lines ≤ mostLines) × (base2 < allPorts) × (lines2 ≤ mostLines) × (count2 ≤ allPorts) ⌝ }
     ensures { λ r. ⌜ Says r (Meet (record { base = base; count = count; lines = lines }) (record { base = base2; count = count2; lines = lines2 })) ⌝ }
 {
     if smaller(count, count2) == 0 {

@@ -1,6 +1,6 @@
 -- `answering::reach_of` meets its contract: a gap without a port reaches nowhere.
 -- Assumes nothing.
-use mathlib.Core.Path.{_≡_, ap, sym}
+use mathlib.Core.Path.{ap, sym}
 use Prim.Native.Nat.{ℕ}
 use borrow.Author.Needs.{needs}
 use Rattle.answering.specs.Rows.{reachOf}

@@ -34,7 +34,7 @@ meets-requires c κs =
       one .base-most,
       omega (arith, one .count-most),
       omega (arith, lines-most b _ (start .pre .1 .0), one .lines),
-      omega (arith, other .base-most),
+      other .base-most,
       omega (arith, lines-most b _ (start .pre .1 .1), other .lines),
       omega (arith, other .count-most),
     )
