@@ -60,6 +60,7 @@ static const struct {
     {"a boot list without a record", boot_nothing, 10},
     {"bytes that a boot list writes", boot_bytes, 6},
     {"boot lists of 48 and 49", boot_48, 5000},
+    {"a boot list that ends at every place", boot_every_place, 15000},
     {"a boot list of 33 ranges", boot_33_ranges, 4},
     {"a boot list far too long", boot_far_too_long, 5},
     {"boot lists beside grants", boot_beside_grants, 20},

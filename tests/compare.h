@@ -56,6 +56,7 @@ void boot_tails(void);
 void boot_nothing(void);
 void boot_bytes(void);
 void boot_48(void);
+void boot_every_place(void);
 void boot_33_ranges(void);
 void boot_far_too_long(void);
 void boot_beside_grants(void);

@@ -317,6 +317,59 @@ void boot_48(void)
     longest_list(25, false);
 }
 
+/* The 48 records of put_good, levels and ranges mixed. */
+static void put_mixed(struct boot_list *list, unsigned from, unsigned many)
+{
+    for (unsigned i = 0; i < many; i++)
+        put_good(list, 29 * (from + i) % 48);
+}
+
+/* By docs/LAYOUT.md: of the mixed records those before this place are managed. */
+static void mixed_stay(unsigned place)
+{
+    uint8_t managed[CS_LEVELS] = {0}, ranges = 0;
+    for (unsigned i = 0; i < place; i++)
+        if (29 * i % 48 < CS_LEVELS)
+            managed[29 * i % 48] = 1;
+        else
+            ranges++;
+    table_must_have(2, &ranges, 1);
+    for (unsigned level = 0; level < CS_LEVELS; level++)
+        table_must_have(13 + 2 * level, &managed[level], 1);
+}
+
+/* So many good records, and then nothing, a record broken off, or a refused one
+   with good ones and broken bytes after it, which add nothing. */
+static void ends_at(unsigned place, uint32_t code, unsigned after, size_t tail)
+{
+    struct boot_list list = {.len = 0};
+    put_mixed(&list, 0, place);
+    if (code != CS_SUCCESS && code != CS_BAD_ARG_LENGTH)
+        put_refused(&list, code);
+    put_mixed(&list, place, after);
+    list.len += tail;
+    lend_fresh(3);
+    describe("%u records, code %02X, %u more, %u bytes", place, (unsigned)code, after,
+             (unsigned)tail);
+    must_boot(boot(&list), code, place);
+    mixed_stay(place);
+}
+
+/* A list's bytes may be read some records at a time: every place is one where it
+   ends, breaks off and is refused, whatever number of records that is. */
+void boot_every_place(void)
+{
+    for (unsigned place = 0; place <= CS_BOOT_MOST; place++) {
+        ends_at(place, CS_SUCCESS, 0, 0);
+        for (size_t tail = 1; tail < CS_BOOT_RECORD; tail++)
+            ends_at(place, CS_BAD_ARG_LENGTH, 0, tail);
+        for (unsigned after = 0; after <= 9; after++) {
+            ends_at(place, CS_BAD_ARGS, after, 0);
+            ends_at(place, CS_BAD_SIZE, after, 5);
+        }
+    }
+}
+
 /* 33 ranges and no level: refused at 32. */
 void boot_33_ranges(void)
 {

@@ -1,15 +1,17 @@
--- A record read off the list's bytes, and a place packed with its code. Assumes nothing.
-use mathlib.Core.Path.{_≡_, ap, ap₂, sym, _∙_}
-use mathlib.Core.List.{List}
-use Prim.Native.Nat.{ℕ, _+_, _*_}
-use native.Mathlib.Nat.{add-zero, zero-add, add-assoc}
-use lib.ListN.{drop}
-use lib.Seq.{getD-drop}
+-- Records read off the list's bytes, and a place packed with its code. Assumes nothing.
+use mathlib.Core.Path.{_≡_, refl, ap, ap₂, sym, _∙_}
+use mathlib.Core.List.{List, [], _∷_, _++_}
+use Prim.Native.Nat.{ℕ, zero, suc, _+_, _*_, _≤_, _<_}
+use native.Mathlib.Nat.{add-zero, add-suc, zero-add, add-assoc, suc-mul, add-comm}
+use native.Mathlib.Omega.{arith}
+use lib.ListN.{length, take, drop, set, length-drop}
+use lib.Seq.{getD-drop, drop-drop, take-suc-set}
 use Rattle.facts.specs.declared.Code.{Code}
 use Rattle.facts.specs.declared.Record.{Record}
 use Rattle.facts.specs.Codes.{numberOf}
 use Rattle.facts.specs.Packets.{byte, word, long}
-use Rattle.facts.specs.Boot.{recordOf}
+use Rattle.facts.specs.Boot.{recordSize, recordOf, recordsIn, recordsOf}
+use Rattle.facts.proofs.Boot.{records-more}
 use Rattle.boot.specs.declared.Booted.{Booted}
 use Rattle.boot.specs.declared.Booted.the-variants.{All, Stopped}
 use Rattle.boot.specs.Booting.{placed, placeOf, codeOf}
@@ -34,6 +36,38 @@ module _ (b : List ℕ) (at : ℕ) where
         base = (g ∙ long-past 2) k;
         count = (h ∙ long-past 6) k;
       }
+
+-- past the first record and n more
+past-first : (n : ℕ) (b : List ℕ) → drop (n * recordSize) (drop recordSize b) ≡ drop (suc n * recordSize) b
+past-first n b =
+    drop-drop (n * recordSize) recordSize b ∙ ap (λ (k : ℕ). drop k b) (add-comm recordSize (n * recordSize) ∙ sym (suc-mul n recordSize))
+
+-- the first n records of the bytes, and one more
+records-last : (n : ℕ) (b : List ℕ) → recordsIn (suc n) b ≡ recordsIn n b ++ (recordOf (drop (n * recordSize) b) ∷ [])
+records-last zero b = refl
+records-last (suc n) b =
+    ap {B = List Record} (λ rs. recordOf b ∷ rs)
+    (records-last n (drop recordSize b) ∙ ap (λ (l : List ℕ). recordsIn n (drop recordSize b) ++ (recordOf l ∷ [])) (past-first n b))
+
+-- one more is taken out of the bytes, into its place of the array
+pub taken-more : (b : List ℕ) (at i : ℕ) (all : List Record) (r : Record) → i < length all → r ≡ recordOf (drop (at + i * recordSize) b)
+    → take i all ≡ recordsIn i (drop at b) → take (i + 1) (set all i r) ≡ recordsIn (i + 1) (drop at b)
+taken-more b at i all r l e f =
+    ap (λ (n : ℕ). take n (set all i r)) one ∙ take-suc-set all i r l ∙ ap (λ (rs : List Record). rs ++ (r ∷ [])) f
+    ∙ ap (λ (x : Record). recordsIn i (drop at b) ++ (x ∷ [])) (e ∙ ap recordOf (sym (drop-drop (i * recordSize) at b)))
+    ∙ sym (records-last i (drop at b)) ∙ ap (λ (n : ℕ). recordsIn n (drop at b)) (sym one)
+  where
+    one : i + 1 ≡ suc i
+    one = add-suc i 0 ∙ ap suc (add-zero i)
+
+-- the records of a list's bytes are the next n, and those of the bytes past them
+pub records-past : (n : ℕ) (b : List ℕ) → n * recordSize ≤ length b → recordsOf b ≡ recordsIn n b ++ recordsOf (drop (n * recordSize) b)
+records-past zero b h = refl
+records-past (suc n) b h =
+    records-more b (omega (arith, suc-mul n recordSize, h))
+    ∙ ap {B = List Record} (λ rs. recordOf b ∷ rs)
+    (records-past n (drop recordSize b) (omega (arith, length-drop recordSize b, suc-mul n recordSize, h))
+    ∙ ap (λ (l : List ℕ). recordsIn n (drop recordSize b) ++ recordsOf l) (past-first n b))
 
 -- the number that packs a place and a code
 abbrev packs : Booted → ℕ

@@ -1,3 +1,4 @@
--- The walk along a boot list. Assumes nothing.
-pub mod Walk
+-- The walk along a boot list, over a slice of records and over bytes. Assumes nothing.
 pub mod Bytes
+pub mod Lending
+pub mod Walking

@@ -1,4 +1,5 @@
 -- What the boot list and one record of it come to. Assumes nothing.
+use mathlib.Core.Logic.{_≢_}
 use mathlib.Core.List.{List}
 use Prim.Native.Nat.{ℕ, _+_, _*_, _^_}
 use Rattle.facts.specs.declared.Code.{Code}
@@ -6,12 +7,17 @@ use Rattle.facts.specs.declared.Code.the-variants.{Success}
 use Rattle.facts.specs.declared.Record.{Record}
 use Rattle.facts.specs.Codes.{numberOf}
 use Rattle.facts.specs.Table.{Facts}
-use Rattle.facts.specs.Boot.{Boot, stopped, recordChecks, recordAdded}
+use Rattle.facts.specs.Boot.{BootRecords, BootBytes, stopped, recordChecks, recordAdded}
+use Rattle.facts.specs.Boot as rule
 use Rattle.layout.specs.Served.{Served}
 use Rattle.answers.specs.declared.Change.{Change}
 use Rattle.answers.specs.Changing.{Changes}
 use Rattle.boot.specs.declared.Booted.{Booted}
 use Rattle.boot.specs.declared.Booted.the-variants.{All, Stopped}
+
+-- as many records are taken out of a list's bytes at a time
+abbrev pub atOnce : ℕ
+atOnce = 8
 
 -- one record
 abbrev pub AddsRecord : Record → List ℕ → List ℕ → Change → Type 0
@@ -30,6 +36,19 @@ codeOf (Stopped i k) = k
 abbrev pub placed : Code → ℕ → ℕ
 placed code place = numberOf code + 2 ^ 32 * place
 
--- the list's bytes are served as the rule says
+-- a list is served as its rule says, and ends so
+abbrev pub Ends : (Facts → rule.Booted → Type 0) → List ℕ → List ℕ → Booted → Type 0
+Ends R b b′ r = Served (λ (F G : Facts). R F (stopped (placeOf r) (codeOf r) G)) b b′
+
+-- a list that stopped was refused
+abbrev pub Refuses : Booted → Type 0
+Refuses (All n) = Unit {0}
+Refuses (Stopped i k) = k ≢ Success
+
+-- a slice of records
+abbrev pub BootsRecords : List Record → List ℕ → List ℕ → Booted → Type 0
+BootsRecords rs b b′ r = Ends (λ (F : Facts). BootRecords F rs) b b′ r × Refuses r
+
+-- the list's bytes
 abbrev pub Boots : List ℕ → List ℕ → List ℕ → Booted → Type 0
-Boots records b b′ r = Served (λ (F G : Facts). Boot F records 0 (stopped (placeOf r) (codeOf r) G)) b b′
+Boots records = Ends (λ (F : Facts). BootBytes F records)

@@ -1,4 +1,5 @@
 -- The laws that specs/Laws states hold. Assumes nothing.
+use mathlib.Core.Path.{refl}
 use mathlib.Core.Logic.{inl, inr}
 use Prim.Native.Nat.{ℕ, _≤_}
 use native.Mathlib.Omega.{arith}
@@ -6,14 +7,16 @@ use Rattle.facts.specs.Table
 use Rattle.facts.specs.Table.{Facts}
 use Rattle.facts.specs.WellFormed.{WellFormed}
 use Rattle.facts.specs.Irq.{Count, Sharers}
-use Rattle.facts.specs.Laws.{ServiceLaws, HostLaws}
+use Rattle.facts.specs.Laws.{ServiceLaws, HostLaws, BytesLaws}
 use Rattle.facts.proofs.Unique.{service-unique, card-unique, sharers-unique, boot-unique}
-use Rattle.facts.proofs.Refusals.{no-success, refusal-keeps, card-refusal-keeps, sharers-refusal-zero, boot-leaves, boot-success}
+use Rattle.facts.proofs.Refusals.{no-success, refusal-keeps, card-refusal-keeps, sharers-refusal-zero, boot-leaves, boot-success, boot-within}
 use Rattle.facts.proofs.Sharing.{sharers-most}
 use Rattle.facts.proofs.Formed.{fresh-formed}
 use Rattle.facts.proofs.ClientsStay.{card-stays}
 use Rattle.facts.proofs.ResourcesStay.{boot-stays}
 use Rattle.facts.proofs.Places.{boot-most}
+use Rattle.facts.proofs.Boot.{records-few, records-more, records-counted, records-same, records-before, end-more, end-whole, end-broken}
+use Rattle.facts.proofs.Boot.{whole-end}
 use Rattle.facts.proofs.Stays.{service-stays}
 
 pub service-laws : ServiceLaws
@@ -39,9 +42,22 @@ host-laws =
       one-count = sharers-unique;
       count-refusal = sharers-refusal-zero;
       count-most = count-most;
-      one-boot = λ F b. boot-unique F b 0;
-      boot-leaves = λ F b o r. boot-leaves F b 0 o (o .place) r (omega arith);
-      boot-success = λ F b o r e. omega (arith, boot-success F b 0 o r e);
-      boot-stays = λ F b o w r. boot-stays F b 0 o w r;
+      one-boot = λ e F rs. boot-unique e F rs 0;
+      boot-leaves = λ e F rs o r. boot-leaves e F rs 0 o (o .place) r (omega arith);
+      boot-success = λ e F rs o r s. let t = boot-success e F rs 0 o r s in (t .0, omega (arith, t .1));
+      boot-within = λ e F rs o r. omega (arith, boot-within e F rs 0 o r);
+      boot-stays = λ e F rs. boot-stays e F rs 0;
       boot-most = boot-most;
+    }
+
+pub bytes-laws : BytesLaws
+bytes-laws =
+    record {
+      none = (refl, refl);
+      few = λ b one few. (records-few b few, end-broken b (λ e. omega (arith, e)));
+      more = λ b full. (records-more b full, end-more b full);
+      counted = records-counted;
+      same-list = λ b n e. (records-same b n e, end-whole b (omega (arith, e)));
+      whole = λ b e. omega (arith, whole-end b e, records-counted b);
+      before = records-before;
     }

@@ -14,6 +14,7 @@ pub mod Formed
 pub mod ClientsStay
 pub mod ResourcesStay
 pub mod Places
+pub mod Boot
 pub mod GrantsStay
 pub mod Stays
 pub mod Exactly

@@ -1,7 +1,7 @@
 -- How far a boot list comes: each record that is added is a level or a range more, and a table has no more than so many. Assumes nothing.
 use mathlib.Core.Path.{_≡_, refl, ap, _∙_}
 use mathlib.Core.Logic.{_≢_}
-use mathlib.Core.List.{List}
+use mathlib.Core.List.{List, [], _∷_}
 use mathlib.Core.Bool.{Bool, cond, true, false}
 use Prim.Native.Nat.{ℕ, zero, suc, _+_, _≤_, _<_}
 use native.Mathlib.Nat.{not-suc-le-zero}
@@ -9,6 +9,7 @@ use native.Mathlib.Decide.{decLt, ℕ-discrete}
 use native.Mathlib.Omega.{arith}
 use lib.Dec.{eqb}
 use lib.ListN.{length}
+use Rattle.facts.specs.declared.Code.{Code}
 use Rattle.facts.specs.declared.Record.{Record}
 use Rattle.facts.specs.Table
 use Rattle.facts.specs.Table.{Facts, Level}
@@ -16,7 +17,7 @@ use Rattle.facts.specs.Sets.{put}
 use Rattle.facts.specs.WellFormed.{WellFormed}
 use Rattle.facts.specs.Checks.{Passed}
 use Rattle.facts.specs.Resources.{addLevelChecks, addRangeChecks, levelAdded, rangeAdded, ioRange, reserveBit}
-use Rattle.facts.specs.Boot.{Boot, Booted, done, broken, refused, added, recordOf, recordAdded, recordChecks}
+use Rattle.facts.specs.Boot.{Boot, Booted, ended, refused, added, recordAdded, recordChecks}
 use Rattle.facts.proofs.Sets.{put-same, put-other}
 use Rattle.facts.proofs.Told.{told}
 use Rattle.facts.proofs.ResourcesStay.{inserted-more, boot-stays}
@@ -90,12 +91,12 @@ one-more F r passed = go (eqb (r .resource) ioRange) (passed .1 .1)
               (told (decLt (r .base) Table.allLevels) (λ d. p .1 .0 (omega arith))),
         )
 
-boot-managed : (F : Facts) (b : List ℕ) (i : ℕ) (o : Booted) → Boot F b i o → o .place + managedIn F ≡ i + managedIn (o .facts)
-boot-managed F b i o done = refl
-boot-managed F b i o (broken one few) = refl
-boot-managed F b i o (refused full r) = refl
-boot-managed F b i o (added full passed r) = omega (arith, boot-managed _ _ _ o r, one-more F (recordOf b) passed)
+module _ (e : Code) where
+  boot-managed : (F : Facts) (rs : List Record) (i : ℕ) (o : Booted) → Boot e F rs i o → o .place + managedIn F ≡ i + managedIn (o .facts)
+  boot-managed F [] i o ended = refl
+  boot-managed F (r ∷ rs) i o (refused g) = refl
+  boot-managed F (r ∷ rs) i o (added p b) = omega (arith, boot-managed _ _ _ o b, one-more F r p)
 
-pub boot-most : (F : Facts) (b : List ℕ) (o : Booted) → WellFormed F → Boot F b 0 o → o .place ≤ Table.allLevels + Table.mostRanges
-boot-most F b o w r =
-    omega (arith, boot-managed F b 0 o r, levels-most Table.allLevels (o .facts .level), boot-stays F b 0 o w r .ranges-most)
+  pub boot-most : (F : Facts) (rs : List Record) (o : Booted) → WellFormed F → Boot e F rs 0 o → o .place ≤ Table.allLevels + Table.mostRanges
+  boot-most F rs o w b =
+      omega (arith, boot-managed F rs 0 o b, levels-most Table.allLevels (o .facts .level), boot-stays e F rs 0 o w b .ranges-most)

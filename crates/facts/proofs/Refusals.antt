@@ -1,12 +1,12 @@
 -- The refusal law: a permitted outcome whose code isn't Success answers 0 and keeps the packet and the facts; and no check gives Success. Assumes
 -- nothing.
-use mathlib.Core.Path.{_≡_, refl, ap, sym, _∙_}
+use mathlib.Core.Path.{_≡_, refl, sym, _∙_}
 use mathlib.Core.Logic.{_⊎_, _≢_, _↔_, inl, inr}
 use mathlib.Core.List.{List, [], _∷_}
 use mathlib.Core.Bool.{Bool, true, false, cond}
-use Prim.Native.Nat.{ℕ, zero, suc, _+_, _*_, _≤_}
+use Prim.Native.Nat.{ℕ, zero, suc, _+_, _≤_}
 use native.Mathlib.Omega.{arith}
-use lib.ListN.{length, drop, length-drop}
+use lib.ListN.{length, take}
 use lib.Dec.{T, eqb}
 use Rattle.facts.specs.declared.Code.{Code}
 use Rattle.facts.specs.declared.Code.the-variants.{Success}
@@ -25,7 +25,7 @@ use Rattle.facts.specs.Resources.{adjustChecks, addLevelChecks, removeLe
 use Rattle.facts.specs.Resources.{showRangeChecks}
 use Rattle.facts.specs.Irq.{Sharers, Count, irqRequestChecks, irqReleaseChecks}
 use Rattle.facts.specs.Io.{ioRequestChecks, ioReleaseChecks}
-use Rattle.facts.specs.Boot.{Boot, Booted, done, broken, refused, added, recordSize, recordOf, recordChecks, recordsAdded, recordAdded}
+use Rattle.facts.specs.Boot.{Boot, Booted, ended, refused, added, recordChecks, recordsAdded, recordAdded}
 use Rattle.facts.specs.Services.{Service, registerClient, deregisterClient, adjustResourceInfo, requestIrq, releaseIrq, requestIo, releaseIo}
 use Rattle.facts.specs.Services.{requestSocketMask, releaseSocketMask, ruleOf, Call}
 use Rattle.facts.proofs.Unique.{first-not-passed}
@@ -124,28 +124,31 @@ record-no-success F r = none-succeeds (recordChecks F r) (go (eqb (r .resource) 
     go true = tt
     go false = tt
 
-stays : (F : Facts) (b : List ℕ) (i n : ℕ) → i ≡ i + n → F ≡ recordsAdded n F b
-stays F b i zero e = refl
-stays F b i (suc n) e = absurd (omega arith)
+-- the boot list, whose first record stands in the place i
+module _ (e : Code) where
+  pub boot-place : (F : Facts) (rs : List Record) (i : ℕ) (o : Booted) → Boot e F rs i o → i ≤ o .place
+  boot-place F [] i o ended = omega arith
+  boot-place F (r ∷ rs) i o (refused g) = omega arith
+  boot-place F (r ∷ rs) i o (added p b) = omega (arith, boot-place _ _ _ o b)
 
--- the boot list: "earlier ones stay", and nothing else; its first record stands in the place i
-pub boot-place : (F : Facts) (b : List ℕ) (i : ℕ) (o : Booted) → Boot F b i o → i ≤ o .place
-boot-place F b i o done = omega arith
-boot-place F b i o (broken one few) = omega arith
-boot-place F b i o (refused full r) = omega arith
-boot-place F b i o (added full passed r) = omega (arith, boot-place _ _ _ o r)
+  pub boot-within : (F : Facts) (rs : List Record) (i : ℕ) (o : Booted) → Boot e F rs i o → o .place ≤ i + length rs
+  boot-within F [] i o ended = omega arith
+  boot-within F (r ∷ rs) i o (refused g) = omega arith
+  boot-within F (r ∷ rs) i o (added p b) = omega (arith, boot-within _ _ _ o b)
 
-pub boot-leaves : (F : Facts) (b : List ℕ) (i : ℕ) (o : Booted) (n : ℕ) → Boot F b i o → o .place ≡ i + n → o .facts ≡ recordsAdded n F b
-boot-leaves F b i o n done e = stays F b i n e
-boot-leaves F b i o n (broken one few) e = stays F b i n e
-boot-leaves F b i o n (refused full r) e = stays F b i n e
-boot-leaves F b i o zero (added full passed r) e = absurd (omega (arith, boot-place _ _ _ o r))
-boot-leaves F b i o (suc n) (added full passed r) e = boot-leaves (recordAdded F (recordOf b)) (drop recordSize b) (i + 1) o n r (omega arith)
+  -- "earlier ones stay", and nothing else
+  pub boot-leaves : (F : Facts) (rs : List Record) (i : ℕ) (o : Booted) (n : ℕ) → Boot e F rs i o → o .place ≡ i + n
+      → o .facts ≡ recordsAdded F (take n rs)
+  boot-leaves F [] i o zero ended is = refl
+  boot-leaves F [] i o (suc n) ended is = refl
+  boot-leaves F (r ∷ rs) i o zero (refused g) is = refl
+  boot-leaves F (r ∷ rs) i o (suc n) (refused g) is = absurd (omega arith)
+  boot-leaves F (r ∷ rs) i o zero (added p b) is = absurd (omega (arith, boot-place _ _ _ o b))
+  boot-leaves F (r ∷ rs) i o (suc n) (added p b) is = boot-leaves (recordAdded F r) rs _ o n b (omega arith)
 
--- "Success answers the list's length in records"
-pub boot-success : (F : Facts) (b : List ℕ) (i : ℕ) (o : Booted) → Boot F b i o → o .code ≡ Success
-    → i * recordSize + length b ≡ o .place * recordSize
-boot-success F b i o done e = omega arith
-boot-success F b i o (broken one few) e = absurd (omega (arith, ap numberOf e))
-boot-success F b i o (refused full r) e = absurd (first-not-success (recordChecks F (recordOf b)) _ (record-no-success F (recordOf b)) r e)
-boot-success F b i o (added full passed r) e = omega (arith, boot-success _ _ _ o r e, length-drop recordSize b)
+  -- "Success answers the list's length in records"
+  pub boot-success : (F : Facts) (rs : List Record) (i : ℕ) (o : Booted) → Boot e F rs i o → o .code ≡ Success
+      → (e ≡ Success) × (o .place ≡ i + length rs)
+  boot-success F [] i o ended s = (s, omega arith)
+  boot-success F (r ∷ rs) i o (refused g) s = absurd (first-not-success (recordChecks F r) _ (record-no-success F r) g s)
+  boot-success F (r ∷ rs) i o (added p b) s = let t = boot-success _ _ _ o b s in (t .0, omega (arith, t .1))

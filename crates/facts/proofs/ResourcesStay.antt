@@ -10,6 +10,7 @@ use native.Mathlib.Omega.{arith}
 use lib.Dec.{eqb, ltb}
 use lib.ListN.{length}
 use borrow.Author.Tests.{ltb-true, ltb-false}
+use Rattle.facts.specs.declared.Code.{Code}
 use Rattle.facts.specs.declared.Width.{Width}
 use Rattle.facts.specs.declared.Record.{Record}
 use Rattle.facts.specs.Table
@@ -21,7 +22,7 @@ use Rattle.facts.specs.Checks.{Outcome, Passed}
 use Rattle.facts.specs.Resources.{AdjustResourceInfo, AdjustIrq, AdjustIo, inserted, withoutRange, ioRange}
 use Rattle.facts.specs.Resources.{addLevelChecks, removeLevelChecks, addRangeChecks, removeRangeChecks, levelAdded, levelRemoved, rangeAdded}
 use Rattle.facts.specs.Resources.{rangeRemoved, reserveBit, levelGiven, levelAttributes, baseGiven, countGiven, attributesGiven, linesGiven}
-use Rattle.facts.specs.Boot.{Boot, Booted, done, broken, refused, added, recordOf, recordAdded, recordChecks}
+use Rattle.facts.specs.Boot.{Boot, Booted, ended, refused, added, recordAdded, recordChecks}
 use Rattle.facts.proofs.Sets.{without-in, in-without, without-fewer, apart-without}
 use Rattle.facts.proofs.Unique.{range-unique}
 use Rattle.facts.proofs.Told.{told}
@@ -180,8 +181,8 @@ record-added-formed F r w passed = go (eqb (r .resource) ioRange) (passed .1 .1)
     go true passed = range-added-formed F w (r .base) (r .count) (r .attributes) Table.mostLines passed
     go false passed = level-added-formed F w (r .base) (r .attributes) passed
 
-pub boot-stays : (F : Facts) (b : List ℕ) (i : ℕ) (o : Booted) → WellFormed F → Boot F b i o → WellFormed (o .facts)
-boot-stays F b i o w done = w
-boot-stays F b i o w (broken one few) = w
-boot-stays F b i o w (refused full r) = w
-boot-stays F b i o w (added full passed r) = boot-stays _ _ _ o (record-added-formed F (recordOf b) w passed) r
+module _ (e : Code) where
+  pub boot-stays : (F : Facts) (rs : List Record) (i : ℕ) (o : Booted) → WellFormed F → Boot e F rs i o → WellFormed (o .facts)
+  boot-stays F [] i o w ended = w
+  boot-stays F (r ∷ rs) i o w (refused g) = w
+  boot-stays F (r ∷ rs) i o w (added p b) = boot-stays _ _ _ o (record-added-formed F r w p) b

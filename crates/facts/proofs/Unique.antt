@@ -8,6 +8,7 @@ use Prim.Native.Nat.{ℕ, _+_, _<_}
 use native.Mathlib.Omega.{arith}
 use lib.ListN.{length}
 use Rattle.facts.specs.declared.Code.{Code}
+use Rattle.facts.specs.declared.Record.{Record}
 use Rattle.facts.specs.declared.Width.{Width}
 use Rattle.facts.specs.declared.Width.the-variants.{Short, Wide}
 use Rattle.facts.specs.Table.{Facts, Range}
@@ -30,7 +31,7 @@ use Rattle.facts.specs.Packets.{withWord}
 use Rattle.facts.specs.Irq.{RequestIrq, ReleaseIrq, Sharers, Count, irqRequestChecks, irqReleaseChecks, sharersChecks, irqGrant, assigning}
 use Rattle.facts.specs.Irq.{LevelTaken, withIrq}
 use Rattle.facts.specs.Io.{RequestIo, ReleaseIo, BaseTaken, ioRequestChecks, ioReleaseChecks, ioGrant, withIo}
-use Rattle.facts.specs.Boot.{Boot, Booted, done, broken, refused, added, stopped, recordOf, recordChecks}
+use Rattle.facts.specs.Boot.{Boot, ended, refused, added, stopped, recordChecks}
 use Rattle.facts.specs.Services.{Service, registerClient, deregisterClient, adjustResourceInfo, requestIrq, releaseIrq, requestIo, releaseIo}
 use Rattle.facts.specs.Services.{requestSocketMask, releaseSocketMask, serviceNumber, ruleOf, Call}
 use Rattle.facts.proofs.Sets.{apart-over, found}
@@ -296,20 +297,10 @@ sharers-unique F l =
     same : {o o′ : Count} → o .code ≡ o′ .code → o .count ≡ o′ .count → o ≡ o′
     same e f = λ i. record { code = e i; count = f i }
 
-pub boot-unique : (F : Facts) (b : List ℕ) (i : ℕ) (o o′ : Booted) → Boot F b i o → Boot F b i o′ → o ≡ o′
-boot-unique F b i o o′ done done = refl
-boot-unique F b i o o′ done (broken one few) = absurd (omega arith)
-boot-unique F b i o o′ done (refused full r) = absurd (omega arith)
-boot-unique F b i o o′ done (added full p r) = absurd (omega arith)
-boot-unique F b i o o′ (broken one few) done = absurd (omega arith)
-boot-unique F b i o o′ (broken one few) (broken one′ few′) = refl
-boot-unique F b i o o′ (broken one few) (refused full′ r′) = absurd (omega arith)
-boot-unique F b i o o′ (broken one few) (added full′ p′ r′) = absurd (omega arith)
-boot-unique F b i o o′ (refused full r) done = absurd (omega arith)
-boot-unique F b i o o′ (refused full r) (broken one′ few′) = absurd (omega arith)
-boot-unique F b i o o′ (refused full r) (refused full′ r′) = ap (λ (k : Code). stopped i k F) (first-unique (recordChecks F (recordOf b)) _ _ r r′)
-boot-unique F b i o o′ (refused full r) (added full′ p′ r′) = absurd (first-not-passed (recordChecks F (recordOf b)) _ r p′)
-boot-unique F b i o o′ (added full p r) done = absurd (omega arith)
-boot-unique F b i o o′ (added full p r) (broken one′ few′) = absurd (omega arith)
-boot-unique F b i o o′ (added full p r) (refused full′ r′) = absurd (first-not-passed (recordChecks F (recordOf b)) _ r′ p)
-boot-unique F b i o o′ (added full p r) (added full′ p′ r′) = boot-unique _ _ _ o o′ r r′
+module _ (e : Code) where
+  pub boot-unique : (F : Facts) (rs : List Record) (i : ℕ) → Coincide (Boot e F rs i)
+  boot-unique F [] i o o′ ended ended = refl
+  boot-unique F (r ∷ rs) i o o′ (refused g) (refused g′) = ap (λ (k : Code). stopped i k (o .facts)) (first-unique (recordChecks F r) _ _ g g′)
+  boot-unique F (r ∷ rs) i o o′ (refused g) (added p′ b′) = absurd (first-not-passed (recordChecks F r) _ g p′)
+  boot-unique F (r ∷ rs) i o o′ (added p b) (refused g′) = absurd (first-not-passed (recordChecks F r) _ g′ p)
+  boot-unique F (r ∷ rs) i o o′ (added p b) (added p′ b′) = boot-unique _ _ _ o o′ b b′

@@ -1,7 +1,7 @@
 -- The boot list: "a lent slice of resource records, added in order". Assumes nothing.
 use mathlib.Core.List.{List, [], _∷_}
 use mathlib.Core.Bool.{cond}
-use Prim.Native.Nat.{ℕ, zero, suc, _+_, _≤_, _<_}
+use Prim.Native.Nat.{ℕ, zero, suc, _+_, _/_, _%_}
 use lib.ListN.{length, drop}
 use lib.Dec.{eqb}
 use Rattle.facts.specs.declared.Code.{Code}
@@ -36,10 +36,10 @@ abbrev pub recordAdded : Facts → Record → Facts
 recordAdded F r =
     cond (eqb (r .resource) ioRange) (rangeAdded F (r .base) (r .count) (r .attributes)) (levelAdded F (r .base) (r .attributes))
 
--- the first n records of the bytes, added in order, each to what those before it left
-abbrev pub recordsAdded : ℕ → Facts → List ℕ → Facts
-recordsAdded zero F b = F
-recordsAdded (suc n) F b = recordsAdded n (recordAdded F (recordOf b)) (drop recordSize b)
+-- the records, added in order, each to what those before it left
+abbrev pub recordsAdded : Facts → List Record → Facts
+recordsAdded F [] = F
+recordsAdded F (r ∷ rs) = recordsAdded (recordAdded F r) rs
 
 -- what a boot list answers and leaves
 pub record Booted : Type 0 where
@@ -50,13 +50,24 @@ pub record Booted : Type 0 where
 abbrev pub stopped : ℕ → Code → Facts → Booted
 stopped i k F = record { place = i; code = k; facts = F }
 
--- "it stops at the first refused, answers its place (from 0) and code, and earlier ones stay"; "Success answers the list's length in records; bytes
--- too few for a record at the end are refused at its place with BAD_ARG_LENGTH". Boot F b i o: from the facts F, the bytes b whose first record is
--- the ith give o.
-pub data Boot : Facts → List ℕ → ℕ → Booted → Type 0 where
-  done : {F : Facts} {i : ℕ} → Boot F [] i (stopped i Success F)
-  broken : {F : Facts} {b : List ℕ} {i : ℕ} → 1 ≤ length b → length b < recordSize → Boot F b i (stopped i BadArgLength F)
-  refused : {F : Facts} {b : List ℕ} {i : ℕ} {k : Code} → recordSize ≤ length b → FirstGiven (recordChecks F (recordOf b)) k
-      → Boot F b i (stopped i k F)
-  added : {F : Facts} {b : List ℕ} {i : ℕ} {o : Booted} → recordSize ≤ length b → Passed (recordChecks F (recordOf b))
-      → Boot (recordAdded F (recordOf b)) (drop recordSize b) (i + 1) o → Boot F b i o
+-- "it stops at the first refused, answers its place (from 0) and code, and earlier ones stay". Boot e F rs i o: from the facts F, the records rs, of
+-- which the first is the ith, give o; where they end, the code e is given.
+pub data Boot (e : Code) : Facts → List Record → ℕ → Booted → Type 0 where
+  ended : {F : Facts} {i : ℕ} → Boot e F [] i (stopped i e F)
+  refused : {F : Facts} {r : Record} {rs : List Record} {i : ℕ} {k : Code} → FirstGiven (recordChecks F r) k → Boot e F (r ∷ rs) i (stopped i k F)
+  added : {F : Facts} {r : Record} {rs : List Record} {i : ℕ} {o : Booted} → Passed (recordChecks F r) → Boot e (recordAdded F r) rs (i + 1) o
+      → Boot e F (r ∷ rs) i o
+
+-- the list is lent as a slice of records: "Success answers the list's length in records"
+abbrev pub BootRecords : Facts → List Record → Booted → Type 0
+BootRecords F rs = Boot Success F rs 0
+
+-- or as their bytes: "bytes too few for a record at the end are refused at its place with BAD_ARG_LENGTH"
+abbrev pub recordsOf : List ℕ → List Record
+recordsOf b = recordsIn (length b / recordSize) b
+
+abbrev pub endOf : List ℕ → Code
+endOf b = cond (eqb (length b % recordSize) 0) Success BadArgLength
+
+abbrev pub BootBytes : Facts → List ℕ → Booted → Type 0
+BootBytes F b = Boot (endOf b) F (recordsOf b) 0

@@ -3,9 +3,11 @@ use mathlib.Core.Path.{_≡_}
 use mathlib.Core.Logic.{_⊎_, _≢_, _↔_}
 use mathlib.Core.List.{List, [], _∷_, _++_}
 use mathlib.Core.Bool.{Bool}
-use Prim.Native.Nat.{ℕ, _+_, _*_, _≤_}
-use lib.ListN.{length}
-use Rattle.facts.specs.declared.Code.the-variants.{Success, BadBase, BadIrq, InUse}
+use Prim.Native.Nat.{ℕ, _+_, _*_, _/_, _≤_, _<_}
+use lib.ListN.{length, take, drop}
+use Rattle.facts.specs.declared.Code.{Code}
+use Rattle.facts.specs.declared.Code.the-variants.{Success, BadBase, BadIrq, BadArgLength, InUse}
+use Rattle.facts.specs.declared.Record.{Record}
 use Rattle.facts.specs.declared.Width.{Width}
 use Rattle.facts.specs.Table
 use Rattle.facts.specs.Table.{Facts, fresh}
@@ -18,7 +20,7 @@ use Rattle.facts.specs.Resources.{adjustChecks, addLevelChecks, removeLe
 use Rattle.facts.specs.Resources.{showRangeChecks}
 use Rattle.facts.specs.Irq.{Count, Sharers, RequestIrq, Fits, NoLevelFits, LevelTaken, irqAheadChecks, irqRequestChecks, irqReleaseChecks, sharersChecks}
 use Rattle.facts.specs.Io.{RequestIo, NotAllManaged, InTheWay, NoCandidate, baseAsked, ioAheadChecks, ioRequestChecks, ioReleaseChecks}
-use Rattle.facts.specs.Boot.{Booted, Boot, recordSize, recordsAdded}
+use Rattle.facts.specs.Boot.{Booted, Boot, recordSize, recordOf, recordsIn, recordsOf, endOf, recordsAdded}
 use Rattle.facts.specs.Services.{Service, ruleOf}
 
 -- "any two permitted outcomes coincide"
@@ -62,14 +64,35 @@ pub record HostLaws : Type 0 where
   -- "a refusal's count is 0"; "never over 8"
   pub count-refusal : (F : Facts) (l : ℕ) (o : Count) → Sharers F l o → o .code ≢ Success → o .count ≡ 0
   pub count-most : (F : Facts) (l : ℕ) (o : Count) → WellFormed F → Sharers F l o → o .count ≤ Table.mostSockets
-  pub one-boot : (F : Facts) (b : List ℕ) → Coincide (Boot F b 0)
+  -- the boot list, whichever way it is lent: e is the code given where its records end
+  pub one-boot : (e : Code) (F : Facts) (rs : List Record) → Coincide (Boot e F rs 0)
   -- "earlier ones stay": what is left are the records before the place answered, added in order, and nothing else
-  pub boot-leaves : (F : Facts) (b : List ℕ) (o : Booted) → Boot F b 0 o → o .facts ≡ recordsAdded (o .place) F b
+  pub boot-leaves : (e : Code) (F : Facts) (rs : List Record) (o : Booted) → Boot e F rs 0 o → o .facts ≡ recordsAdded F (take (o .place) rs)
   -- "Success answers the list's length in records"
-  pub boot-success : (F : Facts) (b : List ℕ) (o : Booted) → Boot F b 0 o → o .code ≡ Success → length b ≡ o .place * recordSize
-  pub boot-stays : (F : Facts) (b : List ℕ) (o : Booted) → WellFormed F → Boot F b 0 o → WellFormed (o .facts)
+  pub boot-success : (e : Code) (F : Facts) (rs : List Record) (o : Booted) → Boot e F rs 0 o → o .code ≡ Success
+      → (e ≡ Success) × (o .place ≡ length rs)
+  pub boot-within : (e : Code) (F : Facts) (rs : List Record) (o : Booted) → Boot e F rs 0 o → o .place ≤ length rs
+  pub boot-stays : (e : Code) (F : Facts) (rs : List Record) (o : Booted) → WellFormed F → Boot e F rs 0 o → WellFormed (o .facts)
   -- no more than all levels and ranges can be added, so no place is past that
-  pub boot-most : (F : Facts) (b : List ℕ) (o : Booted) → WellFormed F → Boot F b 0 o → o .place ≤ Table.allLevels + Table.mostRanges
+  pub boot-most : (e : Code) (F : Facts) (rs : List Record) (o : Booted) → WellFormed F → Boot e F rs 0 o
+      → o .place ≤ Table.allLevels + Table.mostRanges
+
+-- of the bytes of a boot list: which records they are, and the code at their end
+pub record BytesLaws : Type 0 where
+  -- no bytes are no record
+  pub none : (recordsOf [] ≡ []) × (endOf [] ≡ Success)
+  -- "bytes too few for a record at the end are refused at its place with BAD_ARG_LENGTH"
+  pub few : (b : List ℕ) → 1 ≤ length b → length b < recordSize → (recordsOf b ≡ []) × (endOf b ≡ BadArgLength)
+  -- where there are enough, the record at their head comes first, and what follows it is a list again
+  pub more : (b : List ℕ) → recordSize ≤ length b
+      → (recordsOf b ≡ recordOf b ∷ recordsOf (drop recordSize b)) × (endOf b ≡ endOf (drop recordSize b))
+  -- as many records as the bytes have room for
+  pub counted : (b : List ℕ) → length (recordsOf b) ≡ length b / recordSize
+  -- bytes that are whole records are that list, and only those end with SUCCESS
+  pub same-list : (b : List ℕ) (n : ℕ) → length b ≡ n * recordSize → (recordsOf b ≡ recordsIn n b) × (endOf b ≡ Success)
+  pub whole : (b : List ℕ) → endOf b ≡ Success → length b ≡ length (recordsOf b) * recordSize
+  -- the records before a place are the first ones of the bytes
+  pub before : (b : List ℕ) (n : ℕ) → n * recordSize ≤ length b → take n (recordsOf b) ≡ recordsIn n b
 
 -- demand 2: "Where the earlier checks pass, an I/O or IRQ request is refused exactly when no resource fits."
 pub record ExactlyWhen : Type 0 where

@@ -14,7 +14,7 @@ use Rattle.facts.specs.Checks.{Outcome}
 use Rattle.facts.specs.Services.{Call}
 use Rattle.facts.specs.Sockets.{CardTo}
 use Rattle.facts.specs.Irq.{Sharers}
-use Rattle.facts.specs.Boot.{Boot, stopped}
+use Rattle.facts.specs.Boot.{BootBytes, stopped, recordsOf, endOf}
 use Rattle.facts.proofs.Codes.{code-byte, code-injective}
 use Rattle.facts.proofs.Laws.{service-laws, host-laws}
 use Rattle.layout.specs.Layout.{image}
@@ -83,7 +83,7 @@ abbrev pub Rules : Event → Facts → Facts → Type 0
 Rules (call n h p k a q) F G = Call n F h p (record { code = k; handle = a; packet = q; facts = G })
 Rules (cardIn s k) F G = CardTo true F s (record { code = k; facts = G })
 Rules (cardOut s k) F G = CardTo false F s (record { code = k; facts = G })
-Rules (boot r k i) F G = Boot F r 0 (stopped i k G)
+Rules (boot r k i) F G = BootBytes F r (stopped i k G)
 Rules (sharers l k c) F G = Sharers F l (record { code = k; count = c }) × (G ≡ F)
 
 -- the event e takes an accepted table to another, as its rule takes the facts of the one to those of the other
@@ -118,7 +118,7 @@ module _ {b b′ : List ℕ} (a : Accepted b) where
   stepped (cardOut s k) x =
       ⊎-elim (served (cardOut s k) (λ F G w. host-laws .card-stays false F s _ w)) (λ u. absurd (u .unformed a)) (carded false s k x)
   stepped (boot r k i) x =
-      ⊎-elim (served (boot r k i) (λ F G w. host-laws .boot-stays F r _ w)) (λ u. absurd (u .0 .unformed a)) (booted r k i x)
+      ⊎-elim (served (boot r k i) (λ F G w. host-laws .boot-stays (endOf r) F (recordsOf r) _ w)) (λ u. absurd (u .0 .unformed a)) (booted r k i x)
   stepped (sharers l k c) x =
       ⊎-elim
       (λ s. record {

@@ -80,14 +80,14 @@ adjust-range F w k a low high n t f =
 boot-level : RefusesLevels boot-list
 boot-level F w k a l t f =
     boots w (2 ∷ a ∷ l ∷ replicate 7 0) 0 k F
-    (Boot.refused (omega arith)
+    (Boot.refused
     ((omega arith nor omega arith nor omega arith) past (omega arith) past
     subst (λ (x : ℕ). FirstGiven (addLevelChecks F x a) k) (omega arith) f))
 
 boot-range : RefusesRanges boot-list
 boot-range F w k a low high n t f =
     boots w (rangeRecord a low high n) 0 k F
-    (Boot.refused (omega arith) ((omega arith nor omega arith nor omega arith) past (omega arith) past f))
+    (Boot.refused ((omega arith nor omega arith nor omega arith) past (omega arith) past f))
 
 -- what Add's rules refuse
 adds : (x : Asked) → RefusesLevels x → RefusesRanges x → {R : Type 0} → R
@@ -239,11 +239,11 @@ examples card-in = card-examples true
 examples card-out = card-examples false
 examples boot-list =
     ([], [], [], 0, record { code = GeneralFailure; place = 0; packs = refl; permitted = inr (no-table, refl) })
-    then boots two-sockets (0 ∷ []) 0 BadArgLength (fresh 2) (Boot.broken (omega arith) (omega arith))
-    then boots two-sockets (replicate 10 0) 0 UnsupportedService (fresh 2) (Boot.refused (omega arith) (here (inl refl)))
+    then boots two-sockets (0 ∷ []) 0 BadArgLength (fresh 2) Boot.ended
+    then boots two-sockets (replicate 10 0) 0 UnsupportedService (fresh 2) (Boot.refused (here (inl refl)))
     then boots two-sockets (5 ∷ replicate 9 0) 0 BadArgs (fresh 2)
-    (Boot.refused (omega arith) ((omega arith nor omega arith nor omega arith) past here (omega arith)))
-    then adds boot-list boot-level boot-range (boots two-sockets [] 0 Success (fresh 2) Boot.done then tt)
+    (Boot.refused ((omega arith nor omega arith nor omega arith) past here (omega arith)))
+    then adds boot-list boot-level boot-range (boots two-sockets [] 0 Success (fresh 2) Boot.ended then tt)
 examples sharers-of =
     (0, 0, [], [], (record { code = GeneralFailure; count = 0; packs = refl; permitted = inr (no-table, refl) }, refl))
     then sharers-gives 16 BadIrq (inl (here (omega arith), refl))

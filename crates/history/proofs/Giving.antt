@@ -17,7 +17,7 @@ use Rattle.facts.specs.Packets.{Bytes}
 use Rattle.facts.specs.Checks.{Outcome, Passed, Kept}
 use Rattle.facts.specs.Resources.{adjustChecks}
 use Rattle.facts.specs.Services.{Service, serviceNumber, ruleOf, Call}
-use Rattle.facts.specs.Boot.{Boot, stopped}
+use Rattle.facts.specs.Boot.{BootBytes, stopped}
 use Rattle.facts.proofs.Laws.{service-laws}
 use Rattle.layout.specs.Layout.{image}
 use Rattle.layout.specs.Sound.{Accepted}
@@ -85,7 +85,7 @@ module _ {F : Facts} (w : WellFormed F) where
   pub refuses : (v : Service) (h : ℕ) (p : List ℕ) (k : Code) → T (allBytes p) → ruleOf v F h p (refused k p F) → CanGive Ours (service v) k
   refuses v h p k = gives v h p (refused k p F)
 
-  pub boots : (b : List ℕ) (i : ℕ) (k : Code) (G : Facts) → Boot F b 0 (stopped i k G) → CanGive Ours boot-list k
+  pub boots : (b : List ℕ) (i : ℕ) (k : Code) (G : Facts) → BootBytes F b (stopped i k G) → CanGive Ours boot-list k
   boots b i k G r = (b, _, _, i, record { code = k; place = i; packs = refl; permitted = inl (serving G r) })
 
   -- what a rule leaves is well formed, too

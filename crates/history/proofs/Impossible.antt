@@ -3,10 +3,11 @@ use mathlib.Core.Path.{_≡_, refl, sym, subst}
 use mathlib.Core.Logic.{inl, inr, ⊎-elim}
 use mathlib.Core.List.{List, [], _∷_}
 use mathlib.Core.Bool.{Bool, true, false, cond}
-use Prim.Native.Nat.{ℕ}
+use Prim.Native.Nat.{ℕ, _%_}
+use lib.ListN.{length}
 use lib.Dec.{T, eqb}
 use Rattle.facts.specs.declared.Code.{Code}
-use Rattle.facts.specs.declared.Code.the-variants.{Success, GeneralFailure}
+use Rattle.facts.specs.declared.Code.the-variants.{Success, GeneralFailure, BadArgLength}
 use Rattle.facts.specs.declared.Record.{Record}
 use Rattle.facts.specs.declared.Width.{Width}
 use Rattle.facts.specs.Codes.{numberOf}
@@ -21,7 +22,7 @@ use Rattle.facts.specs.Resources.{attributesGiven, linesGiven, adjustChecks, ad
 use Rattle.facts.specs.Resources.{removeRangeChecks, showRangeChecks}
 use Rattle.facts.specs.Irq.{irqRequestChecks, irqReleaseChecks, sharersChecks}
 use Rattle.facts.specs.Io.{ioRequestChecks, ioReleaseChecks}
-use Rattle.facts.specs.Boot.{Boot, Booted, done, broken, refused, added, recordOf, recordChecks}
+use Rattle.facts.specs.Boot.{Boot, Booted, ended, refused, added, recordSize, recordsOf, endOf, recordChecks}
 use Rattle.facts.specs.Services.{Service, registerClient, deregisterClient, adjustResourceInfo, requestIrq, releaseIrq, requestIo, releaseIo}
 use Rattle.facts.specs.Services.{requestSocketMask, releaseSocketMask, ruleOf, serviceNumber, Call}
 use Rattle.facts.proofs.Codes.{code-injective}
@@ -112,11 +113,18 @@ record-listed F r = go (eqb (r .resource) ioRange)
     go true = tt
     go false = tt
 
-boot-listed : (F : Facts) (b : List ℕ) (i : ℕ) (o : Booted) → Boot F b i o → o .code ∈ codesOf boot-list
-boot-listed F b i o done = code-listed (codesOf boot-list) (o .code) tt
-boot-listed F b i o (broken one few) = code-listed (codesOf boot-list) (o .code) tt
-boot-listed F b i o (refused full r) = first-listed (codesOf boot-list) (o .code) (recordChecks F (recordOf b)) (record-listed F (recordOf b)) r
-boot-listed F b i o (added full passed r) = boot-listed _ _ _ o r
+end-listed : (b : List ℕ) → endOf b ∈ codesOf boot-list
+end-listed b = go (eqb (length b % recordSize) 0)
+  where
+    go : (none : Bool) → cond none Success BadArgLength ∈ codesOf boot-list
+    go true = code-listed (codesOf boot-list) Success tt
+    go false = code-listed (codesOf boot-list) BadArgLength tt
+
+module _ (e : Code) (listed : e ∈ codesOf boot-list) where
+  boot-listed : (F : Facts) (rs : List Record) (i : ℕ) (o : Booted) → Boot e F rs i o → o .code ∈ codesOf boot-list
+  boot-listed F [] i o ended = listed
+  boot-listed F (r ∷ rs) i o (refused g) = first-listed (codesOf boot-list) (o .code) (recordChecks F r) (record-listed F r) g
+  boot-listed F (r ∷ rs) i o (added p b) = boot-listed _ _ _ o b
 
 -- a table that isn't accepted
 general-listed : (v : Service) → GeneralFailure ∈ codesOf (service v)
@@ -141,7 +149,7 @@ none-else card-in k (s, b, b′, y) =
 none-else card-out k (s, b, b′, y) =
     ⊎-elim (λ x. decided-listed (codesOf card-out) k (cardChecks (x .accepted .facts) s) tt (x .rule)) (λ u. inl (u .code-is)) (carded false s k y)
 none-else boot-list k (r, b, b′, i, y) =
-    ⊎-elim (λ x. boot-listed _ r 0 _ (x .rule)) (λ u. inl (u .0 .code-is)) (booted r k i y)
+    ⊎-elim (λ x. boot-listed (endOf r) (end-listed r) (x .accepted .facts) (recordsOf r) 0 _ (x .rule)) (λ u. inl (u .0 .code-is)) (booted r k i y)
 none-else sharers-of k (l, c, b, b′, y) =
     ⊎-elim (λ x. decided-listed (codesOf sharers-of) k (sharersChecks l) tt (x .1)) (λ u. inl (u .0 .code-is)) (counted l k c (y .0))
 none-else fresh-table k (n, b, b′, y) =

@@ -1,14 +1,15 @@
 -- How managed levels and ranges turn: Add and Remove, and the records of a boot list. Assumes nothing.
 use mathlib.Core.Path.{_≡_, refl, ap, sym, _∙_, subst}
 use mathlib.Core.Logic.{_⊎_, inl, inr, ⊎-elim, _≢_}
-use mathlib.Core.List.{List}
+use mathlib.Core.List.{List, [], _∷_}
 use mathlib.Core.Bool.{Bool, cond, true, false, false≢true}
 use Prim.Native.Nat.{ℕ, zero, suc, _+_, _≤_}
 use native.Mathlib.Decide.{ℕ-discrete, decLe}
 use native.Mathlib.Omega.{arith}
-use lib.ListN.{drop}
+use lib.ListN.{take}
 use lib.Dec.{eqb}
 use borrow.Author.Tests.{eqb-true, eqb-false}
+use Rattle.facts.specs.declared.Code.{Code}
 use Rattle.facts.specs.declared.Record.{Record}
 use Rattle.facts.specs.Table
 use Rattle.facts.specs.Table.{Facts, Level, Range}
@@ -17,12 +18,13 @@ use Rattle.facts.specs.WellFormed.{WellFormed}
 use Rattle.facts.specs.Checks.{Passed}
 use Rattle.facts.specs.Resources.{withoutRange, levelAdded, levelRemoved, rangeAdded, rangeRemoved, reserves, ioRange, irqLevel, NotBuilt}
 use Rattle.facts.specs.Resources.{addLevelChecks, addRangeChecks, removeRangeChecks}
-use Rattle.facts.specs.Boot.{Boot, Booted, done, broken, refused, added, recordSize, recordOf, recordsIn, recordChecks, recordAdded}
+use Rattle.facts.specs.Boot.{Boot, BootBytes, Booted, ended, refused, added, recordsIn, recordsOf, endOf, recordChecks, recordAdded}
 use Rattle.facts.proofs.Sets.{put-same, in-without, without-in, apart-left-out}
 use Rattle.facts.proofs.Told.{told}
 use Rattle.facts.proofs.Unique.{range-unique}
 use Rattle.facts.proofs.Resources.{three-or-four}
 use Rattle.facts.proofs.Refusals.{boot-place}
+use Rattle.facts.proofs.Boot.{boot-before}
 use Rattle.facts.proofs.ResourcesStay.{inserted-in, in-inserted, new-inserted}
 use Rattle.history.specs.Stands.{Fact, level, range, Recorded, level-recorded, range-recorded}
 use Rattle.history.specs.Tables.{Tells}
@@ -122,25 +124,23 @@ record-turns F r passed =
         level-added-turns F _ (Recorded r) (λ f b. b) (r .base) (r .attributes) passed (level-recorded (is-level (not refl)))
         (recorded-only (λ (f : Fact). f ≡ level (r .base) (reserves (r .attributes))) (λ e. refl) (λ e. absurd (not refl e)))
 
--- the first n records of a boot list
-abbrev pub RecordsMake : ℕ → List ℕ → Fact → Type 0
-RecordsMake n b f = (r : Record) × (r ∈ recordsIn n b) × Recorded r f
+-- records of a boot list
+abbrev pub RecordsMake : List Record → Fact → Type 0
+RecordsMake rs f = (r : Record) × (r ∈ rs) × Recorded r f
 
-none-turns : (F : Facts) (b : List ℕ) (i n : ℕ) → i ≡ i + n → Turns (λ (f : Fact). ⊥) (RecordsMake n b) 0 F F
-none-turns F b i zero e = unturned F (λ f b. b) (λ f m. m .1)
-none-turns F b i (suc n) e = absurd (omega arith)
+none-turns : (F : Facts) → Turns (λ (f : Fact). ⊥) (RecordsMake []) 0 F F
+none-turns F = unturned F (λ f b. b) (λ f m. m .1)
 
 -- one record, and then others
-more-turns : {F G H : Facts} (b : List ℕ) (n : ℕ) → Turns (λ (f : Fact). ⊥) (Recorded (recordOf b)) 0 F G
-    → Turns (λ (f : Fact). ⊥) (RecordsMake n (drop recordSize b)) 0 G H → Turns (λ (f : Fact). ⊥) (RecordsMake (suc n) b) 0 F H
-more-turns {F} {G} {H} b n t u =
+more-turns : {F G H : Facts} (r : Record) (rs : List Record) → Turns (λ (f : Fact). ⊥) (Recorded r) 0 F G
+    → Turns (λ (f : Fact). ⊥) (RecordsMake rs) 0 G H → Turns (λ (f : Fact). ⊥) (RecordsMake (r ∷ rs)) 0 F H
+more-turns {F} {G} {H} r rs t u =
     record {
-      made = λ f m. ⊎-elim (λ e. stays f (t .made f (subst (λ (r : Record). Recorded r f) e (m .2)))) (λ i. u .made f (m .0, i, m .2)) (m .1);
+      made = λ f m. ⊎-elim (λ e. stays f (t .made f (subst (λ (x : Record). Recorded x f) e (m .2)))) (λ i. u .made f (m .0, i, m .2)) (m .1);
       gone = λ f b _. b;
       each = λ f. (
         (λ x. inr (stays f (⊎-elim absurd (λ y. y) (t .each f .0 x)))),
-        (λ x. ⊎-elim (λ m. inl (m .0, inr (m .1), m .2))
-            (λ y. ⊎-elim (λ m. inl (recordOf b, inl refl, m)) inr (t .each f .1 y)) (u .each f .1 x)),
+        (λ x. ⊎-elim (λ m. inl (m .0, inr (m .1), m .2)) (λ y. ⊎-elim (λ m. inl (r, inl refl, m)) inr (t .each f .1 y)) (u .each f .1 x)),
       );
       issued = omega (arith, t .issued, u .issued);
       sockets = u .sockets ∙ t .sockets;
@@ -149,11 +149,20 @@ more-turns {F} {G} {H} b n t u =
     stays : (f : Fact) → Tells G f → Tells H f
     stays f x = ⊎-elim absurd (λ y. y) (u .each f .0 x)
 
-pub boot-turns : (F : Facts) (b : List ℕ) (i : ℕ) (o : Booted) (n : ℕ) → Boot F b i o → o .place ≡ i + n
-    → Turns (λ (f : Fact). ⊥) (RecordsMake n b) 0 F (o .facts)
-boot-turns F b i o n done e = none-turns F b i n e
-boot-turns F b i o n (broken one few) e = none-turns F b i n e
-boot-turns F b i o n (refused full r) e = none-turns F b i n e
-boot-turns F b i o zero (added full passed r) e = absurd (omega (arith, boot-place _ _ _ o r))
-boot-turns F b i o (suc n) (added full passed r) e =
-    more-turns b n (record-turns F (recordOf b) passed) (boot-turns (recordAdded F (recordOf b)) (drop recordSize b) (i + 1) o n r (omega arith))
+module _ (e : Code) where
+  pub boot-turns : (F : Facts) (rs : List Record) (i : ℕ) (o : Booted) (n : ℕ) → Boot e F rs i o → o .place ≡ i + n
+      → Turns (λ (f : Fact). ⊥) (RecordsMake (take n rs)) 0 F (o .facts)
+  boot-turns F [] i o zero ended is = none-turns F
+  boot-turns F [] i o (suc n) ended is = none-turns F
+  boot-turns F (r ∷ rs) i o zero (refused g) is = none-turns F
+  boot-turns F (r ∷ rs) i o (suc n) (refused g) is = absurd (omega arith)
+  boot-turns F (r ∷ rs) i o zero (added p b) is = absurd (omega (arith, boot-place e _ _ _ o b))
+  boot-turns F (r ∷ rs) i o (suc n) (added p b) is =
+      more-turns r (take n rs) (record-turns F r p) (boot-turns (recordAdded F r) rs _ o n b (omega arith))
+
+-- lent as bytes
+pub bytes-turns : (F : Facts) (b : List ℕ) (o : Booted) → BootBytes F b o
+    → Turns (λ (f : Fact). ⊥) (RecordsMake (recordsIn (o .place) b)) 0 F (o .facts)
+bytes-turns F b o r =
+    subst (λ (rs : List Record). Turns (λ (f : Fact). ⊥) (RecordsMake rs) 0 F (o .facts)) (boot-before b F o r)
+    (boot-turns (endOf b) F (recordsOf b) 0 o (o .place) r (omega arith))

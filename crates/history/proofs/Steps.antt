@@ -37,7 +37,7 @@ use Rattle.history.proofs.Turns.{Turns, unturned, turns-as}
 use Rattle.history.proofs.Inverse.{adjusted-only, adjusted-back-only}
 use Rattle.history.proofs.Grants.{card-turns, request-io-turns, release-io-turns, request-irq-turns, release-irq-turns}
 use Rattle.history.proofs.Clients.{register-turns, deregister-turns, request-mask-turns, release-mask-turns}
-use Rattle.history.proofs.Resources.{level-added-turns, level-removed-turns, range-added-turns, range-removed-turns, boot-turns}
+use Rattle.history.proofs.Resources.{level-added-turns, level-removed-turns, range-added-turns, range-removed-turns, bytes-turns}
 
 -- a packet's length has one width
 width-one : (x y : Width) → ioAdjustLength x ≡ ioAdjustLength y → x ≡ y
@@ -210,5 +210,5 @@ pub event-turns : (e : Event) (F G : Facts) → WellFormed F → Rules e F G →
 event-turns (call n h p k a q) F G w r = call-turns n h p k a q F G w r
 event-turns (cardIn s k) F G w r = card-in-turns s k F G r
 event-turns (cardOut s k) F G w r = card-out-turns s k F G r
-event-turns (boot b k i) F G w r = boot-turns F b 0 _ i r (omega arith)
+event-turns (boot b k i) F G w r = bytes-turns F b _ r
 event-turns (sharers l k c) F G w r = subst (EventTurns (sharers l k c) F) (sym (r .1)) (unturned F (λ f b. b) (λ f m. m))

@@ -17,6 +17,7 @@ use Rattle.layout.specs.Served.{ServedBy, TableRefused}
 use Rattle.answers.specs.declared.Answer.{Answer}
 use Rattle.answers.specs.Answers.{packed, codeOf, handleOf}
 use Rattle.answers.proofs.Serve.{kept, stays}
+use Rattle.facts.specs.Boot.{recordsOf, endOf}
 use Rattle.boot.specs.declared.Booted.{Booted}
 use Rattle.boot.specs.Booting.{placed, placeOf, Boots}
 use Rattle.boot.specs.Booting as boot
@@ -105,4 +106,4 @@ boots records b b′ x r s e = record { code = boot.codeOf x; place = placeOf x;
 
 -- its place is low
 pub low-place : (records b b′ : List ℕ) (x : Booted) → Boots records b b′ x → placeOf x ≤ Table.allLevels + Table.mostRanges
-low-place records b b′ x s = host-laws .boot-most (s .accepted .facts) records _ (s .accepted .formed) (s .rule)
+low-place records b b′ x s = host-laws .boot-most (endOf records) (s .accepted .facts) (recordsOf records) _ (s .accepted .formed) (s .rule)

@@ -3,8 +3,9 @@ use mathlib.Core.Path.{_≡_, refl, ap, ap₂, sym, _∙_, subst}
 use mathlib.Core.Logic.{inl, inr, ⊎-elim, _≢_}
 use mathlib.Core.List.{List}
 use mathlib.Core.Bool.{Bool}
-use Prim.Native.Nat.{ℕ}
+use Prim.Native.Nat.{ℕ, _*_}
 use native.Mathlib.Omega.{arith}
+use lib.ListN.{length}
 use Rattle.facts.specs.declared.Code.{Code}
 use Rattle.facts.specs.declared.Code.the-variants.{Success}
 use Rattle.facts.specs.Codes.{numberOf}
@@ -14,13 +15,14 @@ use Rattle.facts.specs.Packets.{Bytes}
 use Rattle.facts.specs.Checks.{Outcome}
 use Rattle.facts.specs.Irq.{Count, Sharers}
 use Rattle.facts.specs.Sockets.{CardOutcome, CardTo}
-use Rattle.facts.specs.Boot.{Booted, Boot, stopped, recordsAdded}
+use Rattle.facts.specs.Boot.{Booted, BootBytes, stopped, recordSize, recordsIn, recordsOf, endOf, recordsAdded}
 use Rattle.facts.specs.Services.{Call}
 use Rattle.facts.specs.Laws.{Coincide}
 use Rattle.facts.proofs.Codes.{code-byte}
 use Rattle.facts.proofs.Unique.{call-unique}
 use Rattle.facts.proofs.Refusals.{call-refusal-keeps}
-use Rattle.facts.proofs.Laws.{service-laws, host-laws}
+use Rattle.facts.proofs.Boot.{boot-before}
+use Rattle.facts.proofs.Laws.{service-laws, host-laws, bytes-laws}
 use Rattle.layout.specs.Layout.{image}
 use Rattle.layout.specs.Sound.{Accepted}
 use Rattle.layout.specs.Served.{Served, TableRefused}
@@ -204,7 +206,9 @@ module _ (records b : List ℕ) where
     where
       go : BootPermitted records b b₁ (x .code) (x .place) → BootPermitted records b b₂ (y .code) (y .place) → (r₁ ≡ r₂) × (b₁ ≡ b₂)
       go (inl s) (inl t) =
-          let e = one-served (λ (o : Booted). o .facts) (λ (F : Facts). Boot F records 0) (λ F w. host-laws .one-boot F records) b b₁ b₂
+          let e =
+          one-served (λ (o : Booted). o .facts) (λ (F : Facts). BootBytes F records)
+          (λ F w. host-laws .one-boot (endOf records) F (recordsOf records)) b b₁ b₂
           (stopped (x .place) (x .code)) (stopped (y .place) (y .code)) (λ G. refl) (λ G. refl) s t in
           (x .packs ∙ ap (λ (o : Booted). placed (o .code) (o .place)) (e .0) ∙ sym (y .packs), e .1)
       go (inl s) (inr u) = absurd (u .0 .unformed (s .accepted))
@@ -213,24 +217,33 @@ module _ (records b : List ℕ) where
           let e = one-unformed (u .0) (v .0) in
           (x .packs ∙ ap₂ placed (e .0) (u .1 ∙ sym (v .1)) ∙ sym (y .packs), e .1)
 
+  boot-leaves : (F : Facts) (o : Booted) → BootBytes F records o → o .facts ≡ recordsAdded F (recordsIn (o .place) records)
+  boot-leaves F o r = host-laws .boot-leaves (endOf records) F (recordsOf records) o r ∙ ap (recordsAdded F) (boot-before records F o r)
+
+  boot-success : (F : Facts) (o : Booted) → BootBytes F records o → o .code ≡ Success → length records ≡ o .place * recordSize
+  boot-success F o r e =
+      let s = host-laws .boot-success (endOf records) F (recordsOf records) o r e in
+      omega (arith, s .1, bytes-laws .whole records (s .0))
+
   boot-laws : BootLaws records b
   boot-laws =
       record {
         one = boot-one;
         leaves = λ b₁ r x a. ⊎-elim
-            (λ s. sym (s .table) ∙ ap image (host-laws .boot-leaves (s .accepted .facts) records _ (s .rule))
-            ∙ ap (λ (F : Facts). image (recordsAdded (x .place) F records)) (facts-one (s .accepted) a))
+            (λ s. sym (s .table) ∙ ap image (boot-leaves (s .accepted .facts) _ (s .rule))
+            ∙ ap (λ (F : Facts). image (recordsAdded F (recordsIn (x .place) records))) (facts-one (s .accepted) a))
             (λ u. absurd (u .0 .unformed a)) (x .permitted);
         unformed = λ b₁ r x none. ⊎-elim (λ s. absurd (none (s .accepted))) (λ u. (u .0 .code-is, u .1, u .0 .table)) (x .permitted);
         stays = λ b₁ r a x. ⊎-elim (λ s. record {
           facts = s .after;
-          formed = host-laws .boot-stays (s .accepted .facts) records _ (s .accepted .formed) (s .rule);
+          formed = host-laws .boot-stays (endOf records) (s .accepted .facts) (recordsOf records) _ (s .accepted .formed) (s .rule);
           is = s .table;
         })
             (λ u. absurd (u .0 .unformed a)) (x .permitted);
-        success = λ b₁ r x e. ⊎-elim (λ s. host-laws .boot-success (s .accepted .facts) records _ (s .rule) e)
+        success = λ b₁ r x e. ⊎-elim (λ s. boot-success (s .accepted .facts) _ (s .rule) e)
             (λ u. absurd (omega (arith, ap numberOf (sym e ∙ u .0 .code-is)))) (x .permitted);
-        most = λ b₁ r x. ⊎-elim (λ s. host-laws .boot-most (s .accepted .facts) records _ (s .accepted .formed) (s .rule))
+        most = λ b₁ r x. ⊎-elim
+            (λ s. host-laws .boot-most (endOf records) (s .accepted .facts) (recordsOf records) _ (s .accepted .formed) (s .rule))
             (λ u. omega (arith, u .1)) (x .permitted);
         taken-apart = λ b₁ r x. (omega (arith, x .packs, code-byte (x .code)), omega (arith, x .packs, code-byte (x .code)));
       }

@@ -12,7 +12,7 @@ use Rattle.facts.specs.Table
 use Rattle.facts.specs.Table.{Facts, fresh}
 use Rattle.facts.specs.Packets.{Bytes}
 use Rattle.facts.specs.Irq.{Sharers}
-use Rattle.facts.specs.Boot.{Boot, stopped}
+use Rattle.facts.specs.Boot.{BootBytes, stopped}
 use Rattle.facts.specs.Services.{Call}
 use Rattle.facts.specs.Sockets.{CardTo}
 use Rattle.layout.specs.Layout
@@ -74,7 +74,7 @@ FreshAnswers sockets b b′ r =
 -- cs_boot: a code and a place. "If the table is not well formed: place 0, GENERAL_FAILURE."
 abbrev pub BootPermitted : List ℕ → List ℕ → List ℕ → Code → ℕ → Type 0
 BootPermitted records b b′ code place =
-    Served (λ (F G : Facts). Boot F records 0 (stopped place code G)) b b′
+    Served (λ (F G : Facts). BootBytes F records (stopped place code G)) b b′
     ⊎ (TableRefused b b′ code × (place ≡ 0))
 
 pub record BootAnswers (records b b′ : List ℕ) (r : ℕ) : Type 0 where

@@ -11,7 +11,7 @@ use Rattle.facts.specs.Codes.{numberOf}
 use Rattle.facts.specs.Table
 use Rattle.layout.specs.Layout.{image}
 use Rattle.layout.specs.Sound.{Accepted}
-use Rattle.facts.specs.Boot.{recordSize, recordsAdded}
+use Rattle.facts.specs.Boot.{recordSize, recordsIn, recordsAdded}
 use Rattle.promises.specs.Entries.{CallAnswers, CardAnswers, SharersAnswers, FreshAnswers, BootAnswers}
 
 -- the number answered can be taken apart again: its low 16 bits are the code, the rest is the handle or the count
@@ -58,7 +58,8 @@ pub record FreshLaws (sockets : ℕ) (b : List ℕ) : Type 0 where
 pub record BootLaws (records b : List ℕ) : Type 0 where
   pub one : (b₁ b₂ : List ℕ) (r₁ r₂ : ℕ) → BootAnswers records b b₁ r₁ → BootAnswers records b b₂ r₂ → (r₁ ≡ r₂) × (b₁ ≡ b₂)
   -- "earlier ones stay": the table left is that of the records before the place, added in order, and nothing else
-  pub leaves : (b₁ : List ℕ) (r : ℕ) (x : BootAnswers records b b₁ r) (a : Accepted b) → b₁ ≡ image (recordsAdded (x .place) (a .facts) records)
+  pub leaves : (b₁ : List ℕ) (r : ℕ) (x : BootAnswers records b b₁ r) (a : Accepted b)
+      → b₁ ≡ image (recordsAdded (a .facts) (recordsIn (x .place) records))
   pub unformed : (b₁ : List ℕ) (r : ℕ) (x : BootAnswers records b b₁ r) → (Accepted b → ⊥) → (x .code ≡ GeneralFailure) × (x .place ≡ 0) × (b₁ ≡ b)
   pub stays : (b₁ : List ℕ) (r : ℕ) → Accepted b → BootAnswers records b b₁ r → Accepted b₁
   -- "Success answers the list's length in records"

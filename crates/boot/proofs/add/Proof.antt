@@ -5,7 +5,7 @@ use native.Mathlib.Omega.{arith}
 use borrow.Author.Needs.{needs}
 use denote.Ref.{now}
 use Rattle.facts.proofs.Resources.{three-or-four}
-use Rattle.boot.proofs.Walk.{range-adds, level-adds, not-built, no-resource}
+use Rattle.boot.proofs.Walking.{range-adds, level-adds, not-built, no-resource}
 use Rattle.boot.proofs.add.Statement.{statement}
 use Rattle.boot.proofs.add.Tie as tie
 

@@ -1,24 +1,26 @@
 -- `boot::boot` meets its contract. The invariant: the walk has come to a place, and what the rest of the list permits from there is the rule's.
 -- Assumes nothing.
-use mathlib.Core.Path.{subst}
+use mathlib.Core.Path.{_≡_, refl, subst}
 use mathlib.Core.List.{List}
-use Prim.Native.Nat.{ℕ, _+_, _-_, _≤_}
+use Prim.Native.Nat.{ℕ, _+_, _*_, _-_, _^_, _≤_, _<_}
 use native.Mathlib.Omega.{arith}
 use borrow.Author.Needs.{needs}
-use lib.ListN.{length}
+use lib.ListN.{length, drop}
 use denote.Ref.{now}
-use Rattle.facts.specs.Boot.{recordSize}
-use Rattle.answers.specs.declared.Change.the-variants.{Refused}
-use Rattle.boot.specs.Booting.{AddsRecord}
-use Rattle.boot.proofs.Walk.{Walked, walked-none, walked-length, walked-more, refused-length, walked-refused, walked-broken, walked-all}
+use Rattle.facts.specs.Boot.{recordSize, recordsIn, recordsOf, endOf}
+use Rattle.boot.specs.declared.Booted.{Booted}
+use Rattle.boot.specs.declared.Booted.the-variants.{Stopped}
+use Rattle.boot.specs.Booting.{BootsRecords, Boots, atOnce}
+use Rattle.boot.proofs.Walking.{Walked, walked-none, walked-length, ends-length, bytes-all, bytes-broken, bytes-more, bytes-stopped}
 use Rattle.boot.proofs.boot.Statement.{statement}
 use Rattle.boot.proofs.boot.Tie as tie
 
 abbrev Inv-loop : tie.InvT-loop
-Inv-loop t₀ records bytes place₀ at₀ t place at = (at ≤ length records) × (place ≤ at) × Walked t₀ records t place at
+Inv-loop t₀ records bytes first₀ at₀ t first at =
+    (at ≤ length records) × (at ≡ first * recordSize) × Walked (endOf records) (recordsOf records) t₀ t first (recordsOf (drop at records))
 
 abbrev μ-loop : tie.MeasureT-loop
-μ-loop t₀ records bytes place₀ at₀ t place at = bytes - at
+μ-loop t₀ records bytes first₀ at₀ t first at = bytes - at
 
 -- where the call began, its table and its list
 abbrev start : tie.At-loop Inv-loop μ-loop → tie.Start Inv-loop μ-loop
@@ -30,19 +32,32 @@ table c = now (start c .args .t)
 abbrev list : tie.At-loop Inv-loop μ-loop → List ℕ
 list c = now (start c .args .records)
 
--- a turn of the loop: a record is read
-abbrev turn : tie.After-add-arg Inv-loop μ-loop → tie.At-loop Inv-loop μ-loop
+-- the table keeps its length
+sized : (c : tie.At-loop Inv-loop μ-loop) → length (c .loop .t) ≡ length (table c)
+sized c =
+    let l = c .loop in
+    walked-length (endOf (list c)) (recordsOf (list c)) (table c) (l .t) (l .first) (recordsOf (drop (l .at) (list c))) (l .inv .2)
+
+-- the list's length is a number of the machine's
+bounded : (c : tie.At-loop Inv-loop μ-loop) → length (list c) < 2 ^ 64
+bounded c = omega (arith, start c .good)
+
+-- a turn of the loop: it is known how many records come next
+abbrev turn : tie.After-next Inv-loop μ-loop → tie.At-loop Inv-loop μ-loop
 turn c = c .before .before
 
-full : (c : tie.After-add-arg Inv-loop μ-loop) → turn c .loop .at + recordSize ≤ length (list (turn c))
-full c = omega (arith, c .before .loop-test .taken, turn c .loop .inv .0)
+full : (c : tie.After-next Inv-loop μ-loop) → turn c .loop .at + c .next .result * recordSize ≤ length (list (turn c))
+full c = omega (arith, c .next .ensures, turn c .loop .inv .0)
 
--- and added, or refused
-abbrev read : tie.After-add Inv-loop μ-loop → tie.After-record-at Inv-loop μ-loop
-read c = c .before
+few : (c : tie.After-next Inv-loop μ-loop) → c .next .result ≤ atOnce
+few c = omega (arith, c .next .ensures)
 
-abbrev at : tie.After-add Inv-loop μ-loop → tie.At-loop Inv-loop μ-loop
-at c = turn (read c .before)
+some : (c : tie.After-next Inv-loop μ-loop) → 1 ≤ c .next .result
+some c = omega (arith, c .next .ensures, c .before .loop-test .taken)
+
+-- they are lent
+abbrev asked : tie.After-lent Inv-loop μ-loop → tie.After-next Inv-loop μ-loop
+asked c = c .before .before
 
 abbrev done : tie.After-enum-told Inv-loop μ-loop → tie.After-slice-known2 Inv-loop μ-loop
 done c = c .before .before
@@ -50,87 +65,107 @@ done c = c .before .before
 abbrev stopped : tie.After-known-told Inv-loop μ-loop → tie.After-slice-known2 Inv-loop μ-loop
 stopped c = c .before .before .before
 
-abbrev added : tie.After-slice-known2 Inv-loop μ-loop → tie.After-add Inv-loop μ-loop
-added c = c .before .before
+abbrev lent : tie.After-slice-known2 Inv-loop μ-loop → tie.After-lent Inv-loop μ-loop
+lent c = c .before .before
 
-refusal : (c : tie.After-known-told Inv-loop μ-loop) → let k = added (stopped c) in
-    AddsRecord (read k .record-at .result) (at k .loop .t) (k .add .last .0) (Refused (c .before .change .given .0 .0))
+-- what the walk over them comes to, by its answer
+abbrev Comes : tie.After-lent Inv-loop μ-loop → Booted → Type 0
+Comes k =
+    let l = turn (asked k) .loop in
+    BootsRecords (recordsIn (asked k .next .result) (drop (l .at) (list (turn (asked k))))) (l .t) (k .lent .last .0)
+
+-- one is refused: its place among them, and what the whole list then comes to
+refusal : (c : tie.After-known-told Inv-loop μ-loop) → let k = lent (stopped c) in
+    let i = c .before .some .given .0 .0 in
+    (i ≤ asked k .next .result)
+    × Boots (list (turn (asked k))) (table (turn (asked k))) (k .lent .last .0)
+    (Stopped (turn (asked k) .loop .first + i) (c .before .some .given .0 .1 .0))
 refusal c =
-    let k = added (stopped c) in
-    subst (AddsRecord (read k .record-at .result) (at k .loop .t) (k .add .last .0)) (c .before .change .given .1) (k .add .ensures)
+    let k = lent (stopped c) in
+    let l = turn (asked k) .loop in
+    bytes-stopped (list (turn (asked k))) (table (turn (asked k))) (l .t) (l .first) (l .at) (l .inv .2) (asked k .next .result) (full (asked k))
+    (k .lent .last .0) (c .before .some .given .0 .0) (c .before .some .given .0 .1 .0)
+    (subst (Comes k) (c .before .some .given .1) (k .lent .ensures))
 
 loop-holds : tie.Need-loop-holds Inv-loop μ-loop
 loop-holds c =
     let s = c .before .before in
-    (omega arith, omega arith, walked-none (now (s .args .t)) (now (s .args .records)) (s .pre))
+    let records = now (s .args .records) in
+    (omega arith, refl, walked-none (endOf records) (recordsOf records) (now (s .args .t)) (s .pre))
 
 sub-loop : tie.Need-sub-loop Inv-loop μ-loop
-sub-loop c = omega (arith, c .loop .inv .0)
+sub-loop c = c .loop .inv .0
 
-record-at-requires : tie.Need-record-at-requires Inv-loop μ-loop
-record-at-requires c κs = full c
+sub-next : tie.Need-sub-next Inv-loop μ-loop
+sub-next c = c .before .loop .inv .0
 
-add-requires : tie.Need-add-requires Inv-loop μ-loop
-add-requires c κs = turn (c .before) .loop .inv .2 .here
+next-requires : tie.Need-next-requires Inv-loop μ-loop
+next-requires c κs = search needs
+
+lent-requires : tie.Need-lent-requires Inv-loop μ-loop
+lent-requires c κs = let k = c .before in (turn k .loop .inv .2 .here, few k, full k)
 
 enum-told : tie.Need-enum-told Inv-loop μ-loop
 enum-told c = search needs
 
-enum-known-change : tie.Need-enum-known-change Inv-loop μ-loop
-enum-known-change c = search needs
+enum-known-some : tie.Need-enum-known-some Inv-loop μ-loop
+enum-known-some c = search needs
+
+add-t14 : tie.Need-add-t14 Inv-loop μ-loop
+add-t14 c =
+    let k = asked (lent (stopped c)) in
+    omega (arith, bounded (turn k), full k, turn k .loop .inv .1, refusal c .0)
 
 same-length : tie.Need-same-length Inv-loop μ-loop
 same-length c =
-    let k = added (stopped c) in
-    let l = at k .loop in
-    refused-length (table (at k)) (list (at k)) (l .t) (l .place) (l .at) (l .inv .2) (full (read k .before)) (read k .record-at .result)
-    (read k .record-at .ensures) (k .add .last .0) (c .before .change .given .0 .0) (refusal c)
+    let k = lent (stopped c) in
+    let l = list (turn (asked k)) in
+    ends-length (endOf l) (recordsOf l) (table (turn (asked k))) (k .lent .last .0)
+    (Stopped (turn (asked k) .loop .first + c .before .some .given .0 .0) (c .before .some .given .0 .1 .0)) (refusal c .1)
 
 returns : tie.Need-returns Inv-loop μ-loop
-returns c =
-    let k = added (stopped c) in
-    let l = at k .loop in
-    walked-refused (table (at k)) (list (at k)) (l .t) (l .place) (l .at) (l .inv .2) (full (read k .before)) (read k .record-at .result)
-    (read k .record-at .ensures) (k .add .last .0) (c .before .change .given .0 .0)
-    (refusal c)
+returns c = refusal c .1
 
-add-place : tie.Need-add-place Inv-loop μ-loop
-add-place c = omega (arith, full (read (added (done c)) .before), at (added (done c)) .loop .inv .1)
+add-first : tie.Need-add-first Inv-loop μ-loop
+add-first c = let k = asked (lent (done c)) in omega (arith, full k, turn k .loop .inv .1)
+
+mul-at : tie.Need-mul-at Inv-loop μ-loop
+mul-at c = let k = asked (lent (done c)) in omega (arith, full k)
 
 add-at : tie.Need-add-at Inv-loop μ-loop
-add-at c = omega (arith, full (read (added (done c)) .before))
+add-at c = let k = asked (lent (done c)) in omega (arith, full k)
 
 loop-less : tie.Need-loop-less Inv-loop μ-loop
-loop-less c = omega (arith, full (read (added (done c)) .before))
+loop-less c = let k = asked (lent (done c)) in omega (arith, full k, some k)
 
 loop-again : tie.Need-loop-again Inv-loop μ-loop
 loop-again c =
-    let k = added (done c) in
-    let l = at k .loop in (
-      omega (arith, full (read k .before)),
+    let k = lent (done c) in
+    let l = turn (asked k) .loop in (
+      full (asked k),
       omega (arith, l .inv .1),
-      walked-more (table (at k)) (list (at k)) (l .t) (l .place) (l .at) (l .inv .2) (full (read k .before)) (read k .record-at .result)
-          (read k .record-at .ensures) (k .add .last .0)
-          (subst (AddsRecord (read k .record-at .result) (l .t) (k .add .last .0)) (c .enum-told .given .1) (k .add .ensures)),
+      bytes-more (list (turn (asked k))) (table (turn (asked k))) (l .t) (l .first) (l .at) (l .inv .2) (asked k .next .result) (full (asked k))
+          (k .lent .last .0) (c .enum-told .given .0 .0)
+          (subst (Comes k) (c .enum-told .given .1) (k .lent .ensures)),
     )
 
 same-length-2 : tie.Need-same-length-2 Inv-loop μ-loop
-same-length-2 c = let k = c .before .before in walked-length (table k) (list k) (k .loop .t) (k .loop .place) (k .loop .at) (k .loop .inv .2)
+same-length-2 c = sized (c .before .before)
 
 returns-2 : tie.Need-returns-2 Inv-loop μ-loop
 returns-2 c =
     let k = c .before .before in
     let l = k .loop in
-    walked-broken (table k) (list k) (l .t) (l .place) (l .at) (l .inv .2) (omega (arith, c .if1 .taken)) (omega (arith, c .before .loop-test .left))
+    bytes-broken (list k) (table k) (l .t) (l .first) (l .at) (l .inv .2) (l .inv .1) (c .if1 .taken) (omega (arith, c .before .loop-test .left))
 
 same-length-3 : tie.Need-same-length-3 Inv-loop μ-loop
-same-length-3 c = let k = c .before .before in walked-length (table k) (list k) (k .loop .t) (k .loop .place) (k .loop .at) (k .loop .inv .2)
+same-length-3 c = sized (c .before .before)
 
 returns-3 : tie.Need-returns-3 Inv-loop μ-loop
 returns-3 c =
     let k = c .before .before in
     let l = k .loop in
-    walked-all (table k) (list k) (l .t) (l .place) (l .at) (l .inv .2) (omega (arith, c .if1 .left))
+    bytes-all (list k) (table k) (l .t) (l .first) (l .at) (l .inv .2) (l .inv .1) (omega (arith, c .if1 .left)) (l .inv .0)
 
 pub boot-spec : {M : Type 1} → statement M
 boot-spec =
@@ -140,13 +175,16 @@ boot-spec =
     μ-loop
     loop-holds
     sub-loop
-    record-at-requires
-    add-requires
+    sub-next
+    next-requires
+    lent-requires
     enum-told
-    enum-known-change
+    enum-known-some
+    add-t14
     same-length
     returns
-    add-place
+    add-first
+    mul-at
     add-at
     loop-less
     loop-again

@@ -1,0 +1,75 @@
+-- The records that the bytes of a boot list are, and the code at their end. Assumes nothing.
+use mathlib.Core.Path.{_≡_, refl, ap}
+use mathlib.Core.Logic.{_≢_}
+use mathlib.Core.List.{List, [], _∷_}
+use mathlib.Core.Bool.{Bool, cond, true, false}
+use Prim.Native.Nat.{ℕ, zero, suc, _*_, _/_, _%_, _≤_, _<_}
+use native.Mathlib.Nat.{not-suc-le-zero}
+use native.Mathlib.Omega.{arith}
+use lib.Dec.{eqb}
+use lib.ListN.{length, take, drop, length-drop}
+use borrow.Author.Tests.{eq-eqb, ne-eqb, eqb-true}
+use Rattle.facts.specs.declared.Code.{Code}
+use Rattle.facts.specs.declared.Code.the-variants.{Success, BadArgLength}
+use Rattle.facts.specs.declared.Record.{Record}
+use Rattle.facts.specs.Codes.{numberOf}
+use Rattle.facts.specs.Table.{Facts}
+use Rattle.facts.specs.Boot.{Booted, BootBytes, recordSize, recordOf, recordsIn, recordsOf, endOf}
+use Rattle.facts.proofs.Refusals.{boot-within}
+
+pub records-length : (n : ℕ) (b : List ℕ) → length (recordsIn n b) ≡ n
+records-length zero b = refl
+records-length (suc n) b = ap suc (records-length n _)
+
+-- the first n of the first m records
+pub records-first : (n m : ℕ) (b : List ℕ) → n ≤ m → take n (recordsIn m b) ≡ recordsIn n b
+records-first zero m b h = refl
+records-first (suc n) zero b h = absurd (not-suc-le-zero h)
+records-first (suc n) (suc m) b h = ap {B = List Record} (λ rs. recordOf b ∷ rs) (records-first n m _ (omega arith))
+
+-- the code at the end, by the bytes that are too few for a record
+abbrev codeAfter : Bool → Code
+codeAfter none = cond none Success BadArgLength
+
+module _ (b : List ℕ) where
+  -- the bytes have room for n records
+  records-are : (n : ℕ) → length b / recordSize ≡ n → recordsOf b ≡ recordsIn n b
+  records-are n = ap (λ (k : ℕ). recordsIn k b)
+
+  pub records-few : length b < recordSize → recordsOf b ≡ []
+  records-few few = records-are 0 (omega arith)
+
+  pub records-more : recordSize ≤ length b → recordsOf b ≡ recordOf b ∷ recordsOf (drop recordSize b)
+  records-more full = records-are (suc (length (drop recordSize b) / recordSize)) (omega (arith, length-drop recordSize b))
+
+  pub records-counted : length (recordsOf b) ≡ length b / recordSize
+  records-counted = records-length (length b / recordSize) b
+
+  pub records-same : (n : ℕ) → length b ≡ n * recordSize → recordsOf b ≡ recordsIn n b
+  records-same n e = records-are n (omega (arith, e))
+
+  pub records-before : (n : ℕ) → n * recordSize ≤ length b → take n (recordsOf b) ≡ recordsIn n b
+  records-before n h = records-first n (length b / recordSize) b (omega arith)
+
+  pub end-broken : length b % recordSize ≢ 0 → endOf b ≡ BadArgLength
+  end-broken d = ap codeAfter (ne-eqb (length b % recordSize) 0 d)
+
+  pub end-whole : length b % recordSize ≡ 0 → endOf b ≡ Success
+  end-whole e = ap codeAfter (eq-eqb (length b % recordSize) 0 e)
+
+  pub end-more : recordSize ≤ length b → endOf b ≡ endOf (drop recordSize b)
+  end-more full = ap (λ (n : ℕ). codeAfter (eqb n 0)) same
+    where
+      same : length b % recordSize ≡ length (drop recordSize b) % recordSize
+      same = omega (arith, length-drop recordSize b)
+
+  pub whole-end : endOf b ≡ Success → length b % recordSize ≡ 0
+  whole-end = go (eqb (length b % recordSize) 0) (eqb-true (length b % recordSize) 0)
+    where
+      go : (none : Bool) → (none ≡ true → length b % recordSize ≡ 0) → codeAfter none ≡ Success → length b % recordSize ≡ 0
+      go true is e = is refl
+      go false is e = absurd (omega (arith, ap numberOf e))
+
+  -- the records before the place answered are the first ones of the bytes
+  pub boot-before : (F : Facts) (o : Booted) → BootBytes F b o → take (o .place) (recordsOf b) ≡ recordsIn (o .place) b
+  boot-before F o r = records-before (o .place) (omega (arith, boot-within (endOf b) F (recordsOf b) 0 o r, records-counted))
