@@ -317,11 +317,17 @@ void boot_48(void)
     longest_list(25, false);
 }
 
-/* The 48 records of put_good, levels and ranges mixed. */
+/* The records of put_good, as many as can be, in an order that mixes levels and
+   ranges: which of them stands at a place. */
+static unsigned mixed(unsigned place)
+{
+    return 29 * place % CS_BOOT_MOST;
+}
+
 static void put_mixed(struct boot_list *list, unsigned from, unsigned many)
 {
     for (unsigned i = 0; i < many; i++)
-        put_good(list, 29 * (from + i) % 48);
+        put_good(list, mixed(from + i));
 }
 
 /* By docs/LAYOUT.md: of the mixed records those before this place are managed. */
@@ -329,8 +335,8 @@ static void mixed_stay(unsigned place)
 {
     uint8_t managed[CS_LEVELS] = {0}, ranges = 0;
     for (unsigned i = 0; i < place; i++)
-        if (29 * i % 48 < CS_LEVELS)
-            managed[29 * i % 48] = 1;
+        if (mixed(i) < CS_LEVELS)
+            managed[mixed(i)] = 1;
         else
             ranges++;
     table_must_have(2, &ranges, 1);

@@ -13,6 +13,7 @@ use borrow.Author.Tests.{eq-eqb, ne-eqb}
 use Rattle.facts.specs.declared.Code.{Code}
 use Rattle.facts.specs.declared.Code.the-variants.{Success, UnsupportedService, BadArgLength, BadArgs}
 use Rattle.facts.specs.declared.Record.{Record}
+use Rattle.facts.specs.Codes.{numberOf}
 use Rattle.facts.specs.Table
 use Rattle.facts.specs.Table.{Facts}
 use Rattle.facts.specs.Checks.{Check, FirstGiven, Passed}
@@ -35,7 +36,7 @@ use Rattle.managed_ranges.specs.Asked.{AddsRange}
 use Rattle.answers.proofs.Changing as changing
 use Rattle.boot.specs.declared.Booted.{Booted}
 use Rattle.boot.specs.declared.Booted.the-variants.{All, Stopped}
-use Rattle.boot.specs.Booting.{AddsRecord, Ends, BootsRecords, Boots, placeOf, codeOf}
+use Rattle.boot.specs.Booting.{AddsRecord, Refuses, Ends, BootsRecords, Boots, placeOf, codeOf}
 use Rattle.boot.proofs.Bytes.{records-past}
 
 -- one record: its resource type is built, and its own checks rule
@@ -151,23 +152,25 @@ pub walked-none : (e : Code) (rs : List Record) (b : List ℕ) → Accepted b �
 walked-none e rs b a = record { first = a; here = a; goes-on = λ o r. r }
 
 pub ends-length : (e : Code) (rs : List Record) (b b′ : List ℕ) (r : Booted) → EndsAs e rs b b′ r → length b′ ≡ length b
-ends-length e rs b b′ r s = ap length (sym (s .table)) ∙ image-length (s .after) ∙ sym (size-in b (s .accepted))
+ends-length e rs b b′ r s = ap length (sym (s .0 .table)) ∙ image-length (s .0 .after) ∙ sym (size-in b (s .0 .accepted))
 
 module _ (e : Code) (rs : List Record) (b b′ : List ℕ) (place : ℕ) where
   pub walked-length : (left : List Record) → Walked e rs b b′ place left → length b′ ≡ length b
   walked-length left w = size-in b′ (w .here) ∙ sym (size-in b (w .first))
 
   -- where none is left, the list ends
-  pub walked-all : (r : Booted) → Walked e rs b b′ place [] → placeOf r ≡ place → codeOf r ≡ e → EndsAs e rs b b′ r
-  walked-all r w p k =
-      record {
-        accepted = w .first;
-        after = w .here .facts;
-        rule = subst (λ (i : ℕ). Boot e (w .first .facts) rs 0 (stopped i (codeOf r) (w .here .facts))) (sym p)
-            (subst (λ (c : Code). Boot e (w .first .facts) rs 0 (stopped place c (w .here .facts))) (sym k)
-            (w .goes-on (stopped place e (w .here .facts)) ended));
-        table = w .here .is;
-      }
+  pub walked-all : (r : Booted) → Walked e rs b b′ place [] → placeOf r ≡ place → codeOf r ≡ e → Refuses r → EndsAs e rs b b′ r
+  walked-all r w p k n = (
+    record {
+      accepted = w .first;
+      after = w .here .facts;
+      rule = subst (λ (i : ℕ). Boot e (w .first .facts) rs 0 (stopped i (codeOf r) (w .here .facts))) (sym p)
+          (subst (λ (c : Code). Boot e (w .first .facts) rs 0 (stopped place c (w .here .facts))) (sym k)
+          (w .goes-on (stopped place e (w .here .facts)) ended));
+      table = w .here .is;
+    },
+    n,
+  )
 
   -- the next records are added, or one of them is refused
   module _ (xs left : List Record) (w : Walked e rs b b′ place (xs ++ left)) (b″ : List ℕ) where
@@ -195,20 +198,22 @@ module _ (e : Code) (rs : List Record) (b b′ : List ℕ) (place : ℕ) where
 
     pub walked-stopped : (i : ℕ) (k : Code) → BootsRecords xs b′ b″ (Stopped i k) → EndsAs e rs b b″ (Stopped (place + i) k)
     walked-stopped i k s =
-        let t = s .0 in
-        record {
-          accepted = w .first;
-          after = t .after;
-          rule = from (t .accepted) (stopped (place + i) k (t .after))
-              (stops-within e left place (t .accepted .facts) xs 0 (stopped i k (t .after)) (t .rule) (s .1));
-          table = t .table;
-        }
+        let t = s .0 in (
+          record {
+            accepted = w .first;
+            after = t .after;
+            rule = from (t .accepted) (stopped (place + i) k (t .after))
+                (stops-within e left place (t .accepted .facts) xs 0 (stopped i k (t .after)) (t .rule) (s .1));
+            table = t .table;
+          },
+          s .1,
+        )
 
 -- a walk record by record: the rest of the list begins at the place
 module _ (rs : List Record) (b b′ : List ℕ) (place : ℕ) where
   pub walked-through : Walked Success rs b b′ place (drop place rs) → length rs ≤ place → BootsRecords rs b b′ (All place)
   walked-through w l =
-      (walked-all Success rs b b′ place (All place) (subst (Walked Success rs b b′ place) (drop-of-length-le rs l) w) refl refl, tt)
+      walked-all Success rs b b′ place (All place) (subst (Walked Success rs b b′ place) (drop-of-length-le rs l) w) refl refl tt
 
   module _ (d : Record) (w : Walked Success rs b b′ place (drop place rs)) (l : place < length rs) (b″ : List ℕ) where
     -- the record at the place, and those after it
@@ -221,11 +226,8 @@ module _ (rs : List Record) (b b′ : List ℕ) (place : ℕ) where
 
     pub walked-refused : (k : Code) → AddsRecord (getD rs place d) b′ b″ (Refused k) → BootsRecords rs b b″ (Stopped place k)
     walked-refused k s =
-        let one = one-refused (getD rs place d) b′ b″ k s in (
-          subst (λ (i : ℕ). EndsAs Success rs b b″ (Stopped i k)) (add-zero place)
-              (walked-stopped Success rs b b′ place (getD rs place d ∷ []) (drop (place + 1) rs) at b″ 0 k one),
-          one .1,
-        )
+        subst (λ (i : ℕ). EndsAs Success rs b b″ (Stopped i k)) (add-zero place)
+        (walked-stopped Success rs b b′ place (getD rs place d ∷ []) (drop (place + 1) rs) at b″ 0 k (one-refused (getD rs place d) b′ b″ k s))
 
 -- a walk along a list's bytes, some records at a time: those left begin at the byte `at`
 module _ (bytes b b′ : List ℕ) (place at : ℕ) (w : Walked (endOf bytes) (recordsOf bytes) b b′ place (recordsOf (drop at bytes))) where
@@ -233,13 +235,13 @@ module _ (bytes b b′ : List ℕ) (place at : ℕ) (w : Walked (endOf bytes) (r
   bytes-all e l m =
       walked-all (endOf bytes) (recordsOf bytes) b b′ place (All place)
       (subst (Walked (endOf bytes) (recordsOf bytes) b b′ place) (records-few (drop at bytes) (omega (arith, length-drop at bytes))) w) refl
-      (sym (end-whole bytes (omega (arith, e))))
+      (sym (end-whole bytes (omega (arith, e)))) tt
 
   pub bytes-broken : at ≡ place * recordSize → at < length bytes → length bytes < at + recordSize → Boots bytes b b′ (Stopped place BadArgLength)
   bytes-broken e l m =
       walked-all (endOf bytes) (recordsOf bytes) b b′ place (Stopped place BadArgLength)
       (subst (Walked (endOf bytes) (recordsOf bytes) b b′ place) (records-few (drop at bytes) (omega (arith, length-drop at bytes))) w) refl
-      (sym (end-broken bytes (λ f. omega (arith, e, f))))
+      (sym (end-broken bytes (λ f. omega (arith, e, f)))) (λ f. omega (arith, ap numberOf f))
 
   module _ (n : ℕ) (full : at + n * recordSize ≤ length bytes) (b″ : List ℕ) where
     -- the next n records, and those after them

@@ -36,18 +36,18 @@ codeOf (Stopped i k) = k
 abbrev pub placed : Code → ℕ → ℕ
 placed code place = numberOf code + 2 ^ 32 * place
 
--- a list is served as its rule says, and ends so
-abbrev pub Ends : (Facts → rule.Booted → Type 0) → List ℕ → List ℕ → Booted → Type 0
-Ends R b b′ r = Served (λ (F G : Facts). R F (stopped (placeOf r) (codeOf r) G)) b b′
-
 -- a list that stopped was refused
 abbrev pub Refuses : Booted → Type 0
 Refuses (All n) = Unit {0}
 Refuses (Stopped i k) = k ≢ Success
 
+-- a list is served as its rule says, and ends so
+abbrev pub Ends : (Facts → rule.Booted → Type 0) → List ℕ → List ℕ → Booted → Type 0
+Ends R b b′ r = Served (λ (F G : Facts). R F (stopped (placeOf r) (codeOf r) G)) b b′ × Refuses r
+
 -- a slice of records
 abbrev pub BootsRecords : List Record → List ℕ → List ℕ → Booted → Type 0
-BootsRecords rs b b′ r = Ends (λ (F : Facts). BootRecords F rs) b b′ r × Refuses r
+BootsRecords rs = Ends (λ (F : Facts). BootRecords F rs)
 
 -- the list's bytes
 abbrev pub Boots : List ℕ → List ℕ → List ℕ → Booted → Type 0

@@ -130,8 +130,8 @@ fn lent(t: &mut [u8], records: &[u8], at: usize, n: usize) -> Booted
     requires { ⌜ Accepted (now t) × (n ≤ atOnce) × (at + n * recordSize ≤ length (now records)) ⌝ }
     ensures { λ r. ⌜ BootsRecords (recordsIn n (drop at (now (records .entry)))) (now (t .entry)) (now (t .exit)) r ⌝ }
 {
-    let taken = taken(records, at, n);
-    walk(t, &taken[..n])
+    let all = taken(records, at, n);
+    walk(t, &all[..n])
 }
 
 // A list that is lent as bytes: "bytes too few for a record at the end are refused at its place". `first` is the place of the first record that is left.

@@ -102,8 +102,9 @@ by-service v b b′ p p′ n h r a bytes i s e =
 
 -- a boot list
 pub boots : (records b b′ : List ℕ) (x : Booted) (r : ℕ) → Boots records b b′ x → r ≡ placed (boot.codeOf x) (placeOf x) → BootAnswers records b b′ r
-boots records b b′ x r s e = record { code = boot.codeOf x; place = placeOf x; packs = e; permitted = inl s }
+boots records b b′ x r s e = record { code = boot.codeOf x; place = placeOf x; packs = e; permitted = inl (s .0) }
 
 -- its place is low
 pub low-place : (records b b′ : List ℕ) (x : Booted) → Boots records b b′ x → placeOf x ≤ Table.allLevels + Table.mostRanges
-low-place records b b′ x s = host-laws .boot-most (endOf records) (s .accepted .facts) (recordsOf records) _ (s .accepted .formed) (s .rule)
+low-place records b b′ x s =
+    host-laws .boot-most (endOf records) (s .0 .accepted .facts) (recordsOf records) _ (s .0 .accepted .formed) (s .0 .rule)
