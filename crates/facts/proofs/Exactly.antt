@@ -40,17 +40,24 @@ BaseDecided base code N M C =
     Decided ((((base ≢ 0) × N) gives BadBase) ∷ (((base ≢ 0) × M) gives InUse) ∷ (((base ≡ 0) × C) gives InUse) ∷ []) code
 
 module _ (base : ℕ) (code : Code) (N M C : Type 0) {kept done : Type 0} where
-  named : base ≢ 0 → BaseDecided base code N M C kept done → ((code ≡ BadBase) ↔ N) × ((code ≢ Success) ↔ (N ⊎ M))
-  named ne (inl (inl r, _)) = ((λ e. r .0 .1, λ n. r .1), (λ e. inl (r .0 .1), λ x. not-both BadBase Success (omega arith) (r .1)))
+  named : base ≢ 0 → BaseDecided base code N M C kept done
+      → ((code ≡ BadBase) ↔ N) × ((code ≢ Success) ↔ (N ⊎ M)) × ((code ≡ InUse) ↔ ((N → ⊥) × M))
+  named ne (inl (inl r, _)) = (
+    (λ e. r .0 .1, λ n. r .1),
+    (λ e. inl (r .0 .1), λ x. not-both BadBase Success (omega arith) (r .1)),
+    (not-both BadBase InUse (omega arith) (r .1), λ x. absurd (x .0 (r .0 .1))),
+  )
   named ne (inl (inr (n, inl r), _)) = (
     (λ e. not-both BadBase InUse (omega arith) e (r .1), λ x. absurd (n (ne, x))),
     (λ e. inr (r .0 .1), λ x. not-both InUse Success (omega arith) (r .1)),
+    (λ e. ((λ x. n (ne, x)), r .0 .1), λ x. r .1),
   )
   named ne (inl (inr (n, inr (m, inl r)), _)) = absurd (ne (r .0 .0))
   named ne (inl (inr (n, inr (m, inr r)), _)) = absurd (r .1)
   named ne (inr (passed, e)) = (
     (λ q. not-both BadBase Success (omega arith) q (e .0), λ x. absurd (passed .0 (ne, x))),
     (λ q. absurd (q (e .0)), λ x. ⊎-elim (λ n. absurd (passed .0 (ne, n))) (λ m. absurd (passed .1 .0 (ne, m))) x),
+    (λ q. not-both InUse Success (omega arith) q (e .0), λ x. absurd (passed .1 .0 (ne, x .1))),
   )
 
   chosen : base ≡ 0 → BaseDecided base code N M C kept done → ((code ≡ InUse) ↔ C) × ((code ≢ Success) ↔ C)
@@ -70,6 +77,7 @@ module _ (F : Facts) (h : ℕ) (p : List ℕ) (o : Outcome) where
 
   io-named : Passed (ioAheadChecks F h p []) → baseAsked p ≢ 0 → RequestIo F h p o
       → ((o .code ≡ BadBase) ↔ NotAllManaged F p) × ((o .code ≢ Success) ↔ (NotAllManaged F p ⊎ InTheWay F p))
+      × ((o .code ≡ InUse) ↔ ((NotAllManaged F p → ⊥) × InTheWay F p))
   io-named ahead ne r =
       named (baseAsked p) (o .code) (NotAllManaged F p) (InTheWay F p) (NoCandidate F p) ne
       (ahead-decided (ioAheadChecks F h p []) (baseChecks F p) (o .code) ahead r)
@@ -88,6 +96,7 @@ exactly-when =
       irq-taken = λ F p l w. taken-fits F w p l;
       io-base = λ F h p o ahead ne r. io-named F h p o ahead ne r .0;
       io-named = λ F h p o ahead ne r. io-named F h p o ahead ne r .1;
+      io-in-use = λ F h p o ahead ne r. io-named F h p o ahead ne r .2;
       io-chosen = λ F h p o ahead z r. io-chosen F h p o ahead z r .0;
       io-chosen-refused = λ F h p o ahead z r. io-chosen F h p o ahead z r .1;
     }

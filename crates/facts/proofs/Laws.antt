@@ -8,8 +8,8 @@ use Rattle.facts.specs.Table.{Facts}
 use Rattle.facts.specs.WellFormed.{WellFormed}
 use Rattle.facts.specs.Irq.{Count, Sharers}
 use Rattle.facts.specs.Laws.{ServiceLaws, HostLaws, BytesLaws}
-use Rattle.facts.proofs.Unique.{service-unique, card-unique, sharers-unique, boot-unique}
-use Rattle.facts.proofs.Refusals.{no-success, refusal-keeps, card-refusal-keeps, sharers-refusal-zero, boot-leaves, boot-success, boot-within}
+use Rattle.facts.proofs.Unique.{call-unique, card-unique, sharers-unique, boot-unique}
+use Rattle.facts.proofs.Refusals.{call-refusal-keeps, card-refusal-keeps, sharers-refusal-zero, boot-leaves, boot-success, boot-within}
 use Rattle.facts.proofs.Sharing.{sharers-most}
 use Rattle.facts.proofs.Formed.{fresh-formed}
 use Rattle.facts.proofs.ClientsStay.{card-stays}
@@ -17,15 +17,14 @@ use Rattle.facts.proofs.ResourcesStay.{boot-stays}
 use Rattle.facts.proofs.Places.{boot-most}
 use Rattle.facts.proofs.Boot.{records-few, records-more, records-counted, records-same, records-before, end-more, end-whole, end-broken}
 use Rattle.facts.proofs.Boot.{whole-end}
-use Rattle.facts.proofs.Stays.{service-stays}
+use Rattle.facts.proofs.Stays.{call-stays}
 
 pub service-laws : ServiceLaws
 service-laws =
     record {
-      one-outcome = λ v F h p w. service-unique F h p (w .apart) v;
-      no-success = no-success;
-      refusal-keeps = λ v F h p. refusal-keeps F h p v;
-      stays-formed = service-stays;
+      one-outcome = λ n F h p w. call-unique F h p (w .apart) n;
+      refusal-keeps = λ n F h p. call-refusal-keeps F h p n;
+      stays-formed = call-stays;
     }
 
 count-most : (F : Facts) (l : ℕ) (o : Count) → WellFormed F → Sharers F l o → o .count ≤ Table.mostSockets

@@ -16,7 +16,7 @@ use Rattle.facts.specs.declared.Record.{Record}
 use Rattle.facts.specs.Table
 use Rattle.facts.specs.Table.{Facts}
 use Rattle.facts.specs.Checks.{Check, Outcome, FirstGiven, Passed, RuledThen, Ruled, Rule}
-use Rattle.facts.specs.Laws.{RefusalKeeps, NoSuccess, everyCheck}
+use Rattle.facts.specs.Laws.{RefusalKeeps}
 use Rattle.facts.specs.Clients.{registerChecks, deregisterChecks}
 use Rattle.facts.specs.Sockets.{CardTo, CardOutcome, requestMaskChecks, releaseMaskChecks}
 use Rattle.facts.specs.Resources.{ByAction, AdjustIrq, AdjustIo, AddLevel, RemoveLevel, ShowLevel, AddRange, RemoveRange, ShowRange}
@@ -85,7 +85,12 @@ pub sharers-refusal-zero : (F : Facts) (l : ℕ) (o : Count) → Sharers F l o �
 sharers-refusal-zero F l o (inl r) ne = r .1
 sharers-refusal-zero F l o (inr r) ne = absurd (ne (r .1 .0))
 
--- no check gives Success: a computed test
+-- no check gives SUCCESS
+abbrev pub NoSuccess : List Check → Type 0
+NoSuccess [] = Unit {0}
+NoSuccess (c ∷ cs) = (c .code ≢ Success) × NoSuccess cs
+
+-- a computed test of it
 abbrev pub noSuccess : List Check → Bool
 noSuccess [] = true
 noSuccess (c ∷ cs) = cond (eqb (numberOf (c .code)) 0) false (noSuccess cs)
@@ -112,9 +117,6 @@ module _ (cs : List Check) (n : NoSuccess cs) {F : Facts} {p : List ℕ} (D : Ou
   pub ruled-success : Ruled cs D F p o → (o .code ≡ Success) ↔ Passed cs
   ruled-success (inl r) = (λ e. absurd (first-not-success cs (o .code) n (r .0) e), λ passed. absurd (first-not-passed cs (o .code) (r .0) passed))
   ruled-success (inr r) = (λ e. r .0, λ passed. r .1 .0)
-
-pub no-success : (F : Facts) (h : ℕ) (p : List ℕ) (w : Width) (x y a n : ℕ) → NoSuccess (everyCheck F h p w x y a n)
-no-success F h p w x y a n = none-succeeds (everyCheck F h p w x y a n) tt
 
 pub record-no-success : (F : Facts) (r : Record) → NoSuccess (recordChecks F r)
 record-no-success F r = none-succeeds (recordChecks F r) (go (eqb (r .resource) ioRange))

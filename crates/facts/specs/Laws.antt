@@ -1,27 +1,23 @@
 -- The laws of the rules: what is proved of every service and of the host's calls. Assumes nothing.
 use mathlib.Core.Path.{_≡_}
 use mathlib.Core.Logic.{_⊎_, _≢_, _↔_}
-use mathlib.Core.List.{List, [], _∷_, _++_}
+use mathlib.Core.List.{List, [], _∷_}
 use mathlib.Core.Bool.{Bool}
 use Prim.Native.Nat.{ℕ, _+_, _*_, _/_, _≤_, _<_}
 use lib.ListN.{length, take, drop}
 use Rattle.facts.specs.declared.Code.{Code}
 use Rattle.facts.specs.declared.Code.the-variants.{Success, BadBase, BadIrq, BadArgLength, InUse}
 use Rattle.facts.specs.declared.Record.{Record}
-use Rattle.facts.specs.declared.Width.{Width}
 use Rattle.facts.specs.Table
 use Rattle.facts.specs.Table.{Facts, fresh}
 use Rattle.facts.specs.WellFormed.{WellFormed}
 use Rattle.facts.specs.Packets.{Bytes}
-use Rattle.facts.specs.Checks.{Check, Outcome, Kept, Passed}
-use Rattle.facts.specs.Clients.{registerChecks, deregisterChecks}
-use Rattle.facts.specs.Sockets.{CardOutcome, CardTo, cardChecks, requestMaskChecks, releaseMaskChecks}
-use Rattle.facts.specs.Resources.{adjustChecks, addLevelChecks, removeLevelChecks, showLevelChecks, addRangeChecks, removeRangeChecks}
-use Rattle.facts.specs.Resources.{showRangeChecks}
-use Rattle.facts.specs.Irq.{Count, Sharers, RequestIrq, Fits, NoLevelFits, LevelTaken, irqAheadChecks, irqRequestChecks, irqReleaseChecks, sharersChecks}
-use Rattle.facts.specs.Io.{RequestIo, NotAllManaged, InTheWay, NoCandidate, baseAsked, ioAheadChecks, ioRequestChecks, ioReleaseChecks}
+use Rattle.facts.specs.Checks.{Outcome, Kept, Passed}
+use Rattle.facts.specs.Sockets.{CardOutcome, CardTo}
+use Rattle.facts.specs.Irq.{Count, Sharers, RequestIrq, Fits, NoLevelFits, LevelTaken, irqAheadChecks}
+use Rattle.facts.specs.Io.{RequestIo, NotAllManaged, InTheWay, NoCandidate, baseAsked, ioAheadChecks}
 use Rattle.facts.specs.Boot.{Booted, Boot, recordSize, recordOf, recordsIn, recordsOf, endOf, recordsAdded}
-use Rattle.facts.specs.Services.{Service, ruleOf}
+use Rattle.facts.specs.Services.{Call}
 
 -- "any two permitted outcomes coincide"
 abbrev pub Coincide : {O : Type 0} → (O → Type 0) → Type 0
@@ -31,27 +27,12 @@ Coincide {O} R = (o o′ : O) → R o → R o′ → o ≡ o′
 abbrev pub RefusalKeeps : Facts → List ℕ → (Outcome → Type 0) → Type 0
 RefusalKeeps F p R = (o : Outcome) → R o → o .code ≢ Success → Kept F p o
 
--- no check gives SUCCESS
-abbrev pub NoSuccess : List Check → Type 0
-NoSuccess [] = Unit {0}
-NoSuccess (c ∷ cs) = (c .code ≢ Success) × NoSuccess cs
-
--- the checks of every service and of the host's calls; the boot list has those of Add
-abbrev pub everyCheck : Facts → ℕ → List ℕ → Width → ℕ → ℕ → ℕ → ℕ → List Check
-everyCheck F h p w x y a n =
-    registerChecks F p ++ deregisterChecks F h p ++ adjustChecks p
-    ++ addLevelChecks F x a ++ removeLevelChecks F x a ++ showLevelChecks F n x
-    ++ addRangeChecks F x y a n ++ removeRangeChecks F x y a n ++ showRangeChecks w F n x
-    ++ irqRequestChecks F h p ++ irqReleaseChecks F h p ++ ioRequestChecks F h p ++ ioReleaseChecks F h p
-    ++ requestMaskChecks F h p ++ releaseMaskChecks F h p ++ cardChecks F x ++ sharersChecks x
-
--- of every service
+-- of every call, whatever its number: a service's, or none's
 pub record ServiceLaws : Type 0 where
-  pub one-outcome : (v : Service) (F : Facts) (h : ℕ) (p : List ℕ) → WellFormed F → Coincide (ruleOf v F h p)
-  pub no-success : (F : Facts) (h : ℕ) (p : List ℕ) (w : Width) (x y a n : ℕ) → NoSuccess (everyCheck F h p w x y a n)
-  pub refusal-keeps : (v : Service) (F : Facts) (h : ℕ) (p : List ℕ) → RefusalKeeps F p (ruleOf v F h p)
+  pub one-outcome : (number : ℕ) (F : Facts) (h : ℕ) (p : List ℕ) → WellFormed F → Coincide (Call number F h p)
+  pub refusal-keeps : (number : ℕ) (F : Facts) (h : ℕ) (p : List ℕ) → RefusalKeeps F p (Call number F h p)
   -- a packet's numbers are bytes: RequestIO alone needs to know it, whose count a grant keeps in one byte
-  pub stays-formed : (v : Service) (F : Facts) (h : ℕ) (p : List ℕ) (o : Outcome) → WellFormed F → Bytes p → ruleOf v F h p o
+  pub stays-formed : (number : ℕ) (F : Facts) (h : ℕ) (p : List ℕ) (o : Outcome) → WellFormed F → Bytes p → Call number F h p o
       → WellFormed (o .facts)
 
 -- of the host's calls
@@ -108,6 +89,9 @@ pub record ExactlyWhen : Type 0 where
       → (o .code ≡ BadBase) ↔ NotAllManaged F p
   pub io-named : (F : Facts) (h : ℕ) (p : List ℕ) (o : Outcome) → Passed (ioAheadChecks F h p []) → baseAsked p ≢ 0 → RequestIo F h p o
       → (o .code ≢ Success) ↔ (NotAllManaged F p ⊎ InTheWay F p)
+  -- what is left of a named base is IN_USE: all is managed, and a grant is in the way
+  pub io-in-use : (F : Facts) (h : ℕ) (p : List ℕ) (o : Outcome) → Passed (ioAheadChecks F h p []) → baseAsked p ≢ 0 → RequestIo F h p o
+      → (o .code ≡ InUse) ↔ ((NotAllManaged F p → ⊥) × InTheWay F p)
   -- RequestIO with base 0 answers IN_USE exactly if there is no candidate, and is refused for no other reason
   pub io-chosen : (F : Facts) (h : ℕ) (p : List ℕ) (o : Outcome) → Passed (ioAheadChecks F h p []) → baseAsked p ≡ 0 → RequestIo F h p o
       → (o .code ≡ InUse) ↔ NoCandidate F p

@@ -3,7 +3,7 @@ use Rattle.history.specs.Events.{Ours}
 use Rattle.history.specs.Codes.{codesOf, CanGive}
 use Rattle.history.specs.Laws.{ExactCodes}
 use Rattle.history.proofs.Impossible.{none-else}
-use Rattle.history.proofs.Giving.{each-in}
+use Rattle.history.proofs.Listed.{each-in}
 use Rattle.history.proofs.Examples.{examples}
 
 pub exact-codes : ExactCodes Ours

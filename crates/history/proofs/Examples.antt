@@ -35,7 +35,8 @@ use Rattle.cases.proofs.Cases.{cases}
 use Rattle.cases.proofs.Permitted.{as-left, as-kept, _then_, _nor_}
 use Rattle.history.specs.Events.{Ours}
 use Rattle.history.specs.Codes.{Asked, service, no-service, card-in, card-out, boot-list, sharers-of, fresh-table, codesOf, CanGive}
-use Rattle.history.proofs.Giving.{Each, allBytes, no-table, uncalled, general, accepted, serving, calls, gives, refuses, boots}
+use Rattle.history.proofs.Listed.{Each}
+use Rattle.history.proofs.Giving.{allBytes, no-table, uncalled, general, accepted, serving, calls, gives, refuses, boots}
 use Rattle.history.proofs.Giving.{level-named, range-named, first, here, _past_}
 use Rattle.history.proofs.OnSockets.{two-sockets, one-client, for, own-passed, own-refuses, begins}
 use Rattle.history.proofs.OnSockets.{irqRequests, irqReleases, ioRequests, ioReleases, maskRequests, maskReleases}
@@ -118,7 +119,7 @@ numbered releaseIo = omega arith
 numbered requestSocketMask = omega arith
 numbered releaseSocketMask = omega arith
 
-none-serves : Serves 0 → ⊥
+pub none-serves : Serves 0 → ⊥
 none-serves s = omega (arith, s .number-is, numbered (s .service))
 
 -- card in and card out, and the number of sharers

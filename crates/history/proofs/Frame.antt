@@ -16,7 +16,7 @@ use Rattle.facts.specs.Resources.{actionOf, add, remove, first, next}
 use Rattle.facts.specs.Services.{Service, registerClient, adjustResourceInfo, serviceNumber}
 use Rattle.facts.proofs.Codes.{code-injective}
 use Rattle.facts.proofs.Unique.{number-injective}
-use Rattle.history.specs.Events.{Event, call, cardIn, cardOut, boot, sharers, Ours}
+use Rattle.history.specs.Events.{Event, makeFresh, call, cardIn, cardOut, boot, sharers, GoesOn, Ours}
 use Rattle.history.specs.Stands.{Fact, Made, GivenBack, Makes, GivesBack, registration}
 use Rattle.history.specs.Stands.{client-made, mask-made, level-made, range-made, io-made, irq-made}
 use Rattle.history.specs.Stands.{client-back, mask-back, level-back, range-back, io-back, irq-back}
@@ -26,6 +26,7 @@ use Rattle.history.specs.Names.{release-io, request-irq, release-irq}
 use Rattle.history.specs.Demand.{Frame, CardOutKeeps}
 use Rattle.history.proofs.Steps.{EventTurns, refused-issues}
 use Rattle.history.proofs.Runs.{passes}
+use Rattle.history.proofs.Laws.{stays}
 
 -- what is made is named, and what is given back
 made-named : {h : ℕ} {p : List ℕ} {a : ℕ} {q : List ℕ} (v : Service) (f : Fact) → Made h p a q v f → NamedBy h p a v (nameOf f)
@@ -41,10 +42,11 @@ back-named v f client-back = deregister
 back-named v f mask-back = release-mask
 back-named v f (level-back e i) = adjust-level e (inr i)
 back-named v f (range-back w n e i) = adjust-range w n e (inr i)
-back-named v f io-back = release-io
-back-named v f irq-back = release-irq
+back-named v f (io-back client base count) = release-io
+back-named v f (irq-back client level type) = release-irq
 
 makes-names : (e : Event) (f : Fact) → Makes e f → Names e (nameOf f)
+makes-names (makeFresh n k) f m = absurd m
 makes-names (call n h p k a q) f (s, v, i, m) = (s, v, i, made-named v f m)
 makes-names (cardIn s k) f (e, i) = (e, ap nameOf i)
 makes-names (cardOut s k) f m = absurd m
@@ -52,6 +54,7 @@ makes-names (boot b k i) f (r, m, x) = (r, m, f, x, refl)
 makes-names (sharers l k c) f m = absurd m
 
 back-names : (e : Event) (f : Fact) → GivesBack e f → Names e (nameOf f)
+back-names (makeFresh n k) f m = absurd m
 back-names (call n h p k a q) f (s, v, i, m) = (s, v, i, back-named v f m)
 back-names (cardIn s k) f m = absurd m
 back-names (cardOut s k) f (e, i) = (e, ap nameOf i)
@@ -81,6 +84,7 @@ showing-names-none h p k a q shows x m = go shows (adjusting-names x named)
 
 -- an event that doesn't name the number issued registers nobody
 unregistered : (e : Event) → (Names e the-issued → ⊥) → registration e ≡ 0
+unregistered (makeFresh n k) none = refl
 unregistered (call n h p k a q) none = go (ℕ-discrete n (serviceNumber registerClient)) (ℕ-discrete (numberOf k) (numberOf Success))
   where
     go : Dec (n ≡ serviceNumber registerClient) → Dec (numberOf k ≡ numberOf Success) → registration (call n h p k a q) ≡ 0
@@ -94,24 +98,38 @@ unregistered (boot b k i) none = refl
 unregistered (sharers l k c) none = refl
 
 framed : (e : Event) (F G : Facts) → EventTurns e F G → Framed e F G
-framed e F G t =
+framed e F G t x none =
     record {
-      names = λ x none. record {
-        facts = λ f i. (
-          (λ y. ⊎-elim (λ b. absurd (none (subst (Names e) i (back-names e f b)))) (λ z. z) (t .each f .0 y)),
-          (λ y. ⊎-elim (λ m. absurd (none (subst (Names e) i (makes-names e f m)))) (λ z. z) (t .each f .1 y)),
-        );
-        issued = λ i. omega (arith, t .issued, unregistered e (λ m. none (subst (Names e) (sym i) m)));
-      };
-      sockets = sym (t .sockets);
+      facts = λ f i. (
+        (λ y. ⊎-elim (λ b. absurd (none (subst (Names e) i (back-names e f b)))) (λ z. z) (t .each f .0 y)),
+        (λ y. ⊎-elim (λ m. absurd (none (subst (Names e) i (makes-names e f m)))) (λ z. z) (t .each f .1 y)),
+      );
+      issued = λ i. omega (arith, t .issued, unregistered e (λ m. none (subst (Names e) (sym i) m)));
+      sockets = λ i. sym (t .sockets);
     }
 
+-- a table's life goes on, or a fresh table names everything
+on-or-fresh : (e : Event) → GoesOn e ⊎ ((x : Name) → Names e x)
+on-or-fresh (makeFresh n k) = go (ℕ-discrete (numberOf k) (numberOf Success))
+  where
+    go : Dec (numberOf k ≡ numberOf Success) → GoesOn (makeFresh n k) ⊎ ((x : Name) → Names (makeFresh n k) x)
+    go (yes e) = inr (λ x. code-injective k Success e)
+    go (no d) = inl (λ e. d (ap numberOf e))
+on-or-fresh (call n h p k a q) = inl tt
+on-or-fresh (cardIn s k) = inl tt
+on-or-fresh (cardOut s k) = inl tt
+on-or-fresh (boot r k i) = inl tt
+on-or-fresh (sharers l k c) = inl tt
+
 pub frame : Frame Ours
-frame e b b′ a x = let s = passes a e x in record { before = a; after = s .left; holds = framed e (a .facts) (s .left .facts) (s .turns) }
+frame e b b′ a x =
+    ⊎-elim (λ on. let s = passes a e on x in record { before = a; after = s .left; holds = framed e (a .facts) (s .left .facts) (s .turns) })
+    (λ all. record { before = a; after = stays e b b′ x a; holds = λ y none. absurd (none (all y)) })
+    (on-or-fresh e)
 
 pub card-out : CardOutKeeps Ours
 card-out s k b b′ a x =
-    let y = passes a (cardOut s k) x in
+    let y = passes a (cardOut s k) tt x in
     record {
       before = a;
       after = y .left;

@@ -30,16 +30,6 @@ use Rattle.cases.proofs.Permitted.{as-kept, _then_, _nor_}
 use Rattle.history.specs.Events.{Ours}
 use Rattle.history.specs.Codes.{service, boot-list, CanGive}
 
--- each of those listed
-module _ {A : Type 0} (P : A → Type 0) where
-  abbrev pub Each : List A → Type 0
-  Each [] = Unit {0}
-  Each (x ∷ xs) = P x × Each xs
-
-  pub each-in : (xs : List A) → Each xs → (x : A) → x ∈ xs → P x
-  each-in (y ∷ xs) e x (inl q) = subst P (sym q) (e .0)
-  each-in (y ∷ xs) e x (inr m) = each-in xs (e .1) x m
-
 -- a packet's numbers are bytes: a computed test
 abbrev pub allBytes : List ℕ → Bool
 allBytes [] = true
@@ -90,7 +80,7 @@ module _ {F : Facts} (w : WellFormed F) where
 
   -- what a rule leaves is well formed, too
   pub left : (v : Service) (h : ℕ) (p : List ℕ) (o : Outcome) → T (allBytes p) → ruleOf v F h p o → WellFormed (o .facts)
-  left v h p o t = service-laws .stays-formed v F h p o w (bytes p t)
+  left v h p o t r = service-laws .stays-formed (serviceNumber v) F h p o w (bytes p t) (inl (record { service = v; number-is = refl }, r))
 
 -- the first check that applies: it stands here, or past one that doesn't apply
 pub here : {A B : Type 0} {k : Code} → A → (A × (k ≡ k)) ⊎ B

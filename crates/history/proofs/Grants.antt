@@ -16,9 +16,11 @@ use Rattle.facts.specs.Packets.{withWord}
 use Rattle.facts.specs.Checks.{Outcome, Passed}
 use Rattle.facts.specs.Sockets.{socketOf, withCard}
 use Rattle.facts.specs.Resources.{withLevel}
-use Rattle.facts.specs.Irq.{GrantsIrq, withIrq, irqGrant, irqRequestChecks, requestIrqLength, ownIrqChecks, levelChecks, mannerAsked}
-use Rattle.facts.specs.Irq.{withPulse, assignedIrq}
-use Rattle.facts.specs.Io.{GrantsIo, BaseTaken, withIo, ioGrant, ioRequestChecks, requestIoLength, ownIoChecks, baseChecks, baseAsked, countAsked}
+use Rattle.facts.specs.Levels.{typeOf}
+use Rattle.facts.specs.Irq.{GrantsIrq, IrqHeld, withIrq, irqGrant, irqRequestChecks, irqReleaseChecks, requestIrqLength, ownIrqChecks, levelChecks}
+use Rattle.facts.specs.Irq.{mannerAsked, typeAsked, withPulse, assignedIrq}
+use Rattle.facts.specs.Io.{GrantsIo, IoHeld, BaseTaken, withIo, ioGrant, ioRequestChecks, ioReleaseChecks, requestIoLength, ownIoChecks, baseChecks}
+use Rattle.facts.specs.Io.{baseAsked, countAsked}
 use Rattle.facts.specs.Services.{requestIrq, releaseIrq, requestIo, releaseIo}
 use Rattle.facts.proofs.Sets.{put-same}
 use Rattle.facts.proofs.Told.{told}
@@ -75,22 +77,21 @@ unless {g = g} free e = absurd (free (λ n. Option·some-ne-none g (sym e ∙ n)
 word-back : (p : List ℕ) (n : ℕ) → 3 < length p → n < 65536 → baseAsked (withWord p 2 n) ≡ n
 word-back p n l s = omega (arith, word-low p 2 n (omega arith), word-high p 2 n (omega arith))
 
+-- what a release that passes its checks finds: the client holds what it names
+module _ (F : Facts) (h : ℕ) (p : List ℕ) where
+  io-release-passed : Passed (ioReleaseChecks F h p) → (IoHeld F h (socketOf p) (baseAsked p) (countAsked p) → ⊥) → ⊥
+  io-release-passed (sized, (live, (socket, (size, (held, end))))) = held
+
+  irq-release-passed : Passed (irqReleaseChecks F h p)
+      → ((((g : IrqGrant) → IrqHeld F h (socketOf p) (assignedIrq p) g → ⊥) → ⊥)
+      × ((g : IrqGrant) × IrqHeld F h (socketOf p) (assignedIrq p) g × (typeOf (g .manner) ≢ typeAsked p) → ⊥))
+  irq-release-passed (sized, (live, (socket, (held, (type, end))))) = (held, type)
+
 module _ (F : Facts) (h : ℕ) (p : List ℕ) (o : Outcome) where
-  pub request-io-turns : Passed (ioRequestChecks F h p) → GrantsIo F h p o
-      → Turns (GivenBack h p requestIo) (Made h p (o .handle) (o .packet) requestIo) 0 F (o .facts)
-  request-io-turns passed granted =
-      subst (Turns (GivenBack h p requestIo) (Made h p (o .handle) (o .packet) requestIo) 0 F) (sym (granted .leaves .facts))
-      (io-turns F (socketOf p) _ _ (some new) (io-only _ (put-same (F .io) (socketOf p) (some new) ∙ ap (λ (b : ℕ). some (ioGrant h p b)) (sym answered)))
-      (request-io-keeps _) (λ g e. unless (own .1 .1 .0) e)
-      (λ g e. inl (subst (λ (x : IoGrant). Made h p (o .handle) (o .packet) requestIo (io (socketOf p) x))
-      (ap (ioGrant h p) answered ∙ Option·some-injective new g e) io-made)))
+  -- the base that a granted RequestIO writes is the one that is taken
+  pub base-answered : Passed (ioRequestChecks F h p) → (granted : GrantsIo F h p o) → baseAsked (o .packet) ≡ granted .base
+  base-answered passed granted = ap baseAsked (granted .leaves .packet) ∙ word-back p (granted .base) (omega (arith, size)) (small (granted .taken))
     where
-      base : ℕ
-      base = granted .base
-
-      new : IoGrant
-      new = ioGrant h p base
-
       own : Passed (ownIoChecks F p (baseChecks F p))
       own = request-passed requestIoLength F h p (ownIoChecks F p (baseChecks F p)) passed
 
@@ -100,19 +101,61 @@ module _ (F : Facts) (h : ℕ) (p : List ℕ) (o : Outcome) where
       port : 1 ≤ countAsked p
       port = told (decLe 1 (countAsked p)) (λ d. own .1 .0 (inl (omega arith)))
 
-      small : BaseTaken F p base → base < Table.allPorts
+      small : BaseTaken F p (granted .base) → granted .base < Table.allPorts
       small (inl named) =
           omega (arith, port, named .1, told (decLe (baseAsked p + countAsked p) Table.allPorts) (λ d. own .1 .1 .1 .0 (named .0, inl (omega arith))))
       small (inr chosen) = omega (arith, port, chosen .1 .fits .within)
 
-      answered : baseAsked (o .packet) ≡ base
-      answered = ap baseAsked (granted .leaves .packet) ∙ word-back p base (omega (arith, size)) (small (granted .taken))
+  pub request-io-turns : Passed (ioRequestChecks F h p) → GrantsIo F h p o
+      → Turns (GivenBack h p requestIo) (Made h p (o .handle) (o .packet) requestIo) 0 F (o .facts)
+  request-io-turns passed granted =
+      subst (Turns (GivenBack h p requestIo) (Made h p (o .handle) (o .packet) requestIo) 0 F) (sym (granted .leaves .facts))
+      (io-turns F (socketOf p) _ _ (some new) (io-only _ (put-same (F .io) (socketOf p) (some new) ∙ ap (λ (b : ℕ). some (ioGrant h p b)) (sym answered)))
+      (request-io-keeps _) (λ g e. unless (own .1 .1 .0) e)
+      (λ g e. inl (subst (λ (x : IoGrant). Made h p (o .handle) (o .packet) requestIo (io (socketOf p) x))
+      (ap (ioGrant h p) answered ∙ Option·some-injective new g e) io-made)))
+    where
+      new : IoGrant
+      new = ioGrant h p (granted .base)
 
-  pub release-io-turns : Turns (GivenBack h p releaseIo) (Made h p (o .handle) (o .packet) releaseIo) 0 F (withIo F (socketOf p) none)
-  release-io-turns =
+      own : Passed (ownIoChecks F p (baseChecks F p))
+      own = request-passed requestIoLength F h p (ownIoChecks F p (baseChecks F p)) passed
+
+      answered : baseAsked (o .packet) ≡ granted .base
+      answered = base-answered passed granted
+
+  pub release-io-turns : Passed (ioReleaseChecks F h p)
+      → Turns (GivenBack h p releaseIo) (Made h p (o .handle) (o .packet) releaseIo) 0 F (withIo F (socketOf p) none)
+  release-io-turns passed =
       io-turns F (socketOf p) _ _ none (release-io-makes-none _)
-      (io-back-only _ (λ g e. Option·none-ne-some g (sym (put-same (F .io) (socketOf p) none) ∙ e))) (λ g e. inl io-back)
+      (io-back-only _ (λ g client base count e. Option·none-ne-some g (sym (put-same (F .io) (socketOf p) none) ∙ e)))
+      (λ g e. inl (io-back (own g e (λ x. x .client) h (λ held. held .client)) (own g e (λ x. x .ports .base) (baseAsked p) (λ held. held .base-is))
+      (own g e (λ x. x .ports .count) (countAsked p) (λ held. held .count-is))))
       (λ g e. absurd (Option·none-ne-some g e))
+    where
+      Holds : Type 0
+      Holds = IoHeld F h (socketOf p) (baseAsked p) (countAsked p)
+
+      -- the grant that stands there is the one that the client holds
+      own : (g : IoGrant) → F .io (socketOf p) ≡ some g → (number : IoGrant → ℕ) (n : ℕ) → ((held : Holds) → number (held .grant) ≡ n) → number g ≡ n
+      own g e number n is =
+          told (ℕ-discrete (number g) n)
+          (λ d. io-release-passed F h p passed (λ held. d (ap number (Option·some-injective g (held .grant) (sym e ∙ held .live)) ∙ is held)))
+
+  -- the level that a granted RequestIRQ writes is the one that is taken
+  pub level-answered : Passed (irqRequestChecks F h p) → (granted : GrantsIrq F h p o) → assignedIrq (o .packet) ≡ granted .level
+  level-answered passed granted =
+      ap assignedIrq (granted .leaves .packet)
+      ∙ byte-same (withPulse (mannerAsked p) p) 4 (granted .level) (omega (arith, size, pulse-length (mannerAsked p)))
+    where
+      size : length p ≡ requestIrqLength
+      size = told (ℕ-discrete (length p) requestIrqLength) (passed .0)
+
+      pulse-length : (m : Manner) → length (withPulse m p) ≡ length p
+      pulse-length Exclusive = refl
+      pulse-length TimeMultiplexed = refl
+      pulse-length DynamicLevel = refl
+      pulse-length DynamicPulse = word-length p 2 _
 
   pub request-irq-turns : Passed (irqRequestChecks F h p) → GrantsIrq F h p o
       → Turns (GivenBack h p requestIrq) (Made h p (o .handle) (o .packet) requestIrq) 0 F (o .facts)
@@ -129,22 +172,32 @@ module _ (F : Facts) (h : ℕ) (p : List ℕ) (o : Outcome) where
       own : Passed (ownIrqChecks F p (levelChecks F p))
       own = request-passed requestIrqLength F h p (ownIrqChecks F p (levelChecks F p)) passed
 
-      size : length p ≡ requestIrqLength
-      size = told (ℕ-discrete (length p) requestIrqLength) (passed .0)
-
-      pulse-length : (m : Manner) → length (withPulse m p) ≡ length p
-      pulse-length Exclusive = refl
-      pulse-length TimeMultiplexed = refl
-      pulse-length DynamicLevel = refl
-      pulse-length DynamicPulse = word-length p 2 _
-
       answered : assignedIrq (o .packet) ≡ granted .level
-      answered =
-          ap assignedIrq (granted .leaves .packet)
-          ∙ byte-same (withPulse (mannerAsked p) p) 4 (granted .level) (omega (arith, size, pulse-length (mannerAsked p)))
+      answered = level-answered passed granted
 
-  pub release-irq-turns : Turns (GivenBack h p releaseIrq) (Made h p (o .handle) (o .packet) releaseIrq) 0 F (withIrq F (socketOf p) none)
-  release-irq-turns =
+  pub release-irq-turns : Passed (irqReleaseChecks F h p)
+      → Turns (GivenBack h p releaseIrq) (Made h p (o .handle) (o .packet) releaseIrq) 0 F (withIrq F (socketOf p) none)
+  release-irq-turns passed =
       irq-turns F (socketOf p) _ _ none (release-irq-makes-none _)
-      (irq-back-only _ (λ g e. Option·none-ne-some g (sym (put-same (F .irq) (socketOf p) none) ∙ e))) (λ g e. inl irq-back)
+      (irq-back-only _ (λ g client level type e. Option·none-ne-some g (sym (put-same (F .irq) (socketOf p) none) ∙ e)))
+      (λ g e. inl (irq-back (held g e .client) (held g e .level) (told (ℕ-discrete (typeOf (g .manner)) (typeAsked p)) (λ d. checks .1 (g, held g e, d)))))
       (λ g e. absurd (Option·none-ne-some g e))
+    where
+      Holds : IrqGrant → Type 0
+      Holds = IrqHeld F h (socketOf p) (assignedIrq p)
+
+      checks : ((((g : IrqGrant) → Holds g → ⊥) → ⊥) × ((g : IrqGrant) × Holds g × (typeOf (g .manner) ≢ typeAsked p) → ⊥))
+      checks = irq-release-passed F h p passed
+
+      -- the grant that stands there is the one that the client holds
+      own : (g : IrqGrant) → F .irq (socketOf p) ≡ some g → (number : IrqGrant → ℕ) (n : ℕ) → ((x : IrqGrant) → Holds x → number x ≡ n) → number g ≡ n
+      own g e number n is =
+          told (ℕ-discrete (number g) n) (λ d. checks .0 (λ x holds. d (ap number (Option·some-injective g x (sym e ∙ holds .live)) ∙ is x holds)))
+
+      held : (g : IrqGrant) → F .irq (socketOf p) ≡ some g → Holds g
+      held g e =
+          record {
+            live = e;
+            client = own g e (λ x. x .client) h (λ x holds. holds .client);
+            level = own g e (λ x. x .level) (assignedIrq p) (λ x holds. holds .level);
+          }

@@ -19,7 +19,7 @@ use Rattle.facts.specs.Clients.{registerChecks, nextHandle}
 use Rattle.facts.specs.Services.{Service, registerClient, serviceNumber, ruleOf}
 use Rattle.facts.proofs.Unique.{number-injective}
 use Rattle.facts.proofs.Refusals.{none-succeeds, first-not-success}
-use Rattle.history.specs.Events.{Event, call, cardIn, cardOut, boot, sharers, Ours, FromFresh}
+use Rattle.history.specs.Events.{Event, makeFresh, call, cardIn, cardOut, boot, sharers, Ours, FromFresh}
 use Rattle.history.specs.Stands.{client, Made, Recorded, Registers, registration, registrations, client-made}
 use Rattle.history.specs.Demand.{NeverAgain}
 use Rattle.history.proofs.Answered.{Rules, stepped}
@@ -55,6 +55,7 @@ module _ (F G : Facts) where
         ap (λ (t : Bool). cond t (cond (eqb (numberOf k) (numberOf Success)) 1 0) 0) (eq-eqb n (serviceNumber registerClient) registers)
             ∙ ap (λ (t : Bool). cond t 1 0) (eq-eqb (numberOf k) (numberOf Success) (ap numberOf (made .0))),
       )
+  registers-next (makeFresh n k) x r (b, m, made) = absurd made
   registers-next (cardIn s k) x r (b, m, made) = absurd (omega (arith, ap kind (made .1)))
   registers-next (cardOut s k) x r (b, m, made) = absurd made
   registers-next (boot records k i) x r (b, m, made) = absurd (no-record (made .0) x b m (made .2))
@@ -66,7 +67,7 @@ pub nth-handle : (n : ℕ) (es later : List Event) (e : Event) (x : ℕ) (b : Li
 nth-handle n es later e x b from r =
     let c = cut-short Ours n es (e ∷ later) b from in
     let t = exact n es (c .0) (c .1) in
-    let s = stepped (t .accepted) e (c .2 .1) in
+    let s = stepped (t .accepted) e (c .2 .0) (c .2 .2) in
     let y = registers-next (t .accepted .facts) (s .after) e x (s .rule) r in
     (omega (arith, y .0, t .issued-are), y .1)
 

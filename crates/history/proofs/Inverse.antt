@@ -11,8 +11,9 @@ use Rattle.facts.specs.Clients.{clientAttributes, clientEvents}
 use Rattle.facts.specs.Sockets.{socketOf, eventsAsked}
 use Rattle.facts.specs.Resources.{actionOf, resourceOf, add, remove, irqLevel, ioRange, levelGiven, levelAttributes, ioAdjustLength, reserves}
 use Rattle.facts.specs.Resources.{baseGiven, countGiven, attributesGiven}
-use Rattle.facts.specs.Irq.{assignedIrq, mannerAsked}
-use Rattle.facts.specs.Io.{baseAsked, portsAt, sharedAsked}
+use Rattle.facts.specs.Levels.{typeOf}
+use Rattle.facts.specs.Irq.{assignedIrq, typeAsked, mannerAsked}
+use Rattle.facts.specs.Io.{baseAsked, countAsked, portsAt, sharedAsked}
 use Rattle.facts.specs.Services.{registerClient, deregisterClient, adjustResourceInfo, requestIrq, releaseIrq, requestIo, releaseIo}
 use Rattle.facts.specs.Services.{requestSocketMask, releaseSocketMask}
 use Rattle.history.specs.Stands.{Fact, client, mask, level, range, io, irq, Made, GivenBack, Recorded}
@@ -60,11 +61,13 @@ module _ {h : ℕ} {p : List ℕ} (P : Fact → Type 0) where
   pub mask-back-only : ((events : ℕ) → P (mask h (socketOf p) events)) → (f : Fact) → GivenBack h p releaseSocketMask f → P f
   mask-back-only x f mask-back = x _
 
-  pub io-back-only : ((g : IoGrant) → P (io (socketOf p) g)) → (f : Fact) → GivenBack h p releaseIo f → P f
-  io-back-only x f io-back = x _
+  pub io-back-only : ((g : IoGrant) → g .client ≡ h → g .ports .base ≡ baseAsked p → g .ports .count ≡ countAsked p → P (io (socketOf p) g))
+      → (f : Fact) → GivenBack h p releaseIo f → P f
+  io-back-only x f (io-back holder base count) = x _ holder base count
 
-  pub irq-back-only : ((g : IrqGrant) → P (irq (socketOf p) g)) → (f : Fact) → GivenBack h p releaseIrq f → P f
-  irq-back-only x f irq-back = x _
+  pub irq-back-only : ((g : IrqGrant) → g .client ≡ h → g .level ≡ assignedIrq p → typeOf (g .manner) ≡ typeAsked p → P (irq (socketOf p) g))
+      → (f : Fact) → GivenBack h p releaseIrq f → P f
+  irq-back-only x f (irq-back holder number type) = x _ holder number type
 
   pub adjusted-back-only : ((v : Bool) → resourceOf p ≡ irqLevel → actionOf p ≡ remove → P (level (levelGiven p) v))
       → ((v : Bool) (w : Width) → length p ≡ ioAdjustLength w → resourceOf p ≡ ioRange → actionOf p ≡ remove

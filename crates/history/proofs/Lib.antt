@@ -1,4 +1,5 @@
 -- After any run the table says what stands; and the laws over all entries. Assumes nothing.
+pub mod Listed
 pub mod Answered
 pub mod Standing
 pub mod Turns
@@ -9,18 +10,21 @@ pub mod Resources
 pub mod Steps
 pub mod Runs
 pub mod Pinned
+pub mod Laws
 pub mod Frame
+pub mod Exactly
 pub mod Handles
 pub mod Sharing
-pub mod Listed
 pub mod Impossible
 pub mod Giving
 pub mod OnSockets
 pub mod ExampleTables
 pub mod Examples
 pub mod Codes
-pub mod Laws
 pub mod Demand
 pub mod SampleRuns
 pub mod Wrong
 pub mod WrongGrants
+pub mod WrongOnce
+pub mod WrongHistory
+pub mod WrongSamples

@@ -1,5 +1,5 @@
 -- After any run the table says exactly what stands. Assumes nothing.
-use mathlib.Core.Path.{_≡_, refl, ap, sym, _∙_}
+use mathlib.Core.Path.{_≡_, refl, ap, sym, _∙_, subst}
 use mathlib.Core.Logic.{inl, inr, ⊎-elim}
 use mathlib.Core.List.{List, [], _∷_, _++_}
 use mathlib.Core.Bool.{false≢true}
@@ -10,11 +10,9 @@ use native.Mathlib.Omega.{arith}
 use Rattle.facts.specs.declared.Code.the-variants.{Success}
 use Rattle.facts.specs.Codes.{numberOf}
 use Rattle.facts.specs.Table.{Facts, Level, fresh}
-use Rattle.facts.proofs.Laws.{host-laws}
-use Rattle.layout.specs.Layout.{image}
 use Rattle.layout.specs.Sound.{Accepted}
-use Rattle.promises.specs.Entries.{FreshAnswers, FreshAllowed}
-use Rattle.history.specs.Events.{Event, Keeper, Ours, Runs, FromFresh}
+use Rattle.promises.proofs.Laws.{laws}
+use Rattle.history.specs.Events.{Event, makeFresh, Keeper, Ours, GoesOn, Runs, FromFresh}
 use Rattle.history.specs.Stands.{Fact}
 use Rattle.history.specs.Tables.{Tells}
 use Rattle.history.specs.Demand.{Exact, ExactSince}
@@ -23,14 +21,14 @@ use Rattle.history.proofs.Standing.{stands-never, since-first, first-si
 use Rattle.history.proofs.Turns.{turned, by-kind}
 use Rattle.history.proofs.Steps.{EventTurns, event-turns}
 
--- an event on an accepted table leaves one, and turns the facts of the one into those of the other
+-- an event on an accepted table with which its life goes on leaves one, and turns the facts of the one into those of the other
 pub record Passes (e : Event) (F : Facts) (b′ : List ℕ) : Type 0 where
   pub left : Accepted b′
   pub turns : EventTurns e F (left .facts)
 
-pub passes : {b b′ : List ℕ} (a : Accepted b) (e : Event) → Ours e b b′ → Passes e (a .facts) b′
-passes a e x =
-    let s = stepped a e x in
+pub passes : {b b′ : List ℕ} (a : Accepted b) (e : Event) → GoesOn e → Ours e b b′ → Passes e (a .facts) b′
+passes a e on x =
+    let s = stepped a e on x in
     record { left = record { facts = s .after; formed = s .formed; is = s .is }; turns = event-turns e (a .facts) (s .after) (a .formed) (s .rule) }
 
 pub exact-since : ExactSince Ours
@@ -41,8 +39,8 @@ exact-since b b′ [] a same =
       issued-are = sym (add-zero (a .facts .issued));
       tells = λ f. ((λ t. inr (t, λ e m. absurd m)), ⊎-elim (λ s. absurd (stands-never f s)) (λ t. t .0));
     }
-exact-since b b′ (e ∷ es) a (m, x, rest) =
-    let s = passes a e x in
+exact-since b b′ (e ∷ es) a (on, m, x, rest) =
+    let s = passes a e on x in
     let t = exact-since m b′ es (s .left) rest in
     record {
       accepted = t .accepted;
@@ -55,10 +53,6 @@ exact-since b b′ (e ∷ es) a (m, x, rest) =
     }
 
 -- a table made fresh says nothing but its socket count
-fresh-left : (n : ℕ) (old b : List ℕ) → FreshAnswers n old b (numberOf Success) → FreshAllowed n old × (b ≡ image (fresh n))
-fresh-left n old b (inl x) = (x .0, x .2)
-fresh-left n old b (inr x) = absurd (omega (arith, x .1))
-
 fresh-tells-none : (n : ℕ) (f : Fact) → Tells (fresh n) f → ⊥
 fresh-tells-none n =
     by-kind (λ (f : Fact). Tells (fresh n) f → ⊥) (λ h a m t. t .1) (λ h s m t. t .1) (λ l r t. false≢true (ap (λ (v : Level). v .managed) t)) (λ r t. t)
@@ -71,20 +65,20 @@ pub record Begins (n : ℕ) (b : List ℕ) : Type 0 where
   pub issued : start .facts .issued ≡ 0
   pub nothing : (f : Fact) → Tells (start .facts) f → ⊥
 
-pub begins : (n : ℕ) (old b : List ℕ) → FreshAnswers n old b (numberOf Success) → Begins n b
+pub begins : (n : ℕ) (old b : List ℕ) → Ours (makeFresh n Success) old b → Begins n b
 begins n old b x =
-    let y = fresh-left n old b x in
+    let y = laws .fresh n old .accepted b (numberOf Success) x refl in
     record {
-      start = record { facts = fresh n; formed = host-laws .fresh-formed n (y .0 .least) (y .0 .most); is = sym (y .1) };
-      sockets = refl;
-      issued = refl;
-      nothing = fresh-tells-none n;
+      start = y .0;
+      sockets = ap (λ (F : Facts). F .sockets) (y .1);
+      issued = ap (λ (F : Facts). F .issued) (y .1);
+      nothing = λ f t. fresh-tells-none n f (subst (λ (F : Facts). Tells F f) (y .1) t);
     }
 
--- so what holds from any table holds from a fresh one
-pub fresh-exact : (K : Keeper) → ExactSince K → Exact K
-fresh-exact K since n es b from =
-    let s = begins n (from .old) (from .start) (from .made) in
+-- so what holds from any table holds from a fresh one, of a keeper that makes fresh tables as this one
+pub fresh-exact : (K : Keeper) → ((n : ℕ) (b b′ : List ℕ) → K (makeFresh n Success) b b′ → Ours (makeFresh n Success) b b′) → ExactSince K → Exact K
+fresh-exact K makes since n es b from =
+    let s = begins n (from .old) (from .start) (makes n (from .old) (from .start) (from .made)) in
     let t = since (from .start) b es (s .start) (from .runs) in
     record {
       accepted = t .accepted;
@@ -94,13 +88,13 @@ fresh-exact K since n es b from =
     }
 
 pub exact : Exact Ours
-exact = fresh-exact Ours exact-since
+exact = fresh-exact Ours (λ n b b′ x. x) exact-since
 
 -- a run can be cut anywhere
 pub run-cut : (K : Keeper) (b : List ℕ) (es more : List Event) (b′ : List ℕ) → Runs K b (es ++ more) b′
     → (m : List ℕ) × Runs K b es m × Runs K m more b′
 run-cut K b [] more b′ r = (b, refl, r)
-run-cut K b (e ∷ es) more b′ (m, x, r) = let c = run-cut K m es more b′ r in (c .0, (m, x, c .1), c .2)
+run-cut K b (e ∷ es) more b′ (on, m, x, r) = let c = run-cut K m es more b′ r in (c .0, (on, m, x, c .1), c .2)
 
 -- a run up to any of its events is a run
 pub cut-short : (K : Keeper) (n : ℕ) (es more : List Event) (b : List ℕ) → FromFresh K n (es ++ more) b

@@ -6,14 +6,16 @@ use mathlib.Core.Bool.{true, false≢true}
 use mathlib.Core.Option.{some, Option·none-ne-some}
 use Prim.Native.Nat.{ℕ, _<_}
 use native.Mathlib.Omega.{arith}
+use lib.ListN.{length}
 use Rattle.facts.specs.declared.Code.{Code}
 use Rattle.facts.specs.declared.Code.the-variants.{Success}
-use Rattle.facts.specs.Table.{Facts, IrqGrant, fresh}
+use Rattle.facts.specs.Table.{Facts, IrqGrant, fresh, mostClients, mostIssued}
 use Rattle.facts.specs.WellFormed.{WellFormed}
+use Rattle.facts.specs.Clients.{Register, nextHandle, registered as entered}
 use Rattle.facts.specs.Sockets.{withCard}
 use Rattle.facts.specs.Checks.{Passed}
 use Rattle.facts.specs.Resources.{levelAdded, addLevelChecks, addRangeChecks}
-use Rattle.facts.specs.Services.{registerClient, adjustResourceInfo, serviceNumber}
+use Rattle.facts.specs.Services.{registerClient, adjustResourceInfo, requestIrq, requestIo, serviceNumber}
 use Rattle.facts.specs.declared.Width.the-variants.{Wide}
 use Rattle.facts.proofs.Formed.{card-formed}
 use Rattle.facts.proofs.ResourcesStay.{level-added-formed}
@@ -23,21 +25,19 @@ use Rattle.layout.proofs.Image.{image-length}
 use Rattle.cases.specs.Cases.{done, oneClient, clientPacket}
 use Rattle.cases.proofs.Cases.{cases}
 use Rattle.cases.proofs.Permitted.{as-left, _then_, _nor_}
-use Rattle.history.specs.Events.{Event, call, cardIn, Keeper, Ours, Runs, FromFresh}
+use Rattle.history.specs.Events.{Event, makeFresh, call, cardIn, Keeper, Ours, Runs, FromFresh}
 use Rattle.history.proofs.Answered.{accepted-one}
-use Rattle.history.proofs.Giving.{accepted, serving, serves, level-named, range-named}
-use Rattle.history.proofs.OnSockets.{two-sockets, one-client}
-use Rattle.history.proofs.ExampleTables.{idle}
+use Rattle.history.proofs.Giving.{accepted, serving, serves, left, level-named, range-named}
+use Rattle.history.proofs.OnSockets.{Ready, ready, two-sockets, one-client, for}
+use Rattle.history.proofs.ExampleTables.{idle, irqHeld, ioHeld, idle-ready, irq-ready, irqAsked, ioAsked, irqNaming, irq-granted, io-granted}
 
 -- from a fresh table of two sockets
-pub from-two : {K : Keeper} (es : List Event) (b : List ℕ) → Runs K (image (fresh 2)) es b → FromFresh K 2 es b
-from-two es b runs =
-    record {
-      old = image (fresh 2);
-      start = image (fresh 2);
-      made = inl (record { size = image-length (fresh 2); least = omega arith; most = omega arith }, refl, refl);
-      runs = runs;
-    }
+pub made-two : Ours (makeFresh 2 Success) (image (fresh 2)) (image (fresh 2))
+made-two = inl (record { size = image-length (fresh 2); least = omega arith; most = omega arith }, refl, refl)
+
+pub from-two : {K : Keeper} → K (makeFresh 2 Success) (image (fresh 2)) (image (fresh 2)) → (es : List Event) (b : List ℕ)
+    → Runs K (image (fresh 2)) es b → FromFresh K 2 es b
+from-two made es b runs = record { old = image (fresh 2); start = image (fresh 2); made = made; runs = runs }
 
 -- what a table says is its set of facts
 pub says : {F : Facts} → WellFormed F → (a : Accepted (image F)) → a .facts ≡ F
@@ -112,19 +112,74 @@ range-in =
     range-free =
         ((λ e. e (inl refl)) nor omega arith) then (omega arith nor omega arith) then (omega arith) then (λ e. e .2 .listed) then (omega arith) then tt
 
--- a keeper that does the same at calls and card in, where there is no IRQ grant
+-- what is asked for: the level 3, and the ports 300 to 307
+abbrev pub asksIrq : Event
+asksIrq = call (serviceNumber requestIrq) 1 (for 0 irqAsked) Success 1 (for 0 (irqNaming 3 3))
+
+abbrev pub asksIo : Event
+asksIo = call (serviceNumber requestIo) 1 (for 0 ioAsked) Success 1 (for 0 ioAsked)
+
+pub irq-step : Ours asksIrq (image idle) (image irqHeld)
+irq-step = serves (idle-ready .formed) requestIrq 1 (for 0 irqAsked) (done 1 (for 0 (irqNaming 3 3)) irqHeld) tt irq-granted
+
+pub io-step : Ours asksIo (image irqHeld) (image ioHeld)
+io-step = serves (irq-ready .formed) requestIo 1 (for 0 ioAsked) (done 1 (for 0 ioAsked) ioHeld) tt io-granted
+
+-- a client more registers, where there is room
+pub register-permitted : (F : Facts) → length (F .clients) < mostClients → F .issued < mostIssued
+    → Register F 0 clientPacket (done (nextHandle F) clientPacket (entered F 4 0))
+register-permitted F room issued =
+    inr (
+      (λ e. e refl)
+          then (λ e. e (record { bits = omega arith; type = inr (inr refl) }))
+          then (λ e. e (omega arith))
+          then ((λ e. omega (arith, e, room)) nor (λ e. omega (arith, e, issued)))
+          then tt,
+      (refl, as-left _),
+    )
+
+-- a second one
+abbrev pub pair : Facts
+pair = entered idle 4 0
+
+pub second-registered : Ours (registers 2) (image idle) (image pair)
+second-registered =
+    serves (idle-ready .formed) registerClient 0 clientPacket (done 2 clientPacket pair) tt (register-permitted idle (omega arith) (omega arith))
+
+pub pair-formed : WellFormed pair
+pair-formed = left (idle-ready .formed) registerClient 0 clientPacket (done 2 clientPacket pair) tt (register-permitted idle (omega arith) (omega arith))
+
+pub pair-ready : Ready pair
+pair-ready = ready pair-formed _ (inl refl) refl
+
+-- a keeper that does the same at cs_fresh, at calls and at card in, where there is no IRQ grant
 abbrev Same : Keeper → Event → Type 0
 Same K e = (F G : Facts) → WellFormed F → Ungranted F → Ours e (image F) (image G) → K e (image F) (image G)
 
+pub record BeginsAlike (K : Keeper) : Type 0 where
+  pub makes : (n : ℕ) (k : Code) → Same K (makeFresh n k)
+  pub calls : (n h : ℕ) (p : List ℕ) (k : Code) (a : ℕ) (q : List ℕ) → Same K (call n h p k a q)
+  pub cards : (s : ℕ) (k : Code) → Same K (cardIn s k)
+
 -- comes to the table of the examples
-pub set-up : (K : Keeper) → ((n h : ℕ) (p : List ℕ) (k : Code) (a : ℕ) (q : List ℕ) → Same K (call n h p k a q)) → ((s : ℕ) (k : Code) → Same K (cardIn s k))
-    → (es : List Event) (b : List ℕ) → Runs K (image idle) es b → FromFresh K 2 (before ++ es) b
-set-up K calls cards es b rest =
-    let range-step : Runs K (image levelled) (adjusts addRange ∷ es) b = (image idle, calls _ _ _ _ _ _ levelled idle levelled-formed ungranted range-in, rest) in
+pub set-up : (K : Keeper) → BeginsAlike K → (es : List Event) (b : List ℕ) → Runs K (image idle) es b → FromFresh K 2 (before ++ es) b
+set-up K begins es b rest =
+    let range-step : Runs K (image levelled) (adjusts addRange ∷ es) b =
+    (tt, image idle, begins .calls _ _ _ _ _ _ levelled idle levelled-formed ungranted range-in, rest) in
     let level-step : Runs K (image carded) (adjusts addLevel ∷ adjusts addRange ∷ es) b =
-    (image levelled, calls _ _ _ _ _ _ carded levelled carded-formed ungranted level-in, range-step) in
+    (tt, image levelled, begins .calls _ _ _ _ _ _ carded levelled carded-formed ungranted level-in, range-step) in
     let card-step : Runs K (image oneCard) (cardIn 1 Success ∷ adjusts addLevel ∷ adjusts addRange ∷ es) b =
-    (image carded, cards _ _ oneCard carded one-card-formed ungranted (card-in 1 oneCard one-card-formed (omega arith)), level-step) in
+    (tt, image carded, begins .cards _ _ oneCard carded one-card-formed ungranted (card-in 1 oneCard one-card-formed (omega arith)), level-step) in
     let first-card : Runs K (image oneClient) (cardIn 0 Success ∷ cardIn 1 Success ∷ adjusts addLevel ∷ adjusts addRange ∷ es) b =
-    (image oneCard, cards _ _ oneClient oneCard (one-client .formed) ungranted (card-in 0 oneClient (one-client .formed) (omega arith)), card-step) in
-    from-two (before ++ es) b (image oneClient, calls _ _ _ _ _ _ (fresh 2) oneClient two-sockets ungranted registered, first-card)
+    (tt, image oneCard, begins .cards _ _ oneClient oneCard (one-client .formed) ungranted (card-in 0 oneClient (one-client .formed) (omega arith)), card-step) in
+    from-two (begins .makes 2 Success (fresh 2) (fresh 2) two-sockets ungranted made-two) (before ++ es) b
+    (tt, image oneClient, begins .calls _ _ _ _ _ _ (fresh 2) oneClient two-sockets ungranted registered, first-card)
+
+-- and, once the second client is registered, goes on from there
+pub set-up-two : (K : Keeper) → BeginsAlike K → (es : List Event) (b : List ℕ) → Runs K (image pair) es b → FromFresh K 2 (before ++ (registers 2 ∷ es)) b
+set-up-two K begins es b rest =
+    set-up K begins (registers 2 ∷ es) b
+    (tt, image pair, begins .calls _ _ _ _ _ _ idle pair (idle-ready .formed) ungranted second-registered, rest)
+
+pub ours-begins : BeginsAlike Ours
+ours-begins = record { makes = λ n k F G w free s. s; calls = λ n h p k a q F G w free s. s; cards = λ t k F G w free s. s }

@@ -1,31 +1,26 @@
 -- Sharers are the standing grants, and standing grants meet only as both asked for it. Assumes nothing.
 use mathlib.Core.Path.{_≡_, refl, ap, sym, _∙_, subst}
-use mathlib.Core.Logic.{inl, inr, ⊎-elim, _↔_}
+use mathlib.Core.Logic.{inl, inr, ⊎-elim, _↔_, _≢_}
 use mathlib.Core.List.{List, [], _∷_}
 use mathlib.Core.Bool.{Bool, cond}
 use mathlib.Core.Option.{Option, none, some, Option·none-ne-some, Option·some-injective}
-use Prim.Native.Nat.{ℕ, zero, suc, _+_, _≤_, _<_}
+use Prim.Native.Nat.{ℕ, zero, suc, _+_, _<_}
 use native.Mathlib.Decide.{ℕ-discrete}
 use native.Mathlib.Omega.{arith}
 use lib.Dec.{eqb}
-use borrow.Author.Tests.{eqb-true, eq-eqb, ne-eqb}
+use borrow.Author.Tests.{eq-eqb, ne-eqb}
 use Rattle.facts.specs.declared.Code.the-variants.{Success}
-use Rattle.facts.specs.Table
-use Rattle.facts.specs.Table.{Facts, IrqGrant}
+use Rattle.facts.specs.Table.{Facts, IoGrant, IrqGrant}
 use Rattle.facts.specs.Sets.{_∈_}
-use Rattle.facts.specs.Packets.{bit}
 use Rattle.facts.specs.WellFormed.{WellFormed}
-use Rattle.facts.specs.Sockets.{socketOf}
-use Rattle.facts.specs.Irq.{sharer, sharersBelow, sharersChecks, Sharers, assignedIrq, mannerAsked}
-use Rattle.facts.specs.Io.{ioAttributes, baseAsked, portsAt, sharedAsked}
-use Rattle.facts.specs.Services.{requestIrq, requestIo}
+use Rattle.facts.specs.Irq.{sharer, sharersBelow, sharersChecks, Sharers}
 use Rattle.facts.proofs.Refusals.{none-succeeds, first-not-success}
-use Rattle.facts.proofs.Sharing.{sharers-most}
-use Rattle.history.specs.Events.{Event, sharers, Ours}
-use Rattle.history.specs.Stands.{Fact, io, irq, Stands}
-use Rattle.history.specs.Demand.{Number, SharersCounted, StandsOf, PortsApart, LevelsApart}
-use Rattle.history.proofs.Answered.{stepped}
-use Rattle.history.proofs.Inverse.{io-only, irq-only}
+use Rattle.answers.specs.Answers.{packed}
+use Rattle.promises.proofs.Laws.{laws}
+use Rattle.history.specs.Events.{Event, sharers, Ours, FromFresh}
+use Rattle.history.specs.Stands.{io, irq, Stands}
+use Rattle.history.specs.Demand.{Number, SharersCounted, OneGrant, PortsApart, LevelsApart}
+use Rattle.history.proofs.Answered.{stepped, sharers-parts}
 use Rattle.history.proofs.Runs.{exact}
 
 -- the number is the same of what is the same
@@ -91,45 +86,52 @@ module _ (F : Facts) (l : ℕ) where
   below-counted zero = record { those = []; each = λ s. (absurd, (λ y. absurd (omega (arith, y .0)))); once = tt; count = refl }
   below-counted (suc n) = next-counted n (sharersBelow F l n) (F .irq n) refl (below-counted n)
 
-  shares-counted : (c : ℕ) → WellFormed F → Sharers F l (record { code = Success; count = c }) → Number Shares c × (c ≤ Table.mostSockets)
+  shares-counted : (c : ℕ) → WellFormed F → Sharers F l (record { code = Success; count = c }) → Number Shares c
   shares-counted c w (inl r) = absurd (first-not-success (sharersChecks l) Success (none-succeeds (sharersChecks l) tt) (r .0) refl)
-  shares-counted c w (inr r) = (
-    number-as (λ s. ((λ y. y .1), (λ y. (w .irqs s (y .0) (y .1) .socket, y))))
-        (subst (Number (λ (s : ℕ). (s < F .sockets) × Shares s)) (sym (r .1 .1)) (below-counted (F .sockets))),
-    omega (arith, r .1 .1, sharers-most F l w),
-  )
+  shares-counted c w (inr r) =
+      number-as (λ s. ((λ y. y .1), (λ y. (w .irqs s (y .0) (y .1) .socket, y))))
+      (subst (Number (λ (s : ℕ). (s < F .sockets) × Shares s)) (sym (r .1 .1)) (below-counted (F .sockets)))
 
 pub sharers-counted : SharersCounted Ours
 sharers-counted n es b b′ l c from x =
     let t = exact n es b from in
-    let s = stepped (t .accepted) (sharers l Success c) x in
-    let y = shares-counted (t .accepted .facts) l c (t .accepted .formed) (s .rule .0) in (
+    let s = stepped (t .accepted) (sharers l Success c) tt x in (
       number-as
           (λ s. (
             (λ z. (z .0, t .tells (irq s (z .0)) .0 (z .1), z .2)),
             (λ z. (z .0, t .tells (irq s (z .0)) .1 (z .1), z .2)),
-          )) (y .0),
-      y .1,
+          )) (shares-counted (t .accepted .facts) l c (t .accepted .formed) (s .rule .0)),
+      omega (arith, laws .sharers l b .most (packed Success c) (x .0), sharers-parts l Success c (x .0) .1),
     )
 
--- the grant that a request made stands
-standing-io : (es : List Event) (h : ℕ) (p : List ℕ) (a : ℕ) (q : List ℕ) → StandsOf es requestIo h p a q
-    → Stands es (io (socketOf p) (record { client = h; ports = portsAt p (baseAsked q); shared = sharedAsked p }))
-standing-io es h p a q x = io-only (λ (f : Fact). Stands es f → Stands es (io (socketOf p) _)) (λ s. s) (x .fact) (x .made) (x .stands)
+-- what stands in a socket is what the table has there
+module _ (n : ℕ) (es : List Event) (b : List ℕ) (from : FromFresh Ours n es b) where
+  abbrev told-io : (s : ℕ) (g : IoGrant) → Stands es (io s g) → exact n es b from .accepted .facts .io s ≡ some g
+  told-io s g = exact n es b from .tells (io s g) .1
 
-standing-irq : (es : List Event) (h : ℕ) (p : List ℕ) (a : ℕ) (q : List ℕ) → StandsOf es requestIrq h p a q
-    → Stands es (irq (socketOf p) (record { client = h; level = assignedIrq q; manner = mannerAsked p }))
-standing-irq es h p a q x = irq-only (λ (f : Fact). Stands es f → Stands es (irq (socketOf p) _)) (λ s. s) (x .fact) (x .made) (x .stands)
+  abbrev told-irq : (s : ℕ) (g : IrqGrant) → Stands es (irq s g) → exact n es b from .accepted .facts .irq s ≡ some g
+  told-irq s g = exact n es b from .tells (irq s g) .1
 
+pub one-grant : OneGrant Ours
+one-grant =
+    record {
+      io-one = λ n es b s g g′ from x x′. Option·some-injective g g′ (sym (told-io n es b from s g x) ∙ told-io n es b from s g′ x′);
+      irq-one = λ n es b s g g′ from x x′. Option·some-injective g g′ (sym (told-irq n es b from s g x) ∙ told-irq n es b from s g′ x′);
+    }
+
+-- so two grants that differ stand in different sockets
 pub ports-apart : PortsApart Ours
-ports-apart n es b h h′ a a′ p p′ q q′ from x x′ d meet =
-    let t = exact n es b from in
-    let both = t .accepted .formed .io-company (socketOf p) (socketOf p′) _ _ d (t .tells _ .1 (standing-io es h p a q x))
-    (t .tells _ .1 (standing-io es h′ p′ a′ q′ x′)) meet in
-    (eqb-true (bit (ioAttributes p) 0) 1 (both .0), eqb-true (bit (ioAttributes p′) 0) 1 (both .1))
+ports-apart n es b s s′ g g′ from x x′ differ =
+    exact n es b from .accepted .formed .io-company s s′ g g′ apart (told-io n es b from s g x) (told-io n es b from s′ g′ x′)
+  where
+    apart : s ≢ s′
+    apart e =
+        differ (λ i. io (e i) (one-grant .io-one n es b s g g′ from x (subst (λ (t : ℕ). Stands es (io t g′)) (sym e) x′) i))
 
 pub levels-apart : LevelsApart Ours
-levels-apart n es b h h′ a a′ p p′ q q′ from x x′ d same =
-    let t = exact n es b from in
-    t .accepted .formed .irq-company (socketOf p) (socketOf p′) _ _ d (t .tells _ .1 (standing-irq es h p a q x))
-    (t .tells _ .1 (standing-irq es h′ p′ a′ q′ x′)) same
+levels-apart n es b s s′ g g′ from x x′ differ =
+    exact n es b from .accepted .formed .irq-company s s′ g g′ apart (told-irq n es b from s g x) (told-irq n es b from s′ g′ x′)
+  where
+    apart : s ≢ s′
+    apart e =
+        differ (λ i. irq (e i) (one-grant .irq-one n es b s g g′ from x (subst (λ (t : ℕ). Stands es (irq t g′)) (sym e) x′) i))

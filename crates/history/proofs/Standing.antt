@@ -1,7 +1,8 @@
--- What stands, from the first event on. Assumes nothing.
-use mathlib.Core.Path.{_≡_, refl, ap, sym, subst}
+-- What stands, from the first event on and up to the last one. Assumes nothing.
+use mathlib.Core.Path.{_≡_, refl, ap, sym, _∙_, subst}
 use mathlib.Core.Logic.{_⊎_, inl, inr, ⊎-elim, _↔_}
-use mathlib.Core.List.{List, [], _∷_, _++_, nil≢cons, head-eq-of-cons-eq, tail-eq-of-cons-eq}
+use mathlib.Core.List.{List, [], _∷_, _++_, nil≢cons, head-eq-of-cons-eq, tail-eq-of-cons-eq, append-assoc}
+use Rattle.facts.proofs.Sets.{in-left, in-right, in-either}
 use Rattle.history.specs.Events.{Event}
 use Rattle.history.specs.Stands.{Fact, Makes, GivesBack, Lasts, Stands, StandsSince}
 
@@ -34,6 +35,31 @@ module _ (f : Fact) where
           )
       go (x ∷ xs) i =
           inr (record { earlier = xs; maker = s .maker; later = s .later; are = tail-eq-of-cons-eq i; made = s .made; lasts = s .lasts })
+
+  -- the last event of a log made it, or it stood before that and wasn't given back by it
+  pub stands-last : (es : List Event) (e : Event) → Stands (es ++ (e ∷ [])) f → Makes e f ⊎ (Stands es f × (GivesBack e f → ⊥))
+  stands-last [] e s = ⊎-elim (λ m. inl (m .0)) (λ t. absurd (stands-never t)) (stands-first e [] s)
+  stands-last (x ∷ es) e s =
+      ⊎-elim
+      (λ m. inr (
+        stands-here x es (m .0) (λ y i. m .1 y (in-left y es (e ∷ []) i)),
+        m .1 e (in-right e es (e ∷ []) (inl refl)),
+      ))
+      (λ t. ⊎-elim inl (λ y. inr (stands-later x (y .0), y .1)) (stands-last es e t))
+      (stands-first x (es ++ (e ∷ [])) s)
+
+  pub last-stands : (es : List Event) (e : Event) → Makes e f ⊎ (Stands es f × (GivesBack e f → ⊥)) → Stands (es ++ (e ∷ [])) f
+  last-stands es e (inl m) = record { earlier = es; maker = e; later = []; are = refl; made = m; lasts = λ y i. absurd i }
+  last-stands es e (inr (s, kept)) =
+      record {
+        earlier = s .earlier;
+        maker = s .maker;
+        later = s .later ++ (e ∷ []);
+        are = ap (λ (x : List Event). x ++ (e ∷ [])) (s .are) ∙ append-assoc (s .earlier) (s .maker ∷ s .later) (e ∷ []);
+        made = s .made;
+        lasts = λ y i. ⊎-elim (s .lasts y) (⊎-elim (λ same back. kept (subst (λ (z : Event). GivesBack z f) same back)) absurd)
+            (in-either y (s .later) (e ∷ []) i);
+      }
 
 -- the first event of a run, where P holds before it and Q after it
 module _ (P Q : Fact → Type 0) (e : Event) (f : Fact) (turned : Q f ↔ (Makes e f ⊎ (P f × (GivesBack e f → ⊥)))) (es : List Event) where

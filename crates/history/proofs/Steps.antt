@@ -29,7 +29,7 @@ use Rattle.facts.proofs.Codes.{code-injective}
 use Rattle.facts.proofs.Unique.{number-injective}
 use Rattle.facts.proofs.Refusals.{noSuccess, none-succeeds, first-not-success}
 use Rattle.facts.proofs.Sets.{put-same}
-use Rattle.history.specs.Events.{Event, call, cardIn, cardOut, boot, sharers}
+use Rattle.history.specs.Events.{Event, makeFresh, call, cardIn, cardOut, boot, sharers}
 use Rattle.history.specs.Stands.{Fact, card, level, range, Made, GivenBack, Makes, GivesBack, registration, level-made, range-made, level-back, range-back}
 use Rattle.history.specs.Tables.{Tells}
 use Rattle.history.proofs.Answered.{Rules}
@@ -131,10 +131,10 @@ module _ (F : Facts) (h : ℕ) (p : List ℕ) (o : Outcome) (w : WellFormed F) w
   service-ends adjustResourceInfo = adjust-ends
   service-ends requestIrq = ends requestIrq (irqRequestChecks F h p) tt (request-irq-turns F h p o)
   service-ends releaseIrq =
-      ends releaseIrq (irqReleaseChecks F h p) tt (λ passed d. subst (TurnsBy releaseIrq) (sym (d .facts)) (release-irq-turns F h p o))
+      ends releaseIrq (irqReleaseChecks F h p) tt (λ passed d. subst (TurnsBy releaseIrq) (sym (d .facts)) (release-irq-turns F h p o passed))
   service-ends requestIo = ends requestIo (ioRequestChecks F h p) tt (request-io-turns F h p o)
   service-ends releaseIo =
-      ends releaseIo (ioReleaseChecks F h p) tt (λ passed d. subst (TurnsBy releaseIo) (sym (d .facts)) (release-io-turns F h p o))
+      ends releaseIo (ioReleaseChecks F h p) tt (λ passed d. subst (TurnsBy releaseIo) (sym (d .facts)) (release-io-turns F h p o passed))
   service-ends requestSocketMask =
       ends requestSocketMask (requestMaskChecks F h p) tt
       (λ passed d. subst (TurnsBy requestSocketMask) (sym (d .facts)) (request-mask-turns F h p (o .handle) (o .packet) passed))
@@ -207,6 +207,7 @@ card-out-turns s k F G (inr r) =
     (λ e. absurd (false≢true e)))
 
 pub event-turns : (e : Event) (F G : Facts) → WellFormed F → Rules e F G → EventTurns e F G
+event-turns (makeFresh n k) F G w r = subst (EventTurns (makeFresh n k) F) (sym r) (unturned F (λ f b. b) (λ f m. m))
 event-turns (call n h p k a q) F G w r = call-turns n h p k a q F G w r
 event-turns (cardIn s k) F G w r = card-in-turns s k F G r
 event-turns (cardOut s k) F G w r = card-out-turns s k F G r

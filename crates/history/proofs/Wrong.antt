@@ -27,24 +27,26 @@ use Rattle.layout.specs.Sound.{Accepted}
 use Rattle.cases.specs.Cases.{done, refused, oneClient, noClient, clientPacket}
 use Rattle.cases.proofs.Cases.{cases}
 use Rattle.cases.proofs.Permitted.{as-kept, _then_, listed-alone}
-use Rattle.history.specs.Events.{Event, call, cardIn, cardOut, boot, sharers, Keeper, Ours}
+use Rattle.history.specs.Events.{Event, makeFresh, call, cardIn, cardOut, boot, sharers, codeIn, numberIn, Keeper, Ours}
 use Rattle.history.specs.Stands.{card, level, mask, io, irq, Stands, client-made, io-made}
 use Rattle.history.specs.Tables.{Tells}
 use Rattle.history.specs.Names.{the-card, the-mask}
-use Rattle.history.specs.Demand.{Exact, ExactSince, Frame, CardOutKeeps, NeverAgain, Number, SharersCounted}
+use Rattle.history.specs.Demand.{Exact, Frame, CardOutKeeps, NeverAgain, Number, SharersCounted}
 use Rattle.history.specs.Codes.{service}
 use Rattle.history.specs.Laws.{OneOutcome, RefusalKeeps, ExactCodes}
 use Rattle.history.proofs.Turns.{kind}
 use Rattle.history.proofs.Standing.{stands-never}
-use Rattle.history.proofs.Runs.{exact, fresh-exact}
+use Rattle.history.proofs.Runs.{exact}
 use Rattle.history.proofs.Giving.{serving, serves, accepted, left, here, _past_}
 use Rattle.history.proofs.OnSockets.{two-sockets, one-client, for}
 use Rattle.history.proofs.ExampleTables.{idle, irqHeld, ioHeld, busy, idle-ready, irq-ready, busy-ready, irqAsked, ioAsked, irqNaming}
 use Rattle.history.proofs.ExampleTables.{irq-granted, io-granted}
-use Rattle.history.proofs.SampleRuns.{from-two, says, registers, before, Ungranted, registered, set-up}
+use Rattle.history.proofs.SampleRuns.{made-two, from-two, says, registers, before, Ungranted, registered, BeginsAlike, set-up, ours-begins, asksIrq, asksIo, irq-step}
+use Rattle.history.proofs.SampleRuns.{io-step}
 
 -- wrong at the calls of one service, at card out, or at the question for sharers; else as this keeper
 abbrev pub At : Service → (ℕ → List ℕ → Code → ℕ → List ℕ → List ℕ → List ℕ → Type 0) → Keeper
+At v W (makeFresh n k) b b′ = Ours (makeFresh n k) b b′
 At v W (call n h p k a q) b b′ = ((n ≡ serviceNumber v) × W h p k a q b b′) ⊎ ((n ≢ serviceNumber v) × Ours (call n h p k a q) b b′)
 At v W (cardIn s k) b b′ = Ours (cardIn s k) b b′
 At v W (cardOut s k) b b′ = Ours (cardOut s k) b b′
@@ -52,6 +54,7 @@ At v W (boot r k i) b b′ = Ours (boot r k i) b b′
 At v W (sharers l k c) b b′ = Ours (sharers l k c) b b′
 
 abbrev AtCardOut : (ℕ → Code → List ℕ → List ℕ → Type 0) → Keeper
+AtCardOut W (makeFresh n k) b b′ = Ours (makeFresh n k) b b′
 AtCardOut W (call n h p k a q) b b′ = Ours (call n h p k a q) b b′
 AtCardOut W (cardIn s k) b b′ = Ours (cardIn s k) b b′
 AtCardOut W (cardOut s k) b b′ = W s k b b′
@@ -59,6 +62,7 @@ AtCardOut W (boot r k i) b b′ = Ours (boot r k i) b b′
 AtCardOut W (sharers l k c) b b′ = Ours (sharers l k c) b b′
 
 abbrev AtSharers : (ℕ → Code → ℕ → List ℕ → List ℕ → Type 0) → Keeper
+AtSharers W (makeFresh n k) b b′ = Ours (makeFresh n k) b b′
 AtSharers W (call n h p k a q) b b′ = Ours (call n h p k a q) b b′
 AtSharers W (cardIn s k) b b′ = Ours (cardIn s k) b b′
 AtSharers W (cardOut s k) b b′ = Ours (cardOut s k) b b′
@@ -71,7 +75,8 @@ Idle e b b′ = (m : List ℕ) × Ours e b m × (b′ ≡ b)
 
 pub idle-wrong : Exact Idle → ⊥
 idle-wrong x =
-    let t = x 2 (registers 1 ∷ []) (image (fresh 2)) (from-two (registers 1 ∷ []) _ (image (fresh 2), (image oneClient, registered, refl), refl)) in
+    let t = x 2 (registers 1 ∷ []) (image (fresh 2))
+    (from-two (image (fresh 2), made-two, refl) (registers 1 ∷ []) _ (tt, image (fresh 2), (image oneClient, registered, refl), refl)) in
     omega (arith, t .issued-are, ap (λ (F : Facts). F .issued) (says two-sockets (t .accepted)))
 
 -- "One that grants once and then only says so": where there is an IRQ grant, it answers and leaves the table
@@ -81,41 +86,29 @@ Held b = (a : Accepted b) × (s : ℕ) × (g : IrqGrant) × (a .facts .irq s ≡
 abbrev Once : Keeper
 Once e b b′ = (m : List ℕ) × Ours e b m × (((Held b → ⊥) × (b′ ≡ m)) ⊎ (Held b × (b′ ≡ b)))
 
--- what is asked for: the level 3, and the ports 300 to 307
-abbrev asksIrq : Event
-asksIrq = call (serviceNumber requestIrq) 1 (for 0 irqAsked) Success 1 (for 0 (irqNaming 3 3))
-
-abbrev asksIo : Event
-asksIo = call (serviceNumber requestIo) 1 (for 0 ioAsked) Success 1 (for 0 ioAsked)
-
-irq-step : Ours asksIrq (image idle) (image irqHeld)
-irq-step = serves (idle-ready .formed) requestIrq 1 (for 0 irqAsked) (done 1 (for 0 (irqNaming 3 3)) irqHeld) tt irq-granted
-
-io-step : Ours asksIo (image irqHeld) (image ioHeld)
-io-step = serves (irq-ready .formed) requestIo 1 (for 0 ioAsked) (done 1 (for 0 ioAsked) ioHeld) tt io-granted
-
 unheld : {F : Facts} → WellFormed F → Ungranted F → Held (image F) → ⊥
 unheld {F} w free held = free (held .1) (held .2) (subst (λ (G : Facts). G .irq (held .1) ≡ some (held .2)) (says w (held .0)) (held .3))
+
+once-begins : BeginsAlike Once
+once-begins =
+    record {
+      makes = λ n k F G w free s. (image G, s, inl (unheld w free, refl));
+      calls = λ n h p k a q F G w free s. (image G, s, inl (unheld w free, refl));
+      cards = λ t k F G w free s. (image G, s, inl (unheld w free, refl));
+    }
 
 pub once-wrong : Exact Once → ⊥
 once-wrong x =
     let t = x 2 (before ++ (asksIrq ∷ asksIo ∷ [])) (image irqHeld)
-    (set-up Once (λ n h p k a q F G w free s. (image G, s, inl (unheld w free, refl))) (λ t k F G w free s. (image G, s, inl (unheld w free, refl)))
-    (asksIrq ∷ asksIo ∷ []) (image irqHeld) (
+    (set-up Once once-begins (asksIrq ∷ asksIo ∷ []) (image irqHeld) (
+      tt,
       image irqHeld,
       (image irqHeld, irq-step, inl (unheld (idle-ready .formed) (λ s g. Option·none-ne-some g), refl)),
-      (image irqHeld, (image ioHeld, io-step, inr ((accepted (irq-ready .formed), 0, _, refl), refl)), refl),
+      (tt, image irqHeld, (image ioHeld, io-step, inr ((accepted (irq-ready .formed), 0, _, refl), refl)), refl),
     )) in
     let stands : Stands (before ++ (asksIrq ∷ asksIo ∷ [])) (io 0 (ioGrant 1 (for 0 ioAsked) 0x300)) =
     record { earlier = before ++ (asksIrq ∷ []); maker = asksIo; later = []; are = refl; made = (refl, requestIo, refl, io-made); lasts = λ e m. absurd m } in
     Option·none-ne-some _ (subst (λ (F : Facts). F .io 0 ≡ some (ioGrant 1 (for 0 ioAsked) 0x300)) (says (irq-ready .formed) (t .accepted)) (t .tells _ .1 stands))
-
--- neither holds from any table, then
-pub idle-wrong-since : ExactSince Idle → ⊥
-idle-wrong-since x = idle-wrong (fresh-exact Idle x)
-
-pub once-wrong-since : ExactSince Once → ⊥
-once-wrong-since x = once-wrong (fresh-exact Once x)
 
 -- "Taking grants away at card out"
 abbrev TakesAway : Keeper
@@ -160,7 +153,7 @@ meddles-wrong x =
     (record { code = Success; count = 0; packs = refl; permitted = inl (accepted (idle-ready .formed), inr ((omega arith) then tt, (refl, refl))) }, refl) in
     let y = x (sharers 3 Success 0) (image idle) (image (withCard idle 0 false)) (accepted (idle-ready .formed)) (idle, question, refl) in
     false≢true (subst (λ (F : Facts). F .card 0 ≡ true) (says w (y .after))
-    (y .holds .names (the-card 0) (λ n. n) .facts (card 0) refl .0 (subst (λ (F : Facts). F .card 0 ≡ true) (sym (says (idle-ready .formed) (y .before))) refl)))
+    (y .holds (the-card 0) (λ n. n) .facts (card 0) refl .0 (subst (λ (F : Facts). F .card 0 ≡ true) (sym (says (idle-ready .formed) (y .before))) refl)))
 
 -- a refusal that tidies: a client that is refused to leave loses its masks
 abbrev Tidies : Keeper
@@ -202,7 +195,7 @@ pub tidies-wrong : Frame Tidies → ⊥
 tidies-wrong x =
     let y = x leaving (image busy) (image tidied) (accepted (busy-ready .formed)) tidied-step in
     has-not (subst (λ (F : Facts). Tells F (mask 1 0 1)) (says tidied-formed (y .after))
-    (y .holds .names (the-mask 1 0) (λ n. omega (arith, ap numberOf (n .0))) .facts (mask 1 0 1) refl .0
+    (y .holds (the-mask 1 0) (λ n. omega (arith, ap numberOf (n .0))) .facts (mask 1 0 1) refl .0
     (subst (λ (F : Facts). Tells F (mask 1 0 1)) (sym (says (busy-ready .formed) (y .before))) had)))
 
 pub tidies-breaks-bytes : RefusalKeeps Tidies → ⊥
@@ -240,13 +233,15 @@ slots-wrong x =
     let leaves = serves (one-client .formed) deregisterClient 1 [] (done 1 [] noClient) tt (cases .n10 .1 .permitted) in
     let again = serves left-formed registerClient 0 clientPacket (done 2 clientPacket (entered noClient 4 0)) tt (cases .n10 .2 .permitted) in
     x 2 [] (call (serviceNumber deregisterClient) 1 [] Success 1 [] ∷ registers 1 ∷ []) (registers 1) 1 (image (entered noClient 4 0))
-    (from-two _ _ (
+    (from-two made-two _ _ (
+      tt,
       image oneClient,
       inl (refl, (fresh 2, refl, 1, registered, inl (refl, refl))),
       (
+        tt,
         image noClient,
         inr (omega arith, leaves),
-        (image (entered noClient 4 0), inl (refl, (noClient, refl, 2, again, inl (refl, refl))), refl),
+        (tt, image (entered noClient 4 0), inl (refl, (noClient, refl, 2, again, inl (refl, refl))), refl),
       ),
     ))
     (4, 0, (refl, registerClient, refl, client-made)) .1 (registers 1) (inr (inl refl)) (4, 0, (refl, registerClient, refl, client-made))
@@ -258,7 +253,7 @@ FromZero = Answers λ F. F .issued
 pub from-zero-wrong : NeverAgain FromZero → ⊥
 from-zero-wrong x =
     x 2 [] [] (registers 0) 0 (image oneClient)
-    (from-two _ _ (image oneClient, inl (refl, (fresh 2, refl, 1, registered, inl (refl, refl))), refl))
+    (from-two made-two _ _ (tt, image oneClient, inl (refl, (fresh 2, refl, 1, registered, inl (refl, refl))), refl))
     (4, 0, (refl, registerClient, refl, client-made)) .0 refl
 
 -- "A made-up sharer count": always 1
@@ -275,7 +270,7 @@ one-there {P} n = go (n .those) (λ s i. n .each s .0 i) (n .count)
 
 pub made-up-wrong : SharersCounted MadeUp → ⊥
 made-up-wrong x =
-    let y = one-there (x 2 [] (image (fresh 2)) (image (fresh 2)) 3 1 (from-two [] _ refl) (refl, refl, refl) .0) in
+    let y = one-there (x 2 [] (image (fresh 2)) (image (fresh 2)) 3 1 (from-two made-two [] _ refl) (refl, refl, refl) .0) in
     stands-never _ (y .1 .1)
 
 -- the sharers of another level
@@ -287,9 +282,10 @@ other-level-wrong x =
     let question : Ours (sharers 3 Success 1) (image irqHeld) (image irqHeld) =
     (record { code = Success; count = 1; packs = refl; permitted = inl (accepted (irq-ready .formed), inr ((omega arith) then tt, (refl, refl))) }, refl) in
     let y = one-there (x 2 (before ++ (asksIrq ∷ [])) (image irqHeld) (image irqHeld) 5 1
-    (set-up OtherLevel (λ n h p k a q F G w free s. s) (λ t k F G w free s. s) (asksIrq ∷ []) (image irqHeld) (image irqHeld, irq-step, refl)) question .0) in
+    (set-up OtherLevel (record { makes = λ n k F G w free s. s; calls = λ n h p k a q F G w free s. s; cards = λ t k F G w free s. s })
+    (asksIrq ∷ []) (image irqHeld) (tt, image irqHeld, irq-step, refl)) question .0) in
     let t = exact 2 (before ++ (asksIrq ∷ [])) (image irqHeld)
-    (set-up Ours (λ n h p k a q F G w free s. s) (λ t k F G w free s. s) (asksIrq ∷ []) (image irqHeld) (image irqHeld, irq-step, refl)) in
+    (set-up Ours ours-begins (asksIrq ∷ []) (image irqHeld) (tt, image irqHeld, irq-step, refl)) in
     let told = subst (λ (F : Facts). F .irq (y .0) ≡ some (y .1 .0)) (says (irq-ready .formed) (t .accepted)) (t .tells (irq (y .0) (y .1 .0)) .1 (y .1 .1)) in
     ⊎-elim
     (λ k. omega (arith, ap (λ (g : IrqGrant). g .level) (Option·some-injective _ _ (sym (k .1) ∙ told)), y .1 .2))
@@ -301,7 +297,7 @@ abbrev Anything : Keeper
 Anything e b b′ = b′ ≡ b
 
 pub anything-wrong : OneOutcome Anything → ⊥
-anything-wrong x = omega (arith, ap numberOf (x .of-card-in 0 Success BadSocket [] [] [] refl refl .0))
+anything-wrong x = omega (arith, ap (λ (e : Event). numberOf (codeIn e)) (x (cardIn 0 Success) (cardIn 0 BadSocket) [] [] [] refl refl refl .0))
 
 abbrev AnyHandle : Keeper
 AnyHandle = At registerClient λ h p k a q b b′. (c : ℕ) × Ours (call (serviceNumber registerClient) h p k c q) b b′
@@ -310,18 +306,12 @@ pub any-handle-wrong : OneOutcome AnyHandle → ⊥
 any-handle-wrong x =
     omega (
       arith,
-      x .of-call (serviceNumber registerClient) 0 clientPacket Success Success 1 2 clientPacket clientPacket (image (fresh 2))
-          (image oneClient) (image oneClient) (inl (refl, (1, registered))) (inl (refl, (1, registered))) .1,
+      ap numberIn
+          (x (registers 1) (registers 2) (image (fresh 2)) (image oneClient) (image oneClient) refl (inl (refl, (1, registered)))
+          (inl (refl, (1, registered))) .0),
     )
 
 -- "One that refuses everything, or gives one code always"
-abbrev codeIn : Event → Code
-codeIn (call n h p k a q) = k
-codeIn (cardIn s k) = k
-codeIn (cardOut s k) = k
-codeIn (boot r k i) = k
-codeIn (sharers l k c) = k
-
 abbrev RefusesAll : Keeper
 RefusesAll e b b′ = (codeIn e ≡ GeneralFailure) × (b′ ≡ b)
 

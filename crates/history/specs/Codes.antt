@@ -4,11 +4,9 @@ use Prim.Native.Nat.{ℕ}
 use Rattle.facts.specs.declared.Code.{Code}
 use Rattle.facts.specs.declared.Code.the-variants.{Success, BadAttribute, BadBase, BadIrq, BadSize, BadSocket, NoCard, UnsupportedService}
 use Rattle.facts.specs.declared.Code.the-variants.{GeneralFailure, BadArgLength, BadArgs, InUse, NoMoreItems, OutOfResource, BadHandle}
-use Rattle.facts.specs.Codes.{numberOf}
 use Rattle.facts.specs.Services.{Service, registerClient, deregisterClient, adjustResourceInfo, requestIrq, releaseIrq, requestIo, releaseIo}
 use Rattle.facts.specs.Services.{requestSocketMask, releaseSocketMask, serviceNumber, Serves}
-use Rattle.promises.specs.Entries.{FreshAnswers}
-use Rattle.history.specs.Events.{Keeper, call, cardIn, cardOut, boot, sharers}
+use Rattle.history.specs.Events.{Keeper, makeFresh, call, cardIn, cardOut, boot, sharers}
 
 -- a service's number, a number that is no service's, or a call of the host
 pub data Asked : Type 0 where
@@ -39,7 +37,7 @@ codesOf boot-list =
 codesOf sharers-of = GeneralFailure ∷ BadIrq ∷ Success ∷ []
 codesOf fresh-table = GeneralFailure ∷ Success ∷ []
 
--- the keeper permits that code, for some table and something given; cs_fresh, which is no event of a run, by its own promise
+-- the keeper permits that code, for some table and something given
 abbrev pub CanGive : Keeper → Asked → Code → Type 0
 CanGive K (service v) k = (h a : ℕ) × (p q b b′ : List ℕ) × K (call (serviceNumber v) h p k a q) b b′
 CanGive K no-service k = (n h a : ℕ) × (p q b b′ : List ℕ) × (Serves n → ⊥) × K (call n h p k a q) b b′
@@ -47,4 +45,4 @@ CanGive K card-in k = (s : ℕ) × (b b′ : List ℕ) × K (cardIn s k) b b′
 CanGive K card-out k = (s : ℕ) × (b b′ : List ℕ) × K (cardOut s k) b b′
 CanGive K boot-list k = (r b b′ : List ℕ) × (i : ℕ) × K (boot r k i) b b′
 CanGive K sharers-of k = (l c : ℕ) × (b b′ : List ℕ) × K (sharers l k c) b b′
-CanGive K fresh-table k = (n : ℕ) × (b b′ : List ℕ) × FreshAnswers n b b′ (numberOf k)
+CanGive K fresh-table k = (n : ℕ) × (b b′ : List ℕ) × K (makeFresh n k) b b′

@@ -2,22 +2,19 @@
 use mathlib.Core.Path.{_≡_}
 use mathlib.Core.Logic.{_↔_, _≢_}
 use mathlib.Core.List.{List, [], _∷_, _++_}
+use mathlib.Core.Bool.{true}
 use Prim.Native.Nat.{ℕ, _+_, _≤_}
 use lib.ListN.{length}
 use Rattle.facts.specs.declared.Code.{Code}
 use Rattle.facts.specs.declared.Code.the-variants.{Success}
 use Rattle.facts.specs.Table
-use Rattle.facts.specs.Table.{Facts, IrqGrant}
+use Rattle.facts.specs.Table.{Facts, IoGrant, IrqGrant}
 use Rattle.facts.specs.Sets.{_∈_}
 use Rattle.facts.specs.Ports.{Meet}
 use Rattle.facts.specs.Levels.{Together}
-use Rattle.facts.specs.Sockets.{socketOf}
-use Rattle.facts.specs.Irq.{assignedIrq, mannerAsked}
-use Rattle.facts.specs.Io.{IoShared, baseAsked, portsAt}
-use Rattle.facts.specs.Services.{Service, requestIrq, requestIo}
 use Rattle.layout.specs.Sound.{Accepted}
 use Rattle.history.specs.Events.{Event, Keeper, Runs, FromFresh, cardOut, sharers}
-use Rattle.history.specs.Stands.{Fact, card, irq, Made, Stands, StandsSince, Registers, registrations}
+use Rattle.history.specs.Stands.{Fact, card, io, irq, Stands, StandsSince, Registers, registrations}
 use Rattle.history.specs.Tables.{Tells, TellsExactly, Between}
 use Rattle.history.specs.Names.{Framed}
 
@@ -66,27 +63,31 @@ SharersCounted K =
     (n : ℕ) (es : List Event) (b b′ : List ℕ) (l c : ℕ) → FromFresh K n es b → K (sharers l Success c) b b′
     → Number (λ (s : ℕ). (g : IrqGrant) × Stands es (irq s g) × (g .level ≡ l)) c × (c ≤ Table.mostSockets)
 
--- what such a call makes stands: of the service v, given the handle h and the packet p, that answers SUCCESS and the handle a and leaves the packet q
-pub record StandsOf (es : List Event) (v : Service) (h : ℕ) (p : List ℕ) (a : ℕ) (q : List ℕ) : Type 0 where
-  pub fact : Fact
-  pub made : Made h p a q v fact
-  pub stands : Stands es fact
+-- "at most one I/O grant .. and one IRQ grant .. for each socket": no two of a kind stand
+pub record OneGrant (K : Keeper) : Type 0 where
+  pub io-one : (n : ℕ) (es : List Event) (b : List ℕ) (s : ℕ) (g g′ : IoGrant) → FromFresh K n es b → Stands es (io s g) → Stands es (io s g′) → g ≡ g′
+  pub irq-one : (n : ℕ) (es : List Event) (b : List ℕ) (s : ℕ) (g g′ : IrqGrant) → FromFresh K n es b → Stands es (irq s g) → Stands es (irq s g′)
+      → g ≡ g′
 
--- demand 3: "no two live grants meet on a level or a decoded port unless both asked to share in the same manner": the ports asked for, at the base
--- answered
+-- demand 3: "no two live grants meet on a level or a decoded port unless both asked to share in the same manner": of two that stand and differ
 abbrev pub PortsApart : Keeper → Type 0
 PortsApart K =
-    (n : ℕ) (es : List Event) (b : List ℕ) (h h′ a a′ : ℕ) (p p′ q q′ : List ℕ) → FromFresh K n es b
-    → StandsOf es requestIo h p a q → StandsOf es requestIo h′ p′ a′ q′ → socketOf p ≢ socketOf p′
-    → Meet (portsAt p (baseAsked q)) (portsAt p′ (baseAsked q′)) → IoShared p × IoShared p′
+    (n : ℕ) (es : List Event) (b : List ℕ) (s s′ : ℕ) (g g′ : IoGrant) → FromFresh K n es b → Stands es (io s g) → Stands es (io s′ g′)
+    → io s g ≢ io s′ g′ → Meet (g .ports) (g′ .ports) → (g .shared ≡ true) × (g′ .shared ≡ true)
 
--- the level answered
 abbrev pub LevelsApart : Keeper → Type 0
 LevelsApart K =
-    (n : ℕ) (es : List Event) (b : List ℕ) (h h′ a a′ : ℕ) (p p′ q q′ : List ℕ) → FromFresh K n es b
-    → StandsOf es requestIrq h p a q → StandsOf es requestIrq h′ p′ a′ q′ → socketOf p ≢ socketOf p′
-    → assignedIrq q ≡ assignedIrq q′ → Together (mannerAsked p) (mannerAsked p′)
+    (n : ℕ) (es : List Event) (b : List ℕ) (s s′ : ℕ) (g g′ : IrqGrant) → FromFresh K n es b → Stands es (irq s g) → Stands es (irq s′ g′)
+    → irq s g ≢ irq s′ g′ → g .level ≡ g′ .level → Together (g .manner) (g′ .manner)
 
 -- all of it
-abbrev pub Demand3 : Keeper → Type 0
-Demand3 K = Exact K × ExactSince K × Frame K × CardOutKeeps K × NeverAgain K × SharersCounted K × PortsApart K × LevelsApart K
+pub record Demand3 (K : Keeper) : Type 0 where
+  pub exact : Exact K
+  pub exact-since : ExactSince K
+  pub frame : Frame K
+  pub card-out : CardOutKeeps K
+  pub never-again : NeverAgain K
+  pub sharers-counted : SharersCounted K
+  pub one-grant : OneGrant K
+  pub ports-apart : PortsApart K
+  pub levels-apart : LevelsApart K

@@ -1,4 +1,5 @@
 -- Runs of calls and what stands after them. Assumes nothing.
+pub mod Given
 pub mod Events
 pub mod Stands
 pub mod Tables

@@ -14,18 +14,19 @@ use Rattle.facts.specs.Resources.{actionOf, resourceOf, add, remove, irqLevel, 
 use Rattle.facts.specs.Boot.{recordsIn}
 use Rattle.facts.specs.Services.{Service, registerClient, deregisterClient, adjustResourceInfo, requestIrq, releaseIrq, requestIo, releaseIo}
 use Rattle.facts.specs.Services.{requestSocketMask, releaseSocketMask, serviceNumber}
-use Rattle.history.specs.Events.{Event, call, cardIn, cardOut, boot, sharers}
+use Rattle.history.specs.Events.{Event, makeFresh, call, cardIn, cardOut, boot, sharers}
 use Rattle.history.specs.Stands.{Fact, client, mask, level, range, card, io, irq, Recorded}
 use Rattle.history.specs.Tables.{Tells}
 
--- what can be spoken of in a table: client h, the mask of h at s, level l, the range at a base, what is in a socket, the number issued
+-- what can be spoken of in a table: client h, the mask of h at s, level l, the range at a base, what is in a socket, the number issued, the socket
+-- count
 pub data Name : Type 0 where
   the-client : (handle : ℕ) → Name
   the-mask : (handle socket : ℕ) → Name
   the-level : (number : ℕ) → Name
   the-range : (base : ℕ) → Name
   the-card the-io the-irq : (socket : ℕ) → Name
-  the-issued : Name
+  the-issued the-sockets : Name
 
 abbrev pub nameOf : Fact → Name
 nameOf (client h a m) = the-client h
@@ -51,8 +52,10 @@ pub data NamedBy (h : ℕ) (p : List ℕ) (a : ℕ) : Service → Name → Type 
   request-irq : NamedBy h p a requestIrq (the-irq (socketOf p))
   release-irq : NamedBy h p a releaseIrq (the-irq (socketOf p))
 
--- the names that an event's rule names: none of a refusal, but for a boot list's records before the place that it answers; none of a question
+-- the names that an event's rule names: none of a refusal, but for a boot list's records before the place that it answers; none of a question; all
+-- of a table made fresh
 abbrev pub Names : Event → Name → Type 0
+Names (makeFresh n k) x = k ≡ Success
 Names (call n h p k a q) x = (k ≡ Success) × (v : Service) × (serviceNumber v ≡ n) × NamedBy h p a v x
 Names (cardIn s k) x = (k ≡ Success) × (x ≡ the-card s)
 Names (cardOut s k) x = (k ≡ Success) × (x ≡ the-card s)
@@ -63,8 +66,8 @@ Names (sharers l k c) x = ⊥
 pub record Alike (F G : Facts) (x : Name) : Type 0 where
   pub facts : (f : Fact) → nameOf f ≡ x → Tells F f ↔ Tells G f
   pub issued : x ≡ the-issued → F .issued ≡ G .issued
+  pub sockets : x ≡ the-sockets → F .sockets ≡ G .sockets
 
--- every name but the event's reads the same, and so does the socket count
-pub record Framed (e : Event) (F G : Facts) : Type 0 where
-  pub names : (x : Name) → (Names e x → ⊥) → Alike F G x
-  pub sockets : F .sockets ≡ G .sockets
+-- every name but the event's reads the same
+abbrev pub Framed : Event → Facts → Facts → Type 0
+Framed e F G = (x : Name) → (Names e x → ⊥) → Alike F G x

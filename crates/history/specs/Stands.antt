@@ -16,12 +16,13 @@ use Rattle.facts.specs.Clients.{clientAttributes, clientEvents}
 use Rattle.facts.specs.Sockets.{socketOf, eventsAsked}
 use Rattle.facts.specs.Resources.{actionOf, resourceOf, add, remove, irqLevel, ioRange, levelGiven, levelAttributes, ioAdjustLength, reserves}
 use Rattle.facts.specs.Resources.{baseGiven, countGiven, attributesGiven}
-use Rattle.facts.specs.Irq.{assignedIrq, mannerAsked}
-use Rattle.facts.specs.Io.{baseAsked, portsAt, sharedAsked}
+use Rattle.facts.specs.Levels.{typeOf}
+use Rattle.facts.specs.Irq.{assignedIrq, typeAsked, mannerAsked}
+use Rattle.facts.specs.Io.{baseAsked, countAsked, portsAt, sharedAsked}
 use Rattle.facts.specs.Boot.{recordsIn}
 use Rattle.facts.specs.Services.{Service, registerClient, deregisterClient, adjustResourceInfo, requestIrq, releaseIrq, requestIo, releaseIo}
 use Rattle.facts.specs.Services.{requestSocketMask, releaseSocketMask, serviceNumber}
-use Rattle.history.specs.Events.{Event, call, cardIn, cardOut, boot, sharers}
+use Rattle.history.specs.Events.{Event, makeFresh, call, cardIn, cardOut, boot, sharers}
 
 -- one thing that a table can say
 pub data Fact : Type 0 where
@@ -55,8 +56,12 @@ pub data GivenBack (h : ℕ) (p : List ℕ) : Service → Fact → Type 0 where
       → GivenBack h p adjustResourceInfo (level (levelGiven p) reserved)
   range-back : {reserved : Bool} (w : Width) → length p ≡ ioAdjustLength w → resourceOf p ≡ ioRange → actionOf p ≡ remove
       → GivenBack h p adjustResourceInfo (range (record { base = baseGiven w p; count = countGiven w p; reserved = reserved }))
-  io-back : {g : IoGrant} → GivenBack h p releaseIo (io (socketOf p) g)
-  irq-back : {g : IrqGrant} → GivenBack h p releaseIrq (irq (socketOf p) g)
+  -- the client's own, of that base and count
+  io-back : {g : IoGrant} → g .client ≡ h → g .ports .base ≡ baseAsked p → g .ports .count ≡ countAsked p
+      → GivenBack h p releaseIo (io (socketOf p) g)
+  -- the client's own, of that level and type
+  irq-back : {g : IrqGrant} → g .client ≡ h → g .level ≡ assignedIrq p → typeOf (g .manner) ≡ typeAsked p
+      → GivenBack h p releaseIrq (irq (socketOf p) g)
 
 -- what a record of a boot list makes
 pub data Recorded (r : Record) : Fact → Type 0 where
@@ -65,14 +70,16 @@ pub data Recorded (r : Record) : Fact → Type 0 where
 
 -- the event makes the fact; a boot list makes its records before the place that it answers
 abbrev pub Makes : Event → Fact → Type 0
+Makes (makeFresh n k) f = ⊥
 Makes (call n h p k a q) f = (k ≡ Success) × (v : Service) × (serviceNumber v ≡ n) × Made h p a q v f
 Makes (cardIn s k) f = (k ≡ Success) × (f ≡ card s)
 Makes (cardOut s k) f = ⊥
 Makes (boot b k i) f = (r : Record) × (r ∈ recordsIn i b) × Recorded r f
 Makes (sharers l k c) f = ⊥
 
--- the event gives the fact back
+-- the event gives the fact back; one that made a new table would begin another run
 abbrev pub GivesBack : Event → Fact → Type 0
+GivesBack (makeFresh n k) f = ⊥
 GivesBack (call n h p k a q) f = (k ≡ Success) × (v : Service) × (serviceNumber v ≡ n) × GivenBack h p v f
 GivesBack (cardIn s k) f = ⊥
 GivesBack (cardOut s k) f = (k ≡ Success) × (f ≡ card s)
@@ -102,6 +109,7 @@ Registers e h = (attributes events : ℕ) × Makes e (client h attributes events
 
 -- the number of registrations that succeeded
 abbrev pub registration : Event → ℕ
+registration (makeFresh n k) = 0
 registration (call n h p k a q) = cond (eqb n (serviceNumber registerClient)) (cond (eqb (numberOf k) (numberOf Success)) 1 0) 0
 registration (cardIn s k) = 0
 registration (cardOut s k) = 0

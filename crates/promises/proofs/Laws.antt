@@ -3,7 +3,7 @@ use mathlib.Core.Path.{_≡_, refl, ap, ap₂, sym, _∙_, subst}
 use mathlib.Core.Logic.{inl, inr, ⊎-elim, _≢_}
 use mathlib.Core.List.{List}
 use mathlib.Core.Bool.{Bool}
-use Prim.Native.Nat.{ℕ, _*_}
+use Prim.Native.Nat.{ℕ, _*_, _≤_}
 use native.Mathlib.Omega.{arith}
 use lib.ListN.{length}
 use Rattle.facts.specs.declared.Code.{Code}
@@ -11,7 +11,6 @@ use Rattle.facts.specs.declared.Code.the-variants.{Success}
 use Rattle.facts.specs.Codes.{numberOf}
 use Rattle.facts.specs.Table.{Facts, fresh}
 use Rattle.facts.specs.WellFormed.{WellFormed}
-use Rattle.facts.specs.Packets.{Bytes}
 use Rattle.facts.specs.Checks.{Outcome}
 use Rattle.facts.specs.Irq.{Count, Sharers}
 use Rattle.facts.specs.Sockets.{CardOutcome, CardTo}
@@ -19,9 +18,6 @@ use Rattle.facts.specs.Boot.{Booted, BootBytes, stopped, recordSize, recordsIn,
 use Rattle.facts.specs.Services.{Call}
 use Rattle.facts.specs.Laws.{Coincide}
 use Rattle.facts.proofs.Codes.{code-byte}
-use Rattle.facts.proofs.Unique.{call-unique}
-use Rattle.facts.proofs.Refusals.{call-refusal-keeps}
-use Rattle.facts.proofs.Boot.{boot-before}
 use Rattle.facts.proofs.Laws.{service-laws, host-laws, bytes-laws}
 use Rattle.layout.specs.Layout.{image}
 use Rattle.layout.specs.Sound.{Accepted}
@@ -66,7 +62,7 @@ module _ (service handle : ℕ) (b p : List ℕ) where
   Calls F = Call service F handle p
 
   calls-one : (F : Facts) → WellFormed F → Coincide (Calls F)
-  calls-one F w = call-unique F handle p (w .apart) service
+  calls-one F = service-laws .one-outcome service F handle p
 
   call-one : (b₁ b₂ p₁ p₂ : List ℕ) (r₁ r₂ : ℕ) → CallAnswers service handle b b₁ p p₁ r₁ → CallAnswers service handle b b₂ p p₂ r₂
       → (r₁ ≡ r₂) × (p₁ ≡ p₂) × (b₁ ≡ b₂)
@@ -91,20 +87,15 @@ module _ (service handle : ℕ) (b p : List ℕ) where
   call-refusal : (b₁ p₁ : List ℕ) (r : ℕ) (x : CallAnswers service handle b b₁ p p₁ r) → x .code ≢ Success → (x .answered ≡ 0) × (p₁ ≡ p) × (b₁ ≡ b)
   call-refusal b₁ p₁ r x d =
       ⊎-elim
-      (λ s. let k = call-refusal-keeps (s .accepted .facts) handle p service _ (s .rule) d in
+      (λ s. let k = service-laws .refusal-keeps service (s .accepted .facts) handle p _ (s .rule) d in
       (k .handle, k .packet, sym (s .table) ∙ ap image (k .facts) ∙ s .accepted .is))
       (λ u. (u .1, u .2, u .0 .table)) (x .permitted)
-
-  -- a service leaves well-formed facts, and so does a number that is none's
-  rule-stays : (F : Facts) (o : Outcome) → WellFormed F → Bytes p → Calls F o → WellFormed (o .facts)
-  rule-stays F o w bytes (inl x) = service-laws .stays-formed (x .0 .service) F handle p o w bytes (x .1)
-  rule-stays F o w bytes (inr x) = subst WellFormed (sym (x .2 .facts)) w
 
   call-stays : (b₁ p₁ : List ℕ) (r : ℕ) → Accepted b → CallAnswers service handle b b₁ p p₁ r → Accepted b₁
   call-stays b₁ p₁ r a x =
       ⊎-elim (λ s. record {
         facts = s .after;
-        formed = rule-stays (s .accepted .facts) _ (s .accepted .formed) (x .bytes) (s .rule);
+        formed = service-laws .stays-formed service (s .accepted .facts) handle p _ (s .accepted .formed) (x .bytes) (s .rule);
         is = s .table;
       })
       (λ u. absurd (u .0 .unformed a)) (x .permitted)
@@ -195,7 +186,10 @@ module _ (sockets : ℕ) (b : List ℕ) where
         one = fresh-one;
         refusal = λ b₁ r x d. ⊎-elim (λ done. absurd (d (done .1))) (λ kept. kept .2) x;
         accepted = λ b₁ r x e. ⊎-elim
-            (λ done. record { facts = fresh sockets; formed = host-laws .fresh-formed sockets (done .0 .least) (done .0 .most); is = sym (done .2) })
+            (λ done. (
+              record { facts = fresh sockets; formed = host-laws .fresh-formed sockets (done .0 .least) (done .0 .most); is = sym (done .2) },
+              refl,
+            ))
             (λ kept. absurd (omega (arith, e, kept .1))) x;
       }
 
@@ -217,8 +211,13 @@ module _ (records b : List ℕ) where
           let e = one-unformed (u .0) (v .0) in
           (x .packs ∙ ap₂ placed (e .0) (u .1 ∙ sym (v .1)) ∙ sym (y .packs), e .1)
 
+  boot-within : (F : Facts) (o : Booted) → BootBytes F records o → o .place * recordSize ≤ length records
+  boot-within F o r = omega (arith, host-laws .boot-within (endOf records) F (recordsOf records) o r, bytes-laws .counted records)
+
   boot-leaves : (F : Facts) (o : Booted) → BootBytes F records o → o .facts ≡ recordsAdded F (recordsIn (o .place) records)
-  boot-leaves F o r = host-laws .boot-leaves (endOf records) F (recordsOf records) o r ∙ ap (recordsAdded F) (boot-before records F o r)
+  boot-leaves F o r =
+      host-laws .boot-leaves (endOf records) F (recordsOf records) o r
+      ∙ ap (recordsAdded F) (bytes-laws .before records (o .place) (boot-within F o r))
 
   boot-success : (F : Facts) (o : Booted) → BootBytes F records o → o .code ≡ Success → length records ≡ o .place * recordSize
   boot-success F o r e =
@@ -242,6 +241,7 @@ module _ (records b : List ℕ) where
             (λ u. absurd (u .0 .unformed a)) (x .permitted);
         success = λ b₁ r x e. ⊎-elim (λ s. boot-success (s .accepted .facts) _ (s .rule) e)
             (λ u. absurd (omega (arith, ap numberOf (sym e ∙ u .0 .code-is)))) (x .permitted);
+        within = λ b₁ r x. ⊎-elim (λ s. boot-within (s .accepted .facts) _ (s .rule)) (λ u. omega (arith, u .1)) (x .permitted);
         most = λ b₁ r x. ⊎-elim
             (λ s. host-laws .boot-most (endOf records) (s .accepted .facts) (recordsOf records) _ (s .accepted .formed) (s .rule))
             (λ u. omega (arith, u .1)) (x .permitted);

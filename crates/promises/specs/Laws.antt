@@ -9,6 +9,7 @@ use Rattle.facts.specs.declared.Code.{Code}
 use Rattle.facts.specs.declared.Code.the-variants.{Success, GeneralFailure}
 use Rattle.facts.specs.Codes.{numberOf}
 use Rattle.facts.specs.Table
+use Rattle.facts.specs.Table.{fresh}
 use Rattle.layout.specs.Layout.{image}
 use Rattle.layout.specs.Sound.{Accepted}
 use Rattle.facts.specs.Boot.{recordSize, recordsIn, recordsAdded}
@@ -51,8 +52,8 @@ pub record SharersLaws (level : ℕ) (b : List ℕ) : Type 0 where
 pub record FreshLaws (sockets : ℕ) (b : List ℕ) : Type 0 where
   pub one : (b₁ b₂ : List ℕ) (r₁ r₂ : ℕ) → FreshAnswers sockets b b₁ r₁ → FreshAnswers sockets b b₂ r₂ → (r₁ ≡ r₂) × (b₁ ≡ b₂)
   pub refusal : (b₁ : List ℕ) (r : ℕ) → FreshAnswers sockets b b₁ r → r ≢ numberOf Success → b₁ ≡ b
-  -- a table made fresh is accepted
-  pub accepted : (b₁ : List ℕ) (r : ℕ) → FreshAnswers sockets b b₁ r → r ≡ numberOf Success → Accepted b₁
+  -- a table made fresh is accepted, and says what a fresh table does
+  pub accepted : (b₁ : List ℕ) (r : ℕ) → FreshAnswers sockets b b₁ r → r ≡ numberOf Success → (a : Accepted b₁) × (a .facts ≡ fresh sockets)
 
 -- cs_boot
 pub record BootLaws (records b : List ℕ) : Type 0 where
@@ -64,7 +65,8 @@ pub record BootLaws (records b : List ℕ) : Type 0 where
   pub stays : (b₁ : List ℕ) (r : ℕ) → Accepted b → BootAnswers records b b₁ r → Accepted b₁
   -- "Success answers the list's length in records"
   pub success : (b₁ : List ℕ) (r : ℕ) (x : BootAnswers records b b₁ r) → x .code ≡ Success → length records ≡ x .place * recordSize
-  -- no place is past the levels and ranges that there can be
+  -- no place is past the list's end, nor past the levels and ranges that there can be
+  pub within : (b₁ : List ℕ) (r : ℕ) (x : BootAnswers records b b₁ r) → x .place * recordSize ≤ length records
   pub most : (b₁ : List ℕ) (r : ℕ) (x : BootAnswers records b b₁ r) → x .place ≤ Table.allLevels + Table.mostRanges
   -- the low 32 bits of the number answered are the code, the rest is the place
   pub taken-apart : (b₁ : List ℕ) (r : ℕ) (x : BootAnswers records b b₁ r) → (r % 2 ^ 32 ≡ numberOf (x .code)) × (r / 2 ^ 32 ≡ x .place)
