@@ -31,12 +31,12 @@ use Rattle.history.specs.Events.{Event, makeFresh, call, cardIn, cardOut
 pub entries : Entries
 entries =
     record {
-      of-fresh = λ n r b b′ x. ⊎-elim (λ d. (Success, d .1, inl (d .0, refl, d .2))) (λ u. (GeneralFailure, u .1, inr (u .0, refl, u .2))) x;
-      of-call = λ n h r p q b b′ x. (x .code, x .answered, x .packs, subst (CallAnswers n h b b′ p q) (x .packs) x);
-      of-card-in = λ s r b b′ x. (x .code, x .is, subst (CardAnswers true s b b′) (x .is) x);
-      of-card-out = λ s r b b′ x. (x .code, x .is, subst (CardAnswers false s b b′) (x .is) x);
-      of-boot = λ r rs b b′ x. (x .code, x .place, x .packs, subst (BootAnswers rs b b′) (x .packs) x);
-      of-sharers = λ l r b x. (x .code, x .count, x .packs, (subst (SharersAnswers l b) (x .packs) x, refl));
+      of-fresh = λ n r b b′ x. ⊎-elim (λ d. (Success, (d .1, inl (d .0, refl, d .2)))) (λ u. (GeneralFailure, (u .1, inr (u .0, refl, u .2)))) x;
+      of-call = λ n h r p q b b′ x. (x .code, x .answered, (x .packs, subst (CallAnswers n h b b′ p q) (x .packs) x));
+      of-card-in = λ s r b b′ x. (x .code, (x .is, subst (CardAnswers true s b b′) (x .is) x));
+      of-card-out = λ s r b b′ x. (x .code, (x .is, subst (CardAnswers false s b b′) (x .is) x));
+      of-boot = λ r rs b b′ x. (x .code, x .place, (x .packs, subst (BootAnswers rs b b′) (x .packs) x));
+      of-sharers = λ l r b x. (x .code, x .count, (x .packs, (subst (SharersAnswers l b) (x .packs) x, refl)));
     }
 
 -- one code and one number make a number that is answered

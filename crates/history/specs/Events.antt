@@ -64,16 +64,37 @@ Ours (cardOut s k) b b′ = CardAnswers false s b b′ (numberIn (cardOut s k))
 Ours (boot r k i) b b′ = BootAnswers r b b′ (numberIn (boot r k i))
 Ours (sharers l k c) b b′ = SharersAnswers l b (numberIn (sharers l k c)) × (b′ ≡ b)
 
--- whatever an entry answers and leaves as it promises is an event, and the number that it answers is the event's
+-- C was answered the number r, and the table's bytes b became b′: that is the event e, and the number is the event's
+abbrev pub Came : ℕ → List ℕ → List ℕ → Event → Type 0
+Came r b b′ e = (r ≡ numberIn e) × Ours e b b′
+
+-- a call of each entry, as an event of what was given to it
+abbrev pub FreshCame : ℕ → List ℕ → List ℕ → ℕ → Type 0
+FreshCame n b b′ r = (k : Code) × Came r b b′ (makeFresh n k)
+
+abbrev pub CallCame : ℕ → ℕ → List ℕ → List ℕ → List ℕ → List ℕ → ℕ → Type 0
+CallCame n h p q b b′ r = (k : Code) × (a : ℕ) × Came r b b′ (call n h p k a q)
+
+abbrev pub CardInCame : ℕ → List ℕ → List ℕ → ℕ → Type 0
+CardInCame s b b′ r = (k : Code) × Came r b b′ (cardIn s k)
+
+abbrev pub CardOutCame : ℕ → List ℕ → List ℕ → ℕ → Type 0
+CardOutCame s b b′ r = (k : Code) × Came r b b′ (cardOut s k)
+
+abbrev pub BootCame : List ℕ → List ℕ → List ℕ → ℕ → Type 0
+BootCame rs b b′ r = (k : Code) × (i : ℕ) × Came r b b′ (boot rs k i)
+
+abbrev pub SharersCame : ℕ → List ℕ → ℕ → Type 0
+SharersCame l b r = (k : Code) × (c : ℕ) × Came r b b (sharers l k c)
+
+-- whatever an entry answers and leaves as it promises is such an event
 pub record Entries : Type 0 where
-  pub of-fresh : (n r : ℕ) (b b′ : List ℕ) → FreshAnswers n b b′ r → (k : Code) × (r ≡ numberIn (makeFresh n k)) × Ours (makeFresh n k) b b′
-  pub of-call : (n h r : ℕ) (p q b b′ : List ℕ) → CallAnswers n h b b′ p q r
-      → (k : Code) × (a : ℕ) × (r ≡ numberIn (call n h p k a q)) × Ours (call n h p k a q) b b′
-  pub of-card-in : (s r : ℕ) (b b′ : List ℕ) → CardAnswers true s b b′ r → (k : Code) × (r ≡ numberIn (cardIn s k)) × Ours (cardIn s k) b b′
-  pub of-card-out : (s r : ℕ) (b b′ : List ℕ) → CardAnswers false s b b′ r → (k : Code) × (r ≡ numberIn (cardOut s k)) × Ours (cardOut s k) b b′
-  pub of-boot : (r : ℕ) (rs b b′ : List ℕ) → BootAnswers rs b b′ r
-      → (k : Code) × (i : ℕ) × (r ≡ numberIn (boot rs k i)) × Ours (boot rs k i) b b′
-  pub of-sharers : (l r : ℕ) (b : List ℕ) → SharersAnswers l b r → (k : Code) × (c : ℕ) × (r ≡ numberIn (sharers l k c)) × Ours (sharers l k c) b b
+  pub of-fresh : (n r : ℕ) (b b′ : List ℕ) → FreshAnswers n b b′ r → FreshCame n b b′ r
+  pub of-call : (n h r : ℕ) (p q b b′ : List ℕ) → CallAnswers n h b b′ p q r → CallCame n h p q b b′ r
+  pub of-card-in : (s r : ℕ) (b b′ : List ℕ) → CardAnswers true s b b′ r → CardInCame s b b′ r
+  pub of-card-out : (s r : ℕ) (b b′ : List ℕ) → CardAnswers false s b b′ r → CardOutCame s b b′ r
+  pub of-boot : (r : ℕ) (rs b b′ : List ℕ) → BootAnswers rs b b′ r → BootCame rs b b′ r
+  pub of-sharers : (l r : ℕ) (b : List ℕ) → SharersAnswers l b r → SharersCame l b r
 
 -- a table's life goes on: only a cs_fresh that succeeds begins another one
 abbrev pub GoesOn : Event → Type 0

@@ -1,0 +1,3 @@
+-- What a caller's calls bring about is a run. Assumes nothing.
+pub mod Relied
+pub mod Visits
