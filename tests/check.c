@@ -396,7 +396,9 @@ uint32_t ask_fresh(uint32_t sockets)
     if (table.len == CS_TABLE_SIZE)
         expected = image_after(model_fresh(&facts, sockets));
     accepted = accepted || expected == CS_SUCCESS;
-    return compare(&q, expected, cs_fresh(table.is + GUARD, table.len, sockets));
+    uint32_t got = cs_fresh(table.is + GUARD, table.len, sockets);
+    log_fresh(sockets, got);
+    return compare(&q, expected, got);
 }
 
 uint32_t ask_card_in(uint32_t socket)

@@ -44,10 +44,10 @@ uint32_t deregister(uint16_t handle);
 /* A boot list of NULL is passed on as NULL. */
 uint64_t ask_boot(const uint8_t *records, size_t len);
 
-/* A run's log: what was lent and every question since, with the archive's answers;
-   ask_fresh is none of a run. At the end, or after each question too, the table's
-   bytes have to say what stands by the log alone; at the end the answers have to be
-   those that the log asks for. */
+/* A run's log: what was lent and every question since, with the archive's answers; a
+   cs_fresh of a run has to be refused. At the end, or after each question too, the
+   table's bytes have to say what stands by the log alone; at the end the answers have
+   to be those that the log asks for. */
 enum judged { AT_THE_END, AFTER_EACH };
 void begin_log(enum judged when);
 void end_log(void);

@@ -76,10 +76,26 @@ static void random_question(struct chance *c, enum aim aim)
     }
 }
 
+/* cs_fresh on the table as it stands, with a number of sockets that there can't be. */
+static void ask_refused_fresh(void)
+{
+    static const uint32_t wrong[] = {0, CS_SOCKETS + 1, 257};
+    static unsigned asked;
+    must_be(ask_fresh(wrong[asked++ % 3]), CS_GENERAL_FAILURE, 0);
+}
+
+/* The questions of a run by their place, and a cs_fresh after each 50th. */
+static void ask_at(unsigned place, struct chance *c, enum aim aim)
+{
+    random_question(c, aim);
+    if (place % 50 == 49)
+        ask_refused_fresh();
+}
+
 static void run_on(struct chance *c, unsigned questions)
 {
     for (unsigned i = 0; i < questions; i++)
-        random_question(c, i / 100 % 4 != 3 ? COMING : GOING);
+        ask_at(i, c, i / 100 % 4 != 3 ? COMING : GOING);
 }
 
 /* ---- The codes that runs have to see ---- */
@@ -189,7 +205,7 @@ void runs_of_sockets(void)
         lend_set(&m);
         begin_log(seed % 150 == 0 ? AFTER_EACH : AT_THE_END);
         for (unsigned i = 0; i < 320; i++)
-            random_question(&c, OF_SOCKETS);
+            ask_at(i, &c, OF_SOCKETS);
         end_log();
     }
     for (unsigned i = 0; i < SERVICES; i++)

@@ -10,8 +10,8 @@
 enum { MOST_ENTRIES = 1024, MOST_BYTES = 1 << 17, MOST_PRINTED = 32 };
 
 struct entry {
-    enum { SERVICE, CARD_IN, CARD_OUT, SHARERS, BOOT } of;
-    uint32_t number;             /* given: a service, a socket or a level */
+    enum { SERVICE, CARD_IN, CARD_OUT, SHARERS, BOOT, FRESH } of;
+    uint32_t number;             /* given: a service, a socket, a level or a socket count */
     uint16_t handle;             /* given to a service */
     const uint8_t *given, *left; /* a packet before and after; or a boot list */
     size_t len;
@@ -81,6 +81,12 @@ void log_sharers(uint32_t level, uint32_t answer)
 {
     if (takes(0))
         enter((struct entry){.of = SHARERS, .number = level}, answer);
+}
+
+void log_fresh(uint32_t sockets, uint32_t answer)
+{
+    if (takes(0))
+        enter((struct entry){.of = FRESH, .number = sockets}, answer);
 }
 
 void log_boot(const uint8_t *records, size_t len, uint64_t answer)
@@ -170,6 +176,19 @@ static uint32_t manner_given(const struct entry *e)
     }
 }
 
+/* Dynamic level and dynamic pulse are of one type. */
+static uint32_t type_of(uint32_t manner)
+{
+    switch (manner) {
+    case EXCLUSIVE:
+        return CS_IRQ_EXCLUSIVE;
+    case TIME_MULTIPLEXED:
+        return CS_IRQ_TIME_MULTIPLEXED;
+    default:
+        return CS_IRQ_DYNAMIC;
+    }
+}
+
 /* ---- The rules of each kind: which entry makes a fact, and which gives it back ---- */
 
 static bool client_made(const struct entry *e, struct fact *f)
@@ -240,7 +259,8 @@ static bool card_given_back(const struct entry *e, const struct fact *f)
 }
 
 /* Where the values of grants stand. */
-enum { SOCKET = 0, IO_BASE = 2, IO_COUNT = 3, IO_LINES = 4, IO_SHARED = 5 };
+enum { SOCKET = 0, HOLDER = 1 };
+enum { IO_BASE = 2, IO_COUNT = 3, IO_LINES = 4, IO_SHARED = 5 };
 enum { IRQ_LEVEL = 2, IRQ_MANNER = 3 };
 
 /* "Success writes BasePort1": it is read where it was written. */
@@ -254,9 +274,12 @@ static bool io_grant_made(const struct entry *e, struct fact *f)
     return true;
 }
 
+/* "BAD_BASE unless this client holds that base and count on this socket." */
 static bool io_grant_given_back(const struct entry *e, const struct fact *f)
 {
-    return done(e, CS_RELEASE_IO) && socket_given(e) == f->value[SOCKET];
+    return done(e, CS_RELEASE_IO) && socket_given(e) == f->value[SOCKET] &&
+           e->handle == f->value[HOLDER] && given(e, 2, 2) == f->value[IO_BASE] &&
+           given(e, 4, 1) == f->value[IO_COUNT];
 }
 
 /* "Success writes AssignedIRQ": the same. */
@@ -268,9 +291,13 @@ static bool irq_grant_made(const struct entry *e, struct fact *f)
     return true;
 }
 
+/* "BAD_IRQ unless this client holds this level on this socket; only then
+   BAD_ATTRIBUTE if the type bits differ." */
 static bool irq_grant_given_back(const struct entry *e, const struct fact *f)
 {
-    return done(e, CS_RELEASE_IRQ) && socket_given(e) == f->value[SOCKET];
+    return done(e, CS_RELEASE_IRQ) && socket_given(e) == f->value[SOCKET] &&
+           e->handle == f->value[HOLDER] && given(e, 4, 1) == f->value[IRQ_LEVEL] &&
+           (given(e, 2, 2) & CS_IRQ_TYPE) == type_of(f->value[IRQ_MANNER]);
 }
 
 static const struct {
@@ -501,7 +528,8 @@ static void print_fact(const struct fact *f)
 
 static void print_entry(const struct entry *e)
 {
-    static const char *const names[] = {"service", "card in", "card out", "sharers", "boot list"};
+    static const char *const names[] = {"service", "card in",   "card out",
+                                        "sharers", "boot list", "fresh table"};
     printf("%s %02lX, handle %u, given", names[e->of], (unsigned long)e->number, e->handle);
     for (size_t i = 0; i < e->len && i < MOST_PRINTED; i++)
         printf(" %02X", e->given[i]);
@@ -640,6 +668,8 @@ void judge_answers(struct verdict *v)
             of_entry(v, e->answered <= e->len / CS_BOOT_RECORD, "a place past the list", place);
         else if (e->code != CS_SUCCESS)
             judge_refusal(v, e, place);
+        else if (e->of == FRESH)
+            of_entry(v, false, "a fresh table in the middle of a run", place);
         else if (e->of == SHARERS)
             of_entry(v, e->answered == sharers(e->number, place), "another number of sharers",
                      place);

@@ -54,6 +54,10 @@ void log_card_out(uint32_t socket, uint32_t answer);
 void log_sharers(uint32_t level, uint32_t answer);
 void log_boot(const uint8_t *records, size_t len, uint64_t answer);
 
+/* A cs_fresh that is refused: it makes nothing and gives nothing back. One that
+   succeeds begins another run, and is told as wrong in this one. */
+void log_fresh(uint32_t sockets, uint32_t answer);
+
 /* ---- What it comes to ---- */
 
 void what_stands(struct facts *out);

@@ -97,9 +97,17 @@ static void irq(uint8_t socket, uint8_t attributes, uint8_t info_1, uint16_t inf
     log_call(CS_REQUEST_IRQ, 1, given, left, sizeof given, answer);
 }
 
+static void irq_released_by(uint16_t handle, uint8_t socket, uint16_t attributes, uint8_t level,
+                            uint32_t answer)
+{
+    const uint8_t packet[CS_RELEASE_IRQ_LENGTH] = {socket, 0, (uint8_t)attributes,
+                                                   (uint8_t)(attributes >> 8), level};
+    entry(CS_RELEASE_IRQ, handle, packet, sizeof packet, answer);
+}
+
 static void irq_released(uint8_t socket, uint8_t type, uint8_t level, uint32_t answer)
 {
-    entry(CS_RELEASE_IRQ, 1, (uint8_t[]){socket, 0, type, 0, level}, CS_RELEASE_IRQ_LENGTH, answer);
+    irq_released_by(1, socket, type, level, answer);
 }
 
 /* RequestIO of client 1, with the base as it was asked and as it was written. */
@@ -116,11 +124,17 @@ static void io_granted(uint8_t socket, uint16_t asked, uint16_t base, uint8_t po
     log_call(CS_REQUEST_IO, 1, given, left, sizeof given, with(1));
 }
 
-static void io_released(uint8_t socket, uint16_t base, uint8_t ports, uint32_t answer)
+static void io_released_by(uint16_t handle, uint8_t socket, uint16_t base, uint8_t ports,
+                           uint32_t answer)
 {
     const uint8_t packet[CS_RELEASE_IO_LENGTH] = {socket, 0, (uint8_t)base, (uint8_t)(base >> 8),
                                                   ports};
-    entry(CS_RELEASE_IO, 1, packet, sizeof packet, answer);
+    entry(CS_RELEASE_IO, handle, packet, sizeof packet, answer);
+}
+
+static void io_released(uint8_t socket, uint16_t base, uint8_t ports, uint32_t answer)
+{
+    io_released_by(1, socket, base, ports, answer);
 }
 
 /* ---- What is worked out by hand ---- */
@@ -141,7 +155,8 @@ static void stands(const char *what, unsigned many, const struct fact *by_hand)
 static void is_told(const struct verdict *v, unsigned long wrong, const char *first, int place)
 {
     expect(first, v->wrong == wrong && v->compared >= wrong);
-    expect("what is told", strcmp(v->told[0].what, first) == 0 && v->told[0].place == place);
+    expect("what is told",
+           v->wrong > 0 && strcmp(v->told[0].what, first) == 0 && v->told[0].place == place);
 }
 
 static void answers_told(unsigned long wrong, const char *first, int place)
@@ -457,7 +472,35 @@ static void other_starts(void)
     answers_told(1, "a handle that is not new", 6);
 }
 
+/* "Fresh: a count of 1 to 8 .. else GENERAL_FAILURE and no byte changed." */
+static void fresh_refused(void)
+{
+    static const struct fact by_hand[] = {{CLIENT, {1, CS_IO_CLIENT, 0x80}}, {CARD, {1}}};
+    struct model said = {.sockets = 2, .card = {false, true}, .issued = 1, .clients = 1};
+    said.client[0] = (struct client){1, CS_IO_CLIENT, 0x80, {{false, 0}}};
+    open_fresh(2);
+    log_fresh(0, CS_GENERAL_FAILURE);
+    registered(1);
+    log_card_in(1, CS_SUCCESS);
+    log_fresh(9, CS_GENERAL_FAILURE);
+    log_fresh(257, CS_GENERAL_FAILURE);
+    stands("a cs_fresh refused", 2, by_hand);
+    facts_good("the table of a cs_fresh refused", &said);
+    answers_good("the answer of a cs_fresh refused");
+}
+
 /* ---- Wrong answers ---- */
+
+static void wrong_fresh(void)
+{
+    open_fresh(1);
+    log_fresh(0, CS_GENERAL_FAILURE | with(1));
+    answers_told(1, "a refusal answered a handle or a count", 0);
+    open_fresh(1);
+    log_card_in(0, CS_SUCCESS);
+    log_fresh(257, CS_SUCCESS);
+    answers_told(1, "a fresh table in the middle of a run", 1);
+}
 
 static void wrong_handles(void)
 {
@@ -631,6 +674,94 @@ static void lost_and_left(void)
     facts_good("all given back", &nothing);
 }
 
+/* Releases of something else that were answered SUCCESS all the same: the grant stands,
+   the table that still says it is good, and one that has lost it is told. */
+static void stands_all_the_same(const char *what, struct fact grant, const struct model *said)
+{
+    struct model lost = {.sockets = 1};
+    stands(what, 1, &grant);
+    facts_good(what, said);
+    facts_told(&lost, 1, "stands and is not said", 0);
+}
+
+/* "BAD_BASE unless this client holds that base and count on this socket." */
+static void io_released_wrongly(void)
+{
+    static const struct {
+        const char *what;
+        uint16_t handle;
+        uint8_t socket;
+        uint16_t base;
+        uint8_t ports;
+    } cases[] = {
+        {"ReleaseIO by another client", 2, 0, 0x300, 8},
+        {"ReleaseIO by a client of the same low byte", 257, 0, 0x300, 8},
+        {"ReleaseIO on another socket", 1, 1, 0x300, 8},
+        {"ReleaseIO of the base before", 1, 0, 0x2FF, 8},
+        {"ReleaseIO of a base of the same low byte", 1, 0, 0x200, 8},
+        {"ReleaseIO of a base of the same high byte", 1, 0, 0x308, 8},
+        {"ReleaseIO of fewer ports", 1, 0, 0x300, 7},
+        {"ReleaseIO of more ports", 1, 0, 0x300, 9},
+    };
+    struct model said = {.sockets = 1, .io = {{true, 1, 0x300, 8, 10, true}}};
+    for (size_t i = 0; i < sizeof cases / sizeof *cases; i++) {
+        open_fresh(1);
+        io_granted(0, 0x300, 0x300, 8, CS_IO_SHARED, 10);
+        io_released_by(cases[i].handle, cases[i].socket, cases[i].base, cases[i].ports,
+                       with(cases[i].handle));
+        stands_all_the_same(cases[i].what, (struct fact){IO_GRANT, {0, 1, 0x300, 8, 10, 1}}, &said);
+        io_released(0, 0x300, 8, with(1));
+        stands("ReleaseIO of just that", 0, NULL);
+    }
+}
+
+/* "BAD_IRQ unless this client holds this level on this socket; only then BAD_ATTRIBUTE
+   if the type bits differ." */
+static void irq_released_wrongly(void)
+{
+    static const struct {
+        const char *what;
+        uint16_t handle;
+        uint8_t socket, type, level;
+    } cases[] = {
+        {"ReleaseIRQ by another client", 2, 0, CS_IRQ_DYNAMIC, 3},
+        {"ReleaseIRQ by a client of the same low byte", 257, 0, CS_IRQ_DYNAMIC, 3},
+        {"ReleaseIRQ on another socket", 1, 1, CS_IRQ_DYNAMIC, 3},
+        {"ReleaseIRQ of another level", 1, 0, CS_IRQ_DYNAMIC, 4},
+        {"ReleaseIRQ of level 19", 1, 0, CS_IRQ_DYNAMIC, 19},
+        {"ReleaseIRQ of type exclusive", 1, 0, CS_IRQ_EXCLUSIVE, 3},
+        {"ReleaseIRQ of type time-multiplexed", 1, 0, CS_IRQ_TIME_MULTIPLEXED, 3},
+        {"ReleaseIRQ of type 3", 1, 0, 3, 3},
+    };
+    struct model said = {.sockets = 1, .irq = {{true, 1, 3, DYNAMIC_LEVEL}}};
+    for (size_t i = 0; i < sizeof cases / sizeof *cases; i++) {
+        open_fresh(1);
+        irq(0, CS_IRQ_DYNAMIC, 0xA3, 0, 3, with(1));
+        irq_released_by(cases[i].handle, cases[i].socket, cases[i].type, cases[i].level,
+                        with(cases[i].handle));
+        stands_all_the_same(cases[i].what, (struct fact){IRQ_GRANT, {0, 1, 3, DYNAMIC_LEVEL}},
+                            &said);
+        irq_released(0, CS_IRQ_DYNAMIC, 3, with(1));
+        stands("ReleaseIRQ of just that", 0, NULL);
+    }
+}
+
+/* A grant's own type gives it back, "Other attribute bits are ignored", and no other
+   type does. Asked: the types with Force Pulse or without it, of a card with Level,
+   Pulse and Share. */
+static void irq_released_by_type(void)
+{
+    static const uint8_t asked[MANNERS] = {0, 1, 2, 6}, type[MANNERS] = {0, 1, 2, 2};
+    for (uint8_t manner = 0; manner < MANNERS; manner++)
+        for (uint8_t given = 0; given < 4; given++) {
+            open_fresh(1);
+            irq(0, asked[manner], 0xE3, 0, 3, with(1));
+            irq_released_by(1, 0, 0xFFFC | given, 3, with(1));
+            stands("ReleaseIRQ by the type", given == type[manner] ? 0 : 1,
+                   (struct fact[]){{IRQ_GRANT, {0, 1, 3, manner}}});
+        }
+}
+
 /* A grant from the start that was lost. */
 static void lost_from_the_start(void)
 {
@@ -750,12 +881,17 @@ void log_cases(void)
     shown();
     manners_asked();
     other_starts();
+    fresh_refused();
+    wrong_fresh();
     wrong_handles();
     wrong_counts();
     changed_packets();
     other_numbers();
     other_values();
     lost_and_left();
+    io_released_wrongly();
+    irq_released_wrongly();
+    irq_released_by_type();
     lost_from_the_start();
     ports_that_meet();
     levels_that_meet();
