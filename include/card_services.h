@@ -49,7 +49,7 @@
  *  - the client of a grant is live, and its level, or each port at which its
  *    card answers (see RequestIO), is managed;
  *  - an I/O grant has base 1 or more, 1 to 16 decoded lines, and 1 to 255
- *    ports but not over two to the lines;
+ *    ports but not over two to the lines, none of them past port FFFF;
  *  - two I/O grants both share if a port of one equals a port of the other in
  *    the lines that both decode; two IRQ grants on one level have the same
  *    manner, and not the exclusive one;
@@ -59,10 +59,11 @@
  * These are rules of what a table says, and no checksum: a damaged byte can
  * make another table that keeps them all.
  *
- * CS_GENERAL_FAILURE means that the table is not to be trusted (of cs_fresh:
- * that the length or the number of sockets is wrong). Nothing was changed,
- * and every further call but cs_fresh is refused too. Load a saved table, or
- * make a fresh one and load its boot list; and tell it which cards are in.
+ * CS_GENERAL_FAILURE means that the table is not to be trusted (of cs_fresh
+ * only that the length or the number of sockets is wrong). Nothing was
+ * changed, and every further call but cs_fresh is refused too. Load a saved
+ * table, or make a fresh one and load its boot list; and tell it which cards
+ * are in.
  * Every handle of the lost table is then void: a fresh table issues 1, 2, 3
  * and on anew; a saved one has the clients that were live when it was saved,
  * and issues again what was issued since. cs_sharers(table, len, 0) changes
@@ -232,7 +233,8 @@ extern "C" {
 /* Field value outside its list. */
 #define CS_BAD_ARGS 0x1C
 
-/* Held, answered at by a card, or already managed. */
+/* Held, answered at by a card, or already managed; or no ports to choose
+   (RequestIO with BasePort1 0). */
 #define CS_IN_USE 0x1E
 
 /* List at its end. */
@@ -313,7 +315,8 @@ uint32_t cs_card_out(uint8_t *table, size_t len, uint32_t socket);
  * Writes nothing.
  *
  * Answers the code and the number of live IRQ grants of the level, never over
- * CS_SOCKETS: CS_CODE(answer) and CS_COUNT(answer).
+ * CS_SOCKETS: CS_CODE(answer) and CS_COUNT(answer). Of a level that is not
+ * managed the number is 0.
  */
 uint32_t cs_sharers(const uint8_t *table, size_t len, uint32_t level);
 
@@ -439,8 +442,11 @@ uint32_t cs_call(uint8_t *table, size_t len, uint16_t service, uint16_t handle,
  *     6     11   lines, 1 byte
  *
  * Attributes:
- *   bit 6  CS_RESERVE, Add alone: to be granted only if it is named or if
- *          nothing unreserved will do
+ *   bit 6  CS_RESERVE, Add alone: unreserved ones are granted first. A
+ *          reserved level is granted if none of the unreserved levels named
+ *          fits, or if a sharing request joins it (see RequestIRQ). Reserved
+ *          ports are granted where BasePort1 names them; for BasePort1 0 they
+ *          are chosen only if no candidate is wholly unreserved
  *   bit 7  CS_ALLOCATED, shown: a live grant holds the level, or a port of
  *          the range
  *   bit 0  CS_IO_SHARED, shown, I/O: there are holders and all of them share
@@ -475,8 +481,8 @@ uint32_t cs_call(uint8_t *table, size_t len, uint16_t service, uint16_t handle,
  *     CS_IN_USE
  *
  * Writes the level or the range, managed and reserved or not, or takes it
- * away; the packet stays as it is. Ranges stay apart as they were added, also
- * where one begins at the other's end. Answers the handle given.
+ * away; the packet stays as it is. Adjacent ranges are not merged: Remove
+ * names a range as it was added. Answers the handle given.
  *
  * First and Next:
  *  7. nothing of the resource is managed (First), or nothing with a base or
@@ -488,8 +494,8 @@ uint32_t cs_call(uint8_t *table, size_t len, uint16_t service, uint16_t handle,
  * attributes, in which bits that are not listed as shown are 0, CS_RESERVE
  * too; and for I/O lines of 16. The table stays as it is. Answers the lowest
  * of the holders' handles, or 0 if there is no holder. Holders of a range are
- * the grants that have a port of it: one whose card only answers there besides
- * is not shown, and Remove is refused all the same.
+ * the clients of the grants that have a port of it. A grant that has none, but
+ * whose card answers there, is not shown, and Remove is refused all the same.
  */
 #define CS_ADJUST_RESOURCE_INFO 0x35
 #define CS_ADJUST_IRQ_LENGTH 4
