@@ -2,7 +2,7 @@
 use mathlib.Core.Path.{_≡_, sym, subst}
 use mathlib.Core.Logic.{_⊎_, inl, inr, ⊎-elim}
 use mathlib.Core.List.{List}
-use mathlib.Core.Bool.{Bool, true, not}
+use mathlib.Core.Bool.{Bool, not}
 use Prim.Native.Nat.{ℕ, _+_, _<_}
 use native.Mathlib.Decide.{decLt}
 use native.Mathlib.Omega.{arith}
@@ -11,7 +11,7 @@ use Rattle.facts.specs.Table.{Ports, IoGrant}
 use Rattle.facts.specs.Says.{Says}
 use Rattle.facts.specs.Packets.{byte}
 use Rattle.facts.specs.Ports.{Within, Meet, AllManaged, AnswersManaged}
-use Rattle.facts.specs.Io.{baseAsked, countAsked, linesAsked, portsAt, IoShared, IoFirstShared, NotAllManaged, InTheWay}
+use Rattle.facts.specs.Io.{baseAsked, countAsked, linesAsked, portsAt, IoShared, IoFirstShared, NotAllManaged, BothShare, InTheWay}
 use Rattle.facts.proofs.Says.{says-as, says-not}
 use Rattle.facts.proofs.Told.{told}
 use Rattle.facts.proofs.Formed.{own-answers}
@@ -65,7 +65,7 @@ module _ (b p : List ℕ) {base count lines : ℕ} (base-is : base ≡ baseAsked
 
 -- a grant shares exactly if its record is marked
 pub share-says : (b p : List ℕ) (s : ℕ) {r : Bool} → IoShared p → Says r (byte b (ioPlace s + 6) ≡ 1)
-    → Says r (IoShared p × (ioIn b s .shared ≡ true))
+    → Says r (BothShare p (ioIn b s))
 share-says b p s shared x = says-as x (λ e. (shared, marked-shared b s e)) (λ y. shared-marked b s (y .1))
 
 -- the ports that a packet names, read one by one
@@ -77,11 +77,11 @@ module _ (b p : List ℕ) (s : ℕ) {base count lines : ℕ} (base-is : base ≡
 
 -- a grant that is met, without First Shared, stands in the way where the two don't both share
 pub stands-by : (b p : List ℕ) (s : ℕ) {r : Bool} → MeetsOn b (portsAt p (baseAsked p)) s → (IoFirstShared p → ⊥)
-    → Says r (IoShared p × (ioIn b s .shared ≡ true))
+    → Says r (BothShare p (ioIn b s))
     → Says (not r) (Stands b p s)
 stands-by b p s m n x = says-as (says-not x) (λ d. record { meets = m; unshared = inr d }) (λ y. go (y .unshared))
   where
-    go : IoFirstShared p ⊎ (IoShared p × (ioIn b s .shared ≡ true) → ⊥) → IoShared p × (ioIn b s .shared ≡ true) → ⊥
+    go : IoFirstShared p ⊎ (BothShare p (ioIn b s) → ⊥) → BothShare p (ioIn b s) → ⊥
     go (inl f) = absurd (n f)
     go (inr d) = d
 
@@ -105,6 +105,6 @@ module _ (b p : List ℕ) (a : Accepted b) where
         x .0,
         record {
           meets = record { used = x .1; meets = subst (λ (g : IoGrant). Meet (portsAt p (baseAsked p)) (g .ports)) e (w .meets) };
-          unshared = subst (λ (g : IoGrant). IoFirstShared p ⊎ (IoShared p × (g .shared ≡ true) → ⊥)) e (w .unshared);
+          unshared = subst (λ (g : IoGrant). IoFirstShared p ⊎ (BothShare p g → ⊥)) e (w .unshared);
         },
       )

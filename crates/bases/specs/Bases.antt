@@ -1,10 +1,8 @@
 -- What the tests of a named base answer, and which base is taken. Assumes nothing.
-use mathlib.Core.Path.{_≡_}
 use mathlib.Core.Logic.{_⊎_}
 use mathlib.Core.List.{List}
-use mathlib.Core.Bool.{true}
 use Prim.Native.Nat.{ℕ, _<_}
-use Rattle.facts.specs.Io.{baseAsked, portsAt, IoShared, IoFirstShared, NotAllManaged, InTheWay, BaseTaken, baseChecks}
+use Rattle.facts.specs.Io.{baseAsked, portsAt, IoFirstShared, NotAllManaged, BothShare, InTheWay, BaseTaken, baseChecks}
 use Rattle.facts.specs.Checks.{FirstGiven, Passed}
 use Rattle.layout.specs.Reading.{ioIn}
 use Rattle.layout.specs.Sound.{Accepted}
@@ -24,7 +22,7 @@ PortsAre b p ports.Other = (a : Accepted b) → NotAllManaged (a .facts) p
 -- the grant on the socket s is in the way of the base that is named
 pub record Stands (b p : List ℕ) (s : ℕ) : Type 0 where
   pub meets : MeetsOn b (portsAt p (baseAsked p)) s
-  pub unshared : IoFirstShared p ⊎ (IoShared p × (ioIn b s .shared ≡ true) → ⊥)
+  pub unshared : IoFirstShared p ⊎ (BothShare p (ioIn b s) → ⊥)
 
 -- no live grant is, or some is
 abbrev pub WayIs : List ℕ → List ℕ → Way → Type 0

@@ -87,6 +87,11 @@ pub record Masks (F : Facts) (h s m : ℕ) : Type 0 where
   pub handle : client .handle ≡ h
   pub mask : client .mask s ≡ some m
 
+-- the client h has a mask for the socket s
+abbrev pub MaskHeld : Facts → ℕ → ℕ → Type 0
+MaskHeld F h s = (m : ℕ) × Masks F h s m
+
+-- it has one for some socket
 abbrev pub HoldsMask : Facts → ℕ → Type 0
 HoldsMask F h = (s : ℕ) × (m : ℕ) × Masks F h s m
 

@@ -66,13 +66,17 @@ NotAllManaged F p =
     ⊎ (AllManaged F (baseAsked p) (countAsked p) → ⊥)
     ⊎ (AnswersManaged F (portsAt p (baseAsked p)) → ⊥)
 
+-- the request and the grant both share
+abbrev pub BothShare : List ℕ → IoGrant → Type 0
+BothShare p g = IoShared p × (g .shared ≡ true)
+
 -- "It meets a live grant, and First Shared is set or the two don't both share: IN_USE."
 pub record InTheWay (F : Facts) (p : List ℕ) : Type 0 where
   pub socket : ℕ
   pub grant : IoGrant
   pub live : F .io socket ≡ some grant
   pub meets : Meet (portsAt p (baseAsked p)) (grant .ports)
-  pub unshared : IoFirstShared p ⊎ (IoShared p × (grant .shared ≡ true) → ⊥)
+  pub unshared : IoFirstShared p ⊎ (BothShare p grant → ⊥)
 
 -- the smallest power of two not below n
 pub record SmallestPower (n a : ℕ) : Type 0 where

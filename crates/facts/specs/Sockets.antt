@@ -13,7 +13,7 @@ use Rattle.facts.specs.Table.{Facts, Client}
 use Rattle.facts.specs.Sets.{put}
 use Rattle.facts.specs.WellFormed.{Live, EventsAllowed}
 use Rattle.facts.specs.Packets.{byte, word}
-use Rattle.facts.specs.Clients.{withClients, Masks}
+use Rattle.facts.specs.Clients.{withClients, MaskHeld}
 use Rattle.facts.specs.Checks.{Check, _gives_, Leaves, Decided, Ruled, Rule}
 
 -- the packet's socket and function: "socket not below the count, function not 0"
@@ -74,7 +74,7 @@ eventsAsked p = word p 2
 
 -- "RequestSocketMask: bits 12 to 15 BAD_ATTRIBUTE; a second one for the same client and socket IN_USE."
 abbrev pub ownMaskChecks : Facts → ℕ → List ℕ → List Check
-ownMaskChecks F h p = ((EventsAllowed (eventsAsked p) → ⊥) gives BadAttribute) ∷ (((m : ℕ) × Masks F h (socketOf p) m) gives InUse) ∷ []
+ownMaskChecks F h p = ((EventsAllowed (eventsAsked p) → ⊥) gives BadAttribute) ∷ (MaskHeld F h (socketOf p) gives InUse) ∷ []
 
 abbrev pub requestMaskChecks : Facts → ℕ → List ℕ → List Check
 requestMaskChecks F h p = requestChecks requestMaskLength F h p (ownMaskChecks F h p)
@@ -85,7 +85,7 @@ RequestSocketMask F h p =
 
 -- "ReleaseSocketMask needs no card; nothing held: BAD_SOCKET."
 abbrev pub releaseMaskChecks : Facts → ℕ → List ℕ → List Check
-releaseMaskChecks F h p = releaseChecks releaseMaskLength F h p ((((m : ℕ) × Masks F h (socketOf p) m → ⊥) gives BadSocket) ∷ [])
+releaseMaskChecks F h p = releaseChecks releaseMaskLength F h p (((MaskHeld F h (socketOf p) → ⊥) gives BadSocket) ∷ [])
 
 abbrev pub ReleaseSocketMask : Rule
 ReleaseSocketMask F h p =

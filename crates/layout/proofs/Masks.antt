@@ -14,7 +14,7 @@ use borrow.Author.Tests.{eq-eqb, ne-eqb}
 use Rattle.facts.specs.Table
 use Rattle.facts.specs.Table.{Client}
 use Rattle.facts.specs.Packets.{byte, word, withWord}
-use Rattle.facts.specs.Clients.{Masks, withClients}
+use Rattle.facts.specs.Clients.{Masks, MaskHeld, withClients}
 use Rattle.facts.specs.Sockets.{masking, withMask}
 use Rattle.facts.proofs.Sets.{put-same, put-other, length-map}
 use Rattle.layout.specs.Layout
@@ -49,7 +49,7 @@ module _ (b : List ℕ) (a : Accepted b) (i h : ℕ) (l : i < clientsIn b) (e : 
   mask-socket s m x = omega (arith, a .formed .clients (x .client) (x .listed) .mask s m (x .mask) .0, a .formed .sockets-most)
 
   -- its word says a mask exactly if the facts do
-  pub mask-said : (s : ℕ) → s < Table.mostSockets → MaskUsed b i s → (m : ℕ) × Masks (a .facts) h s m
+  pub mask-said : (s : ℕ) → s < Table.mostSockets → MaskUsed b i s → MaskHeld (a .facts) h s
   mask-said s n used = (
     word b (maskPlace i s) - Table.allEvents,
     record {

@@ -14,7 +14,7 @@ use Rattle.facts.specs.Table.{Facts}
 use Rattle.facts.specs.Packets.{byte, word, withWord}
 use Rattle.facts.specs.WellFormed.{EventsAllowed}
 use Rattle.facts.specs.Checks.{Check, _gives_, FirstGiven, Outcome, Leaves}
-use Rattle.facts.specs.Clients.{withClients, Masks}
+use Rattle.facts.specs.Clients.{withClients, Masks, MaskHeld}
 use Rattle.facts.specs.Sockets.{RequestSocketMask, ReleaseSocketMask, socketOf, withMask, requestMaskLength, releaseMaskLength, ownMaskChecks}
 use Rattle.facts.specs.Sockets.{requestMaskChecks, releaseMaskChecks}
 use Rattle.layout.specs.Layout
@@ -51,12 +51,12 @@ module _ (b p : List ℕ) (a : Accepted b) {n h s : ℕ} (begun : Begun b p n h 
   pub in-table : (length b ≡ Layout.tableSize) × (place < Table.mostClients) × (s < Table.mostSockets)
   in-table = (Of.size-in b a, omega (arith, begun .live .1, Of.clients-in b a, a .formed .clients-most), in-sockets)
 
-  held : MaskUsed b place s → (m : ℕ) × Masks (a .facts) h (socketOf p) m
+  held : MaskUsed b place s → MaskHeld (a .facts) h (socketOf p)
   held u =
-      subst (λ (t : ℕ). (m : ℕ) × Masks (a .facts) h t m) (begun .socket .number)
+      subst (MaskHeld (a .facts) h) (begun .socket .number)
       (mask-said b a place h (begun .live .1) (begun .live .2) s in-sockets u)
 
-  used : (m : ℕ) × Masks (a .facts) h (socketOf p) m → MaskUsed b place s
+  used : MaskHeld (a .facts) h (socketOf p) → MaskUsed b place s
   used x =
       said-mask b a place h (begun .live .1) (begun .live .2) s (x .0)
       (subst (λ (t : ℕ). Masks (a .facts) h t (x .0)) (sym (begun .socket .number)) (x .1))
@@ -106,7 +106,7 @@ module _ (b p : List ℕ) (a : Accepted b) (h : ℕ) where
 
   -- a release's own check
   abbrev owned : List Check
-  owned = (((m : ℕ) × Masks (a .facts) h (socketOf p) m → ⊥) gives BadSocket) ∷ []
+  owned = ((MaskHeld (a .facts) h (socketOf p) → ⊥) gives BadSocket) ∷ []
 
   release-refused : (k : Code) → FirstGiven (releaseMaskChecks (a .facts) h p) k → ServedBy (Releases h p) b b p k 0
   release-refused = refused-by (λ (F : Facts). releaseMaskChecks F h p) (λ (F : Facts). Leaves h p (masked h p none F)) b p a
