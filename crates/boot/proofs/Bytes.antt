@@ -10,8 +10,8 @@ use Rattle.facts.specs.declared.Code.{Code}
 use Rattle.facts.specs.declared.Record.{Record}
 use Rattle.facts.specs.Codes.{numberOf}
 use Rattle.facts.specs.Packets.{byte, word, long}
-use Rattle.facts.specs.Boot.{recordSize, recordOf, recordsIn, recordsOf}
-use Rattle.facts.proofs.Boot.{records-more}
+use Rattle.facts.specs.Boot.{recordSize, recordOf, recordsIn, recordsOf, endOf}
+use Rattle.facts.proofs.Laws.{bytes-laws}
 use Rattle.boot.specs.declared.Booted.{Booted}
 use Rattle.boot.specs.declared.Booted.the-variants.{All, Stopped}
 use Rattle.boot.specs.Booting.{placed, placeOf, codeOf}
@@ -64,10 +64,18 @@ taken-more b at i all r l e f =
 pub records-past : (n : ℕ) (b : List ℕ) → n * recordSize ≤ length b → recordsOf b ≡ recordsIn n b ++ recordsOf (drop (n * recordSize) b)
 records-past zero b h = refl
 records-past (suc n) b h =
-    records-more b (omega (arith, suc-mul n recordSize, h))
+    bytes-laws .more b (omega (arith, suc-mul n recordSize, h)) .0
     ∙ ap {B = List Record} (λ rs. recordOf b ∷ rs)
     (records-past n (drop recordSize b) (omega (arith, length-drop recordSize b, suc-mul n recordSize, h))
     ∙ ap (λ (l : List ℕ). recordsIn n (drop recordSize b) ++ recordsOf l) (past-first n b))
+
+-- and the code at their end is that at the end of those bytes
+pub end-past : (n : ℕ) (b : List ℕ) → n * recordSize ≤ length b → endOf b ≡ endOf (drop (n * recordSize) b)
+end-past zero b h = refl
+end-past (suc n) b h =
+    bytes-laws .more b (omega (arith, suc-mul n recordSize, h)) .1
+    ∙ end-past n (drop recordSize b) (omega (arith, length-drop recordSize b, suc-mul n recordSize, h))
+    ∙ ap endOf (past-first n b)
 
 -- the number that packs a place and a code
 abbrev packs : Booted → ℕ

@@ -23,7 +23,8 @@ use Rattle.facts.specs.Boot as rule
 use Rattle.facts.proofs.Resources.{is-built}
 use Rattle.facts.proofs.ResourcesStay.{boot-stays}
 use Rattle.facts.proofs.Refusals.{record-no-success, first-not-success, boot-within, boot-success}
-use Rattle.facts.proofs.Boot.{records-length, records-few, end-broken, end-whole}
+use Rattle.facts.proofs.Boot.{records-length}
+use Rattle.facts.proofs.Laws.{bytes-laws}
 use Rattle.layout.specs.Sound.{Accepted}
 use Rattle.layout.proofs.Image.{image-length}
 use Rattle.layout.proofs.Of.{size-in}
@@ -37,7 +38,7 @@ use Rattle.answers.proofs.Changing as changing
 use Rattle.boot.specs.declared.Booted.{Booted}
 use Rattle.boot.specs.declared.Booted.the-variants.{All, Stopped}
 use Rattle.boot.specs.Booting.{AddsRecord, Refuses, Ends, BootsRecords, Boots, placeOf, codeOf}
-use Rattle.boot.proofs.Bytes.{records-past}
+use Rattle.boot.proofs.Bytes.{records-past, end-past}
 
 -- one record: its resource type is built, and its own checks rule
 module _ (r : Record) (b b′ : List ℕ) where
@@ -234,14 +235,17 @@ module _ (bytes b b′ : List ℕ) (place at : ℕ) (w : Walked (endOf bytes) (r
   pub bytes-all : at ≡ place * recordSize → length bytes ≤ at → at ≤ length bytes → Boots bytes b b′ (All place)
   bytes-all e l m =
       walked-all (endOf bytes) (recordsOf bytes) b b′ place (All place)
-      (subst (Walked (endOf bytes) (recordsOf bytes) b b′ place) (records-few (drop at bytes) (omega (arith, length-drop at bytes))) w) refl
-      (sym (end-whole bytes (omega (arith, e)))) tt
+      (subst (Walked (endOf bytes) (recordsOf bytes) b b′ place) (bytes-laws .same-list (drop at bytes) 0 (omega (arith, length-drop at bytes, l, m)) .0) w) refl
+      (sym (bytes-laws .same-list bytes place (omega (arith, e, l, m)) .1)) tt
 
   pub bytes-broken : at ≡ place * recordSize → at < length bytes → length bytes < at + recordSize → Boots bytes b b′ (Stopped place BadArgLength)
   bytes-broken e l m =
       walked-all (endOf bytes) (recordsOf bytes) b b′ place (Stopped place BadArgLength)
-      (subst (Walked (endOf bytes) (recordsOf bytes) b b′ place) (records-few (drop at bytes) (omega (arith, length-drop at bytes))) w) refl
-      (sym (end-broken bytes (λ f. omega (arith, e, f)))) (λ f. omega (arith, ap numberOf f))
+      (subst (Walked (endOf bytes) (recordsOf bytes) b b′ place) (few .0) w) refl
+      (sym (end-past place bytes (omega (arith, e, l)) ∙ ap (λ (n : ℕ). endOf (drop n bytes)) (sym e) ∙ few .1)) (λ f. omega (arith, ap numberOf f))
+    where
+      few : (recordsOf (drop at bytes) ≡ []) × (endOf (drop at bytes) ≡ BadArgLength)
+      few = bytes-laws .few (drop at bytes) (omega (arith, length-drop at bytes, l)) (omega (arith, length-drop at bytes, m))
 
   module _ (n : ℕ) (full : at + n * recordSize ≤ length bytes) (b″ : List ℕ) where
     -- the next n records, and those after them

@@ -13,9 +13,7 @@ use Rattle.facts.specs.declared.Code.{Code}
 use Rattle.facts.specs.declared.Code.the-variants.{Success, BadArgLength}
 use Rattle.facts.specs.declared.Record.{Record}
 use Rattle.facts.specs.Codes.{numberOf}
-use Rattle.facts.specs.Table.{Facts}
-use Rattle.facts.specs.Boot.{Booted, BootBytes, recordSize, recordOf, recordsIn, recordsOf, endOf}
-use Rattle.facts.proofs.Refusals.{boot-within}
+use Rattle.facts.specs.Boot.{recordSize, recordOf, recordsIn, recordsOf, endOf}
 
 pub records-length : (n : ℕ) (b : List ℕ) → length (recordsIn n b) ≡ n
 records-length zero b = refl
@@ -69,7 +67,3 @@ module _ (b : List ℕ) where
       go : (none : Bool) → (none ≡ true → length b % recordSize ≡ 0) → codeAfter none ≡ Success → length b % recordSize ≡ 0
       go true is e = is refl
       go false is e = absurd (omega (arith, ap numberOf e))
-
-  -- the records before the place answered are the first ones of the bytes
-  pub boot-before : (F : Facts) (o : Booted) → BootBytes F b o → take (o .place) (recordsOf b) ≡ recordsIn (o .place) b
-  boot-before F o r = records-before (o .place) (omega (arith, boot-within (endOf b) F (recordsOf b) 0 o r, records-counted))

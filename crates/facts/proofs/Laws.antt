@@ -52,7 +52,6 @@ host-laws =
 pub bytes-laws : BytesLaws
 bytes-laws =
     record {
-      none = (refl, refl);
       few = λ b one few. (records-few b few, end-broken b (λ e. omega (arith, e)));
       more = λ b full. (records-more b full, end-more b full);
       counted = records-counted;

@@ -60,8 +60,6 @@ pub record HostLaws : Type 0 where
 
 -- of the bytes of a boot list: which records they are, and the code at their end
 pub record BytesLaws : Type 0 where
-  -- no bytes are no record
-  pub none : (recordsOf [] ≡ []) × (endOf [] ≡ Success)
   -- "bytes too few for a record at the end are refused at its place with BAD_ARG_LENGTH"
   pub few : (b : List ℕ) → 1 ≤ length b → length b < recordSize → (recordsOf b ≡ []) × (endOf b ≡ BadArgLength)
   -- where there are enough, the record at their head comes first, and what follows it is a list again

@@ -3,10 +3,10 @@ use mathlib.Core.Path.{_≡_, refl, ap, sym, _∙_, subst}
 use mathlib.Core.Logic.{_⊎_, inl, inr, ⊎-elim, _≢_}
 use mathlib.Core.List.{List, [], _∷_}
 use mathlib.Core.Bool.{Bool, cond, true, false, false≢true}
-use Prim.Native.Nat.{ℕ, zero, suc, _+_, _≤_}
+use Prim.Native.Nat.{ℕ, zero, suc, _+_, _*_, _≤_}
 use native.Mathlib.Decide.{ℕ-discrete, decLe}
 use native.Mathlib.Omega.{arith}
-use lib.ListN.{take}
+use lib.ListN.{length, take}
 use lib.Dec.{eqb}
 use borrow.Author.Tests.{eqb-true, eqb-false}
 use Rattle.facts.specs.declared.Code.{Code}
@@ -18,13 +18,13 @@ use Rattle.facts.specs.WellFormed.{WellFormed}
 use Rattle.facts.specs.Checks.{Passed}
 use Rattle.facts.specs.Resources.{withoutRange, levelAdded, levelRemoved, rangeAdded, rangeRemoved, reserves, ioRange, irqLevel, NotBuilt}
 use Rattle.facts.specs.Resources.{addLevelChecks, addRangeChecks, removeRangeChecks}
-use Rattle.facts.specs.Boot.{Boot, BootBytes, Booted, ended, refused, added, recordsIn, recordsOf, endOf, recordChecks, recordAdded}
+use Rattle.facts.specs.Boot.{Boot, BootBytes, Booted, ended, refused, added, recordSize, recordsIn, recordsOf, endOf, recordChecks, recordAdded}
 use Rattle.facts.proofs.Sets.{put-same, in-without, without-in, apart-left-out}
 use Rattle.facts.proofs.Told.{told}
 use Rattle.facts.proofs.Unique.{range-unique}
 use Rattle.facts.proofs.Resources.{three-or-four}
 use Rattle.facts.proofs.Refusals.{boot-place}
-use Rattle.facts.proofs.Boot.{boot-before}
+use Rattle.facts.proofs.Laws.{host-laws, bytes-laws}
 use Rattle.facts.proofs.ResourcesStay.{inserted-in, in-inserted, new-inserted}
 use Rattle.history.specs.Stands.{Fact, level, range, Recorded, level-recorded, range-recorded}
 use Rattle.history.specs.Tables.{Tells}
@@ -164,5 +164,8 @@ module _ (e : Code) where
 pub bytes-turns : (F : Facts) (b : List ℕ) (o : Booted) → BootBytes F b o
     → Turns (λ (f : Fact). ⊥) (RecordsMake (recordsIn (o .place) b)) 0 F (o .facts)
 bytes-turns F b o r =
-    subst (λ (rs : List Record). Turns (λ (f : Fact). ⊥) (RecordsMake rs) 0 F (o .facts)) (boot-before b F o r)
+    subst (λ (rs : List Record). Turns (λ (f : Fact). ⊥) (RecordsMake rs) 0 F (o .facts)) (bytes-laws .before b (o .place) within)
     (boot-turns (endOf b) F (recordsOf b) 0 o (o .place) r (omega arith))
+  where
+    within : o .place * recordSize ≤ length b
+    within = omega (arith, host-laws .boot-within (endOf b) F (recordsOf b) o r, bytes-laws .counted b)
