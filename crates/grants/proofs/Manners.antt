@@ -1,53 +1,36 @@
 -- The manners that don't go with one; what IRQ grants hold; and that a grant keeps company with those of the sockets below it exactly if none of them
 -- holds its level in a manner that doesn't go with its own. Assumes nothing.
 use mathlib.Core.Path.{_≡_, refl, sym, ap, ap₂, _∙_, subst}
+use mathlib.Core.Logic.{_↔_}
 use mathlib.Core.List.{List}
-use mathlib.Core.Bool.{Bool, not}
 use Prim.Native.Nat.{ℕ, _+_, _*_, _^_, _≤_, _<_}
-use native.Mathlib.Decide.{ℕ-discrete}
 use native.Mathlib.Omega.{arith}
-use borrow.Author.Tests.{eq-eqb, ne-eqb}
 use lib.Bits.{bitAnd}
 use lib.Dec.{eqb}
 use Rattle.facts.specs.declared.Manner.{Manner}
+use Rattle.facts.specs.declared.Manner.the-variants.{Exclusive, TimeMultiplexed, DynamicLevel, DynamicPulse}
 use Rattle.facts.specs.Says.{Says}
 use Rattle.facts.specs.Packets.{byte, bit}
 use Rattle.facts.specs.Levels.{Together}
-use Rattle.facts.proofs.Says.{says-as, says-not, says-dec}
+use Rattle.facts.proofs.Says.{says-as, says-dec}
 use Rattle.layout.specs.Layout.{irqSize}
 use Rattle.layout.specs.Reading.{irqPlace, irqIn, mannerOf}
 use Rattle.layout.specs.Sound.{IrqUsed, IrqPlaceSound, IrqPairSound}
-use Rattle.layout.proofs.Parts.{Below, below-at}
+use Rattle.layout.proofs.Parts.{below-at}
 use Rattle.layout.proofs.Grants.{used-sound}
+use Rattle.levels.specs.Places.{MannersApart}
 use Rattle.levels.proofs.Rule.{rule-says}
 use Rattle.reading.specs.Sets.{Exactly}
 use Rattle.reading.proofs.Sets.{exactly-one, bit-below, shifted-bit, shifted-only}
 use Rattle.grants.specs.Parts.{PlacesSound, CompanySound}
-use Rattle.grants.specs.Company.{MannersApart, Held, HeldBelow, Against, heldAs}
+use Rattle.grants.specs.Company.{Held, HeldBelow, Against, heldAs}
 use Rattle.grants.proofs.Covering.{common-says}
 
--- a set of manners by its bits: r says which manners go with m, and a bit is 1 exactly where r is false
-module _ (n set : ℕ) (m : Manner) (e : mannerOf n ≡ m) (l : set < 2 ^ 4) {r : ℕ → Bool} (s : (k : ℕ) → Says (r k) (Together m (mannerOf k)))
-    (a : Below 4 (λ k. eqb (bit set k) 1 ≡ not (r k))) where
-  bit-says : (k : ℕ) → k < 4 → Says (eqb (bit set k) 1) (Together (mannerOf n) (mannerOf k) → ⊥)
-  bit-says k h = rw (e, below-at 4 (λ j. eqb (bit set j) 1 ≡ not (r j)) a k h) (says-not (s k))
-
-  apart-bit : (k : ℕ) → k < 4 → (Together (mannerOf n) (mannerOf k) → ⊥) → bit set k ≡ 1
-  apart-bit k h p = go (ℕ-discrete (bit set k) 1)
-    where
-      go : Dec (bit set k ≡ 1) → bit set k ≡ 1
-      go (yes b) = b
-      go (no d) = absurd (bit-says k h .fails (ne-eqb _ _ d) p)
-
-  pub apart-by : MannersApart n set
-  apart-by =
-      record {
-        manners = l;
-        apart = record {
-          has = λ k p. apart-bit k (omega (arith, p .0)) (p .1);
-          only = λ k b. let h = bit-below set 4 k l b in (omega arith, bit-says k h .holds (eq-eqb _ _ b));
-        };
-      }
+-- the set of the manners that don't go with one, by their numbers
+number-apart : {m : Manner} {set : ℕ} → MannersApart m set → (k : ℕ) → k < 4 → (bit set k ≡ 1) ↔ (Together m (mannerOf k) → ⊥)
+number-apart {m} {set} a =
+    below-at 4 (λ k. (bit set k ≡ 1) ↔ (Together m (mannerOf k) → ⊥))
+    ((((tt, a .apart Exclusive), a .apart TimeMultiplexed), a .apart DynamicLevel), a .apart DynamicPulse)
 
 -- what a grant holds, by the level and the manner that its record says
 module _ (b : List ℕ) (s : ℕ) {level manner : ℕ} (l : level ≡ byte b (irqPlace s + 2)) (m : manner ≡ byte b (irqPlace s + 3)) (u : IrqUsed b s)
@@ -56,23 +39,23 @@ module _ (b : List ℕ) (s : ℕ) {level manner : ℕ} (l : level ≡ byte b (ir
   own-held e =
       rw e (exactly-one (heldAs level manner) (record { used = u; number = sym (ap₂ heldAs l m) }) (λ k h. ap₂ heldAs l m ∙ h .number))
 
-  pub apart-against : (apart : ℕ) → MannersApart manner apart → set ≡ apart * 2 ^ (level * 4) → Exactly set (Against b s)
+  pub apart-against : (apart : ℕ) → MannersApart (mannerOf manner) apart → set ≡ apart * 2 ^ (level * 4) → Exactly set (Against b s)
   apart-against apart a e = record { has = has; only = only }
     where
       has : (k : ℕ) → Against b s k → bit set k ≡ 1
       has k g =
           ap₂ bit e (sym (ap (λ (n : ℕ). heldAs n (g .manner)) l ∙ g .number)) ∙ shifted-bit apart (level * 4) (g .manner)
-          ∙ a .apart .has (g .manner) (g .last, rw m (g .apart))
+          ∙ number-apart a (g .manner) (omega (arith, g .last)) .1 (rw m (g .apart))
 
       only : (k : ℕ) → bit set k ≡ 1 → Against b s k
       only k o =
           let at = shifted-only apart (level * 4) k (ap (λ (n : ℕ). bit n k) (sym e) ∙ o) in
-          let manners = a .apart .only (at .0) (at .2) in
+          let low = bit-below apart 4 (at .0) (a .manners) (at .2) in
           record {
             used = u;
             manner = at .0;
-            last = manners .0;
-            apart = rw m at (manners .1);
+            last = omega (arith, low);
+            apart = rw m at (number-apart a (at .0) low .0 (at .2));
             number = ap (λ (n : ℕ). heldAs n (at .0)) (sym l) ∙ at .1;
           }
 

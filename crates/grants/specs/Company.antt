@@ -36,11 +36,6 @@ pub record Answers (b : List ℕ) (s k : ℕ) : Type 0 where
 abbrev pub heldAs : ℕ → ℕ → ℕ
 heldAs level manner = level * 4 + manner
 
--- the set is that of the manners that don't go with the manner n
-pub record MannersApart (n set : ℕ) : Type 0 where
-  pub manners : set < 2 ^ 4
-  pub apart : Exactly set (λ m. (m ≤ 3) × (Together (mannerOf n) (mannerOf m) → ⊥))
-
 -- the IRQ grant of the socket s holds its level in its manner
 pub record Held (b : List ℕ) (s k : ℕ) : Type 0 where
   pub used : IrqUsed b s

@@ -25,7 +25,7 @@ ghost use Rattle.layout.specs.Reading.{clientsIn};
 ghost use Rattle.layout.specs.Sound.{IoPlaceSound, IrqPlaceSound, IrqPairSound, CountsSound, ClientsSound};
 ghost use Rattle.reading.specs.Sets.{Exactly};
 ghost use Rattle.grants.specs.Parts.{HolderSound, PlacesSound, CompanySound, SocketSound, IosSound, IrqsSound};
-ghost use Rattle.grants.specs.Company.{MannersApart, HeldBelow, HoldingIs};
+ghost use Rattle.grants.specs.Company.{HeldBelow, HoldingIs};
 
 // The manners are 0 to 3.
 const LAST_MANNER: usize = 3;
@@ -82,18 +82,6 @@ fn irq_place_sound(t: &[u8], s: Socket) -> bool
     irq_holder_sound(t, at, s)
 }
 
-// "Two manners go together by a four by four table: only equal ones, and never exclusive.": a bit for each manner that doesn't go with one.
-fn manners_apart(n: usize) -> u64
-    ensures { λ r. ⌜ MannersApart n r ⌝ }
-{
-    match n {
-        0 => 15,
-        1 => 13,
-        2 => 11,
-        _ => 7,
-    }
-}
-
 // The level that a grant holds: in its own manner, and in each manner that doesn't go with it.
 pub struct Holding {
     pub own: u64,
@@ -113,7 +101,7 @@ fn irq_holding(t: &[u8], s: Socket) -> Holding
     let manner = reading::byte(t, at + IRQ_MANNER);
     let first = reading::byte(t, at + IRQ_LEVEL) * ALL_MANNERS;
     let own = 1 << (first + manner);
-    let against = manners_apart(manner) << first;
+    let against = levels::apart(reading::manner_of(manner)) << first;
     Holding { own, against }
 }
 

@@ -1,17 +1,19 @@
--- The table of the sharing rule is the rule at every pair of manners. Assumes nothing.
+-- The table of the sharing rule is the rule at every pair of manners; four marks of it are a set of manners. Assumes nothing.
 use mathlib.Core.Path.{_≡_, refl, ap, sym, _∙_}
+use mathlib.Core.Logic.{_↔_}
 use mathlib.Core.List.{List, [], _∷_}
 use mathlib.Core.Bool.{Bool, true, false, cond, not}
-use Prim.Native.Nat.{ℕ, _<_}
+use Prim.Native.Nat.{ℕ, _^_, _<_}
 use native.Mathlib.Omega.{arith}
 use lib.Dec.{T, eqb, eqb→eq}
 use lib.ListN.{length, getD}
 use Rattle.facts.specs.Says.{Says}
+use Rattle.facts.specs.Packets.{bit}
 use Rattle.facts.specs.Levels.{Together}
 use Rattle.facts.proofs.Says.{says-false, says-as, says-eq, says-not}
 use Rattle.facts.specs.declared.Manner.{Manner}
 use Rattle.facts.specs.declared.Manner.the-variants.{Exclusive, TimeMultiplexed, DynamicLevel, DynamicPulse}
-use Rattle.levels.specs.Places.{placeOf}
+use Rattle.levels.specs.Places.{placeOf, MarksApart, MannersApart}
 use Rattle.levels.proofs.Table.{both, both-left, both-right, every, at}
 
 -- how many manners there are
@@ -88,3 +90,14 @@ rule-says a b =
     (says-as (says-both _ _ (says-eq (placeOf a) (placeOf b)) (says-not (says-eq (placeOf a) 0)))
     (λ x. record { equal = place-injective a b (x .0); shares = λ e. x .1 (ap placeOf e) })
     (λ t. (ap placeOf (t .equal), λ e. t .shares (place-injective a Exclusive e))))
+
+-- a set that has a mark for each manner, at its place
+pub marks-apart : {m : Manner} {set e t l p : ℕ} → MarksApart m Exclusive e → MarksApart m TimeMultiplexed t → MarksApart m DynamicLevel l
+    → MarksApart m DynamicPulse p → (bit set 0 ≡ e) × (bit set 1 ≡ t) × (bit set 2 ≡ l) × (bit set 3 ≡ p) → set < 2 ^ manners → MannersApart m set
+marks-apart {m} {set} exclusive time level pulse bits small = record { manners = small; apart = at-place }
+  where
+    at-place : (k : Manner) → (bit set (placeOf k) ≡ 1) ↔ (Together m k → ⊥)
+    at-place Exclusive = rw (bits .0) (exclusive .apart)
+    at-place TimeMultiplexed = rw (bits .1) (time .apart)
+    at-place DynamicLevel = rw (bits .2) (level .apart)
+    at-place DynamicPulse = rw (bits .3) (pulse .apart)

@@ -4,7 +4,7 @@ ghost use mathlib.Core.Path.{_≡_};
 ghost use Prim.Native.Nat.{_≤_};
 ghost use Rattle.facts.specs.Says.{Says};
 ghost use Rattle.facts.specs.Levels.{Together, typeOf};
-ghost use Rattle.levels.specs.Places.{placeOf};
+ghost use Rattle.levels.specs.Places.{placeOf, MarksApart, MannersApart};
 
 // The types of a request's bits 0 to 1 (5.53).
 pub const EXCLUSIVE_TYPE: u8 = 0;
@@ -52,4 +52,35 @@ pub fn together(a: Manner, b: Manner) -> bool
     let i = place(a);
     let j = place(b);
     TOGETHER[i][j]
+}
+
+// 1 if two manners don't go together, else 0.
+fn mark_apart(a: Manner, b: Manner) -> u64
+    ensures { λ r. ⌜ MarksApart a b r ⌝ }
+{
+    if together(a, b) { 0 } else { 1 }
+}
+
+// The set of the manners that don't go together with one: a bit for each, at its place in the table. For dynamic level these are exclusive,
+// time-multiplexed and dynamic pulse: 1 + 2 + 8.
+fn row_apart(m: Manner) -> u64
+    ensures { λ r. ⌜ MannersApart m r ⌝ }
+{
+    let exclusive = mark_apart(m, Manner::Exclusive);
+    let time_multiplexed = mark_apart(m, Manner::TimeMultiplexed);
+    let dynamic_level = mark_apart(m, Manner::DynamicLevel);
+    let dynamic_pulse = mark_apart(m, Manner::DynamicPulse);
+    exclusive + 2 * time_multiplexed + 4 * dynamic_level + 8 * dynamic_pulse
+}
+
+// The same, and quick: each arm names its manner, so the compiler works out its row, and the code has a number there.
+pub fn apart(m: Manner) -> u64
+    ensures { λ r. ⌜ MannersApart m r ⌝ }
+{
+    match m {
+        Manner::Exclusive => row_apart(Manner::Exclusive),
+        Manner::TimeMultiplexed => row_apart(Manner::TimeMultiplexed),
+        Manner::DynamicLevel => row_apart(Manner::DynamicLevel),
+        Manner::DynamicPulse => row_apart(Manner::DynamicPulse),
+    }
 }

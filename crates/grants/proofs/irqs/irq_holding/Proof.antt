@@ -72,24 +72,27 @@ add-own c = search needs
 shl-own : tie.Need-shl-own
 shl-own c = number c
 
-manners-apart-requires : tie.Need-manners-apart-requires
-manners-apart-requires c κs = search needs
+manner-of-requires : tie.Need-manner-of-requires
+manner-of-requires c κs = search needs
+
+apart-requires : tie.Need-apart-requires
+apart-requires c κs = search needs
 
 shl-against : tie.Need-shl-against
-shl-against c = omega (arith, number (c .before))
+shl-against c = omega (arith, number (c .before .before))
 
 returns-2 : tie.Need-returns-2
 returns-2 c =
-    let read = c .before in
+    let read = c .before .before in
     let a = begun (found read) .args in
     let manner = read .before .byte .ensures .0 in
     let level = read .byte2 .ensures .0 in
     let here = used (found read) in
+    let apart = rw (c .before .manner-of .ensures) at (c .apart .ensures) in
     record {
       own = own-held (now (a .t)) (a .s .0) level manner here _ (one-shifted _ 64 (number read));
       against =
-          apart-against (now (a .t)) (a .s .0) level manner here _ _ (c .manners-apart .ensures)
-          (shl-exact 4 _ 64 (c .manners-apart .ensures .manners) (omega (arith, number read)));
+          apart-against (now (a .t)) (a .s .0) level manner here _ _ apart (shl-exact 4 _ 64 (apart .manners) (omega (arith, number read)));
     }
 
 pub irq-holding-spec : {M : Type 1} → statement M
@@ -107,6 +110,7 @@ irq-holding-spec =
     mul-first
     add-own
     shl-own
-    manners-apart-requires
+    manner-of-requires
+    apart-requires
     shl-against
     returns-2)
