@@ -1,25 +1,32 @@
 -- The cases of K2 hold. Assumes nothing.
-use mathlib.Core.Path.{_≡_, refl, ap, sym, _∙_}
+use mathlib.Core.Path.{_≡_, refl, ap, sym, _∙_, subst}
 use mathlib.Core.Logic.{_⊎_, inl, inr, ⊎-elim, _≢_, Iff·rfl}
 use mathlib.Core.List.{List, []}
-use mathlib.Core.Bool.{true≢false}
-use mathlib.Core.Option.{Option·none-ne-some}
-use Prim.Native.Nat.{ℕ, _*_, _%_, _^_, _≤_, _<_}
+use mathlib.Core.Bool.{true, true≢false}
+use mathlib.Core.Option.{some, Option·none-ne-some, Option·some-injective}
+use Prim.Native.Nat.{ℕ, _+_, _*_, _%_, _^_, _≤_, _<_}
 use native.Mathlib.Nat.{le-refl, mod-eq-of-lt}
 use native.Mathlib.Decide.{decLt}
 use native.Mathlib.Omega.{arith}
+use Rattle.facts.specs.declared.Code.{Code}
 use Rattle.facts.specs.declared.Code.the-variants.{BadBase, InUse}
-use Rattle.facts.specs.Table.{Facts, Range}
-use Rattle.facts.specs.Ports.{Managed, Answers, WhollyUnreserved}
-use Rattle.facts.specs.Choice.{Chosen}
-use Rattle.facts.specs.Checks.{Passed}
+use Rattle.facts.specs.Sets.{_∈_}
+use Rattle.facts.specs.Table.{Facts, Range, IoGrant, fresh}
+use Rattle.facts.specs.WellFormed.{WellFormed, IoFits}
+use Rattle.facts.specs.Ports.{Within, Managed, Answers, WhollyUnreserved}
+use Rattle.facts.specs.Checks.{FirstGiven, Passed}
 use Rattle.facts.specs.Packets.{withWord}
-use Rattle.facts.specs.Io.{RequestIo, Candidate, SmallestPower, NotAllManaged, baseAsked, ioAheadChecks, baseChecks, ioRequestChecks}
+use Rattle.facts.specs.Sockets.{withCard}
+use Rattle.facts.specs.Io.{RequestIo, Candidate, NoCandidate, CandidateTaken, SmallestPower, NotAllManaged}
+use Rattle.facts.specs.Io.{baseAsked, ioAheadChecks, baseChecks, ioRequestChecks}
+use Rattle.facts.proofs.Formed.{fresh-formed, card-formed, ranges-formed, io-formed}
+use Rattle.facts.proofs.ClientsStay.{register-stays}
 use Rattle.facts.proofs.Choices.{smallest-power-unique}
 use Rattle.facts.proofs.Unique.{request-io-unique}
-use Rattle.cases.specs.Cases.{Exactly, done, refused, ports, range, ready, grantingIo}
+use Rattle.cases.specs.Cases.{Exactly, done, refused, ports, range, ready, grantingIo, clientPacket}
 use Rattle.cases.specs.Answering.{AnsweringCases, boardsPorts, allAdded, alike, linesPacket, removePacket}
-use Rattle.cases.proofs.Cases.{adjusts}
+use Rattle.cases.proofs.Ports.{eight}
+use Rattle.cases.proofs.Cases.{adjusts, registers}
 use Rattle.cases.proofs.Permitted.{exactly, as-left, as-kept, _then_, _nor_}
 
 -- RequestIO on a table with N8's client and cards, no I/O grant and these ranges
@@ -52,26 +59,24 @@ module _ (rs : List Range) (low high count lines : ℕ) (lined : (1 ≤ lines) �
       then (λ e. e refl)
       then tt
 
-  -- a base that is named and isn't all managed is refused; one that is is granted
-  named-refused : baseAsked packet ≢ 0 → NotAllManaged table packet → Exactly (RequestIo table 1 packet) (refused BadBase packet table)
-  named-refused named bad =
+  -- then what the base's checks give is given, and where they pass, all pass
+  base-given : {k : Code} → FirstGiven (baseChecks table packet) k → FirstGiven (ioRequestChecks table 1 packet) k
+  base-given base =
       let own = ahead .1 .1 .1 .1 in
-      exactly (request-io-unique table 1 packet)
-      (inl (
-        inr (
-          ahead .0,
-          inr (
-            ahead .1 .0,
-            inr (ahead .1 .1 .0, inr (ahead .1 .1 .1 .0, inr (own .0, inr (own .1 .0, inr (own .1 .1 .0, inl ((named, bad), refl)))))),
-          ),
-        ),
-        as-kept BadBase packet table,
-      ))
+      inr (
+        ahead .0,
+        inr (ahead .1 .0, inr (ahead .1 .1 .0, inr (ahead .1 .1 .1 .0, inr (own .0, inr (own .1 .0, inr (own .1 .1 .0, base)))))),
+      )
 
   base-passed : Passed (baseChecks table packet) → Passed (ioRequestChecks table 1 packet)
   base-passed base =
       let own = ahead .1 .1 .1 .1 in
       ahead .0 then ahead .1 .0 then ahead .1 .1 .0 then ahead .1 .1 .1 .0 then own .0 then own .1 .0 then own .1 .1 .0 then base
+
+  -- a base that is named and isn't all managed is refused; one that is is granted
+  named-refused : baseAsked packet ≢ 0 → NotAllManaged table packet → Exactly (RequestIo table 1 packet) (refused BadBase packet table)
+  named-refused named bad =
+      exactly (request-io-unique table 1 packet) (inl (base-given (inl ((named, bad), refl)), as-kept BadBase packet table))
 
   named-granted : baseAsked packet ≢ 0 → (NotAllManaged table packet → ⊥) → withWord packet 2 (baseAsked packet) ≡ packet
       → Exactly (RequestIo table 1 packet) (done 1 packet (grantingIo 1 (ports (baseAsked packet) count lines) table))
@@ -89,10 +94,29 @@ module _ (rs : List Range) (low high count lines : ℕ) (lined : (1 ≤ lines) �
         ),
       ))
 
+  -- base 0 is given the first candidate; without one it is refused
+  first-given : baseAsked packet ≡ 0 → (b : ℕ) → CandidateTaken table packet b
+      → Exactly (RequestIo table 1 packet) (done 1 (withWord packet 2 b) (grantingIo 1 (ports b count lines) table))
+  first-given asked b taken =
+      exactly (request-io-unique table 1 packet)
+      (inr (
+        base-passed ((λ e. e .0 asked) then (λ e. e .0 asked) then (λ e. e .1 b (taken .fits)) then tt),
+        (refl, record { base = b; taken = inr (asked, taken); leaves = as-left _ }),
+      ))
+
+  none-refused : baseAsked packet ≡ 0 → NoCandidate table packet → Exactly (RequestIo table 1 packet) (refused InUse packet table)
+  none-refused asked none =
+      exactly (request-io-unique table 1 packet)
+      (inl (base-given (inr (λ e. e .0 asked, inr (λ e. e .0 asked, inl ((asked, none), refl)))), as-kept InUse packet table))
+
 -- 2F8 to 2FF lie in none of the ranges
-board-unmanaged : Managed boardsPorts 0x2F8 → ⊥
-board-unmanaged m =
-    ⊎-elim (λ e. omega (arith, rw e at (m .has) .below)) (⊎-elim (λ e. omega (arith, rw e at (m .has) .from)) absurd) (m .listed)
+board-unmanaged : (F : Facts) → F .ranges ≡ boardsPorts .ranges → Managed F 0x2F8 → ⊥
+board-unmanaged F e m =
+    ⊎-elim (λ e. omega (arith, rw e at (m .has) .below)) (⊎-elim (λ e. omega (arith, rw e at (m .has) .from)) absurd) (rw e at (m .listed))
+
+-- a card of ten lines that is given 6F8 answers there
+six-answers : Answers (ports 0x6F8 8 10) 0x2F8
+six-answers = record { below = omega arith; own = 0x6F8; own-in = omega arith; equal = refl }
 
 -- every port lies in one of the three, once they are added
 all-managed : (q : ℕ) → q < 0x10000 → Managed allAdded q
@@ -150,7 +174,7 @@ candidates-are y c = ⊎-elim (λ l. inl (omega (arith, l, is))) (λ l. inr (ome
     is = rw (smallest-power-unique 16 16 (c .step) sixteen (c .align)) (c .multiple)
 
 -- of these, the ports at 8300 alone lie wholly in unreserved ranges
-high-first : Chosen (Candidate alike (linesPacket 1 0x00 0x00 16 15)) (λ b. WhollyUnreserved alike b 16) 0x8300
+high-first : CandidateTaken alike (linesPacket 1 0x00 0x00 16 15) 0x8300
 high-first =
     record { fits = high-candidate; first = λ y c. ⊎-elim (λ e. rw e (inl (unreserved, reserved))) (λ e. rw e (inr (Iff·rfl, le-refl 0x8300))) (candidates-are y c) }
   where
@@ -163,12 +187,104 @@ high-first =
         ⊎-elim (λ e. true≢false (sym (ap (λ (r : Range). r .reserved) e) ∙ u .1))
         (⊎-elim (λ e. omega (arith, rw e at (u .0 .has) .from)) absurd) (u .0 .listed)
 
+-- a card of fourteen lines has no candidate there: it would answer 4000 above its own ports, too, where nothing is managed
+all-barred : NoCandidate alike (linesPacket 1 0x00 0x00 16 14)
+all-barred y c = go (managed-alike y (c .managed y first-own))
+  where
+    first-own : Within y y 16
+    first-own = record { from = omega arith; below = omega arith }
+
+    image : y < 0xC000 → ((0x300 ≤ y + 0x4000) × (y + 0x4000 < 0x310)) ⊎ ((0x8300 ≤ y + 0x4000) × (y + 0x4000 < 0x8310))
+    image l = managed-alike _ (c .answers (y + 0x4000) (record { below = omega arith; own = y; own-in = first-own; equal = omega arith }))
+
+    go : ((0x300 ≤ y) × (y < 0x310)) ⊎ ((0x8300 ≤ y) × (y < 0x8310)) → ⊥
+    go (inl l) = ⊎-elim (λ m. omega (arith, l, m)) (λ m. omega (arith, l, m)) (image (omega (arith, l)))
+    go (inr l) = ⊎-elim (λ m. omega (arith, l, m)) (λ m. omega (arith, l, m)) (image (omega (arith, l)))
+
+-- on `boardsPorts` a card of four lines that is given 10 answers at managed ports alone: 2F8 to 2FF are others modulo 16
+ten-managed : (q own : ℕ) → q < 0x10000 → q % 16 ≡ own % 16 → Within own 0x10 8 → Managed boardsPorts q
+ten-managed q own l e w = go (decLt q 0x2F8)
+  where
+    go : Dec (q < 0x2F8) → Managed boardsPorts q
+    go (yes m) = record { range = range 0 0x2F8; listed = inl refl; has = record { from = omega arith; below = m } }
+    go (no m) = upper-managed q (omega (arith, e, w .from, w .below)) l
+
+ten-candidate : Candidate boardsPorts (linesPacket 1 0x00 0x00 8 4) 0x10
+ten-candidate =
+    record {
+      step = 8;
+      times = 2;
+      align = eight 8 (omega arith);
+      multiple = refl;
+      positive = omega arith;
+      managed = λ q w. ten-managed q q (omega (arith, w .below)) refl w;
+      answers = λ q a. ten-managed q (a .own) (a .below) (a .equal) (a .own-in);
+      within = omega arith;
+      meets-none = λ s g e. absurd (Option·none-ne-some g e);
+    }
+
+-- 8 is no candidate, and no range is reserved: so 10 comes first
+ten-first : CandidateTaken boardsPorts (linesPacket 1 0x00 0x00 8 4) 0x10
+ten-first =
+    record {
+      fits = ten-candidate;
+      first = λ y c. inr ((λ u. unreserved y c, λ u. unreserved 0x10 ten-candidate), omega (arith, is y c, c .positive, not-eight y c));
+    }
+  where
+    is : (y : ℕ) (c : Candidate boardsPorts (linesPacket 1 0x00 0x00 8 4) y) → y ≡ c .times * 8
+    is y c = rw (smallest-power-unique 8 8 (c .step) (eight 8 (omega arith)) (c .align)) (c .multiple)
+
+    not-eight : (y : ℕ) → Candidate boardsPorts (linesPacket 1 0x00 0x00 8 4) y → y ≢ 8
+    not-eight y c e =
+        board-unmanaged boardsPorts refl
+        (c .answers 0x2F8 (record { below = omega arith; own = 8; own-in = record { from = omega (arith, e); below = omega (arith, e) }; equal = refl }))
+
+    unreserved : (y : ℕ) → Candidate boardsPorts (linesPacket 1 0x00 0x00 8 4) y → WhollyUnreserved boardsPorts y 8
+    unreserved y c q w =
+        let m = c .managed q w in
+        (m, ⊎-elim (ap (λ (r : Range). r .reserved)) (⊎-elim (ap (λ (r : Range). r .reserved)) absurd) (m .listed))
+
+-- the table with all ports added is well formed, and a grant of 6F8 fits it
+ready-formed : WellFormed ready
+ready-formed =
+    register-stays (withCard two 2 true) 0 clientPacket (done 1 clientPacket ready) (card-formed two two-formed 2 true (omega arith))
+    (registers (withCard two 2 true) (omega arith) .permitted)
+  where
+    two : Facts
+    two = withCard (withCard (fresh 3) 0 true) 1 true
+
+    two-formed : WellFormed two
+    two-formed = card-formed _ (card-formed _ (fresh-formed 3 (omega arith) (omega arith)) 0 true (omega arith)) 1 true (omega arith)
+
+all-added-formed : WellFormed allAdded
+all-added-formed =
+    ranges-formed ready ready-formed (allAdded .ranges) (omega arith) (omega arith) below-end (λ s g e. absurd (Option·none-ne-some g e))
+  where
+    below-end : (r : Range) → r ∈ allAdded .ranges → r .base + r .count ≤ 0x10000
+    below-end r = ⊎-elim (λ e. rw e (omega arith)) (⊎-elim (λ e. rw e (omega arith)) (⊎-elim (λ e. rw e (omega arith)) absurd))
+
+six-fits : (g : IoGrant) → grantingIo 1 (ports 0x6F8 8 10) allAdded .io 1 ≡ some g → IoFits allAdded 1 g
+six-fits g e =
+    subst (IoFits allAdded 1) (Option·some-injective _ g e)
+    (record {
+      client = record { client = _; listed = inl refl; handle = refl };
+      socket = omega arith;
+      base = omega arith;
+      line = omega arith;
+      lines = omega arith;
+      port = omega arith;
+      asked = omega arith;
+      decoded = omega arith;
+      managed = λ q w. all-managed q (omega (arith, w .below));
+      answers = λ q a. all-managed q (a .below);
+    })
+
 pub answering-cases : AnsweringCases
 answering-cases =
     record {
       unmanaged-refused =
           named-refused (boardsPorts .ranges) 0xF8 0x06 8 10 (omega arith) (omega arith) (omega arith)
-          (inr (inr (λ all. board-unmanaged (all 0x2F8 (record { below = omega arith; own = 0x6F8; own-in = omega arith; equal = refl })))));
+          (inr (inr (λ all. board-unmanaged boardsPorts refl (all 0x2F8 six-answers))));
       managed-granted =
           named-granted (allAdded .ranges) 0xF8 0x06 8 10 (omega arith) (omega arith) (omega arith)
           ((λ l. omega arith) nor (λ n. n (λ q w. all-managed q (omega (arith, w .below)))) nor (λ n. n (λ q a. all-managed q (a .below)))) refl;
@@ -176,6 +292,8 @@ answering-cases =
           named-granted (boardsPorts .ranges) 0xF8 0x06 8 16 (omega arith) (omega arith) (omega arith)
           ((λ l. omega arith) nor (λ n. n (λ q w. upper-managed q (omega (arith, w .from)) (omega (arith, w .below))))
           nor (λ n. n (λ q a. let same = at-home q a in upper-managed q (omega (arith, same, a .own-in .from)) (a .below)))) refl;
+      multiple-passed = first-given (boardsPorts .ranges) 0x00 0x00 8 4 (omega arith) (omega arith) refl 0x10 ten-first;
+      none-left = none-refused (alike .ranges) 0x00 0x00 16 14 (omega arith) (omega arith) refl all-barred;
       repeated-kept =
           adjusts (grantingIo 1 (ports 0x6F8 8 10) allAdded) (omega arith) 0x00 0xF8 0x02 8 0x00 16 (omega arith)
           (inr (inl (
@@ -199,7 +317,7 @@ answering-cases =
                             live = refl;
                             port = 0x2F8;
                             has = omega arith;
-                            answers = record { below = omega arith; own = 0x6F8; own-in = omega arith; equal = refl };
+                            answers = six-answers;
                           },
                         ),
                         refl,
@@ -211,13 +329,9 @@ answering-cases =
               as-kept InUse removePacket (grantingIo 1 (ports 0x6F8 8 10) allAdded),
             ),
           )));
-      own-ports-ordered =
-          exactly (request-io-unique alike 1 (linesPacket 1 0x00 0x00 16 15))
-          (inr (
-            base-passed (alike .ranges) 0x00 0x00 16 15 (omega arith) (omega arith)
-                ((λ e. e .0 refl) then (λ e. e .0 refl) then (λ e. e .1 0x8300 high-candidate) then tt),
-            (refl, record { base = 0x8300; taken = inr (refl, high-first); leaves = as-left _ }),
-          ));
+      own-ports-ordered = first-given (alike .ranges) 0x00 0x00 16 15 (omega arith) (omega arith) refl 0x8300 high-first;
+      unmanaged-unformed = λ w. board-unmanaged (grantingIo 1 (ports 0x6F8 8 10) boardsPorts) refl (w .ios 1 _ refl .answers 0x2F8 six-answers);
+      managed-formed = io-formed allAdded all-added-formed 1 _ six-fits (λ t g g′ d e live. absurd (Option·none-ne-some g′ live));
     }
   where
     -- at sixteen lines a card answers at its own ports alone

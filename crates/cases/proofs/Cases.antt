@@ -88,7 +88,7 @@ first-shows r F fits free =
     ))
 
 -- a table with room takes N10's client, and without grants and masks it lets it go
-registers : (F : Facts) → (length (F .clients) < 16) × (F .issued < 65535)
+pub registers : (F : Facts) → (length (F .clients) < 16) × (F .issued < 65535)
     → Exactly (Register F 0 clientPacket) (done (nextHandle F) clientPacket (registered F 4 0))
 registers F room =
     exactly (register-unique F 0 clientPacket)

@@ -24,7 +24,7 @@ pub meet-equal : {a b : Ports} → a .base + a .count ≤ 2 ^ min (a .lines) (b 
 meet-equal l l′ m = sym (mod-eq-of-lt (omega (arith, m .one-in))) ∙ m .equal ∙ mod-eq-of-lt (omega (arith, m .other-in))
 
 -- the smallest power of two not below 5, 6, 7 or 8 is 8, and no other
-eight : (n : ℕ) → (4 < n) × (n ≤ 8) → SmallestPower n 8
+pub eight : (n : ℕ) → (4 < n) × (n ≤ 8) → SmallestPower n 8
 eight n sized = record { power = 3; is = refl; not-below = sized .1; smallest = λ k l. go k l (decLe 3 k) }
   where
     go : (k : ℕ) → n ≤ 2 ^ k → Dec (3 ≤ k) → 8 ≤ 2 ^ k
