@@ -5,11 +5,11 @@ pub mod Codes
 pub mod Choices
 pub mod Company
 pub mod Joining
+pub mod Resources
 pub mod Unique
 pub mod Refusals
 pub mod Sharing
 pub mod Told
-pub mod Resources
 pub mod Formed
 pub mod ClientsStay
 pub mod ResourcesStay

@@ -10,7 +10,6 @@ use lib.ListN.{length}
 use Rattle.facts.specs.declared.Code.{Code}
 use Rattle.facts.specs.declared.Record.{Record}
 use Rattle.facts.specs.declared.Width.{Width}
-use Rattle.facts.specs.declared.Width.the-variants.{Short, Wide}
 use Rattle.facts.specs.Table.{Facts, Range}
 use Rattle.facts.specs.Sets.{_∈_}
 use Rattle.facts.specs.WellFormed.{Apart}
@@ -35,6 +34,7 @@ use Rattle.facts.specs.Boot.{Boot, ended, refused, added, stopped, recor
 use Rattle.facts.specs.Services.{Service, registerClient, deregisterClient, adjustResourceInfo, requestIrq, releaseIrq, requestIo, releaseIo}
 use Rattle.facts.specs.Services.{requestSocketMask, releaseSocketMask, serviceNumber, ruleOf, Call}
 use Rattle.facts.proofs.Sets.{apart-over, found}
+use Rattle.facts.proofs.Resources.{width-one}
 
 -- the first check that applies is one, and where one applies they don't all pass
 pub first-unique : (cs : List Check) (k k′ : Code) → FirstGiven cs k → FirstGiven cs k′ → k ≡ k′
@@ -222,10 +222,8 @@ module _ (F : Facts) (h : ℕ) (p : List ℕ) where
         (leaves-coincide (removeRangeChecks F (baseGiven w p) (countGiven w p) (attributesGiven w p) (linesGiven w p))) (show-range-unique w)
 
     at-width : Coincide (λ (o : Outcome). (w : Width) × (length p ≡ ioAdjustLength w) × AdjustIo w F h p o)
-    at-width o o′ (Short, e, r) (Short, e′, r′) = adjust-io-unique Short o o′ r r′
-    at-width o o′ (Short, e, r) (Wide, e′, r′) = absurd (omega arith)
-    at-width o o′ (Wide, e, r) (Short, e′, r′) = absurd (omega arith)
-    at-width o o′ (Wide, e, r) (Wide, e′, r′) = adjust-io-unique Wide o o′ r r′
+    at-width o o′ (w, e, r) (w′, e′, r′) =
+        adjust-io-unique w o o′ r (subst (λ (v : Width). AdjustIo v F h p o′) (width-one w′ w (sym e′ ∙ e)) r′)
 
     pub adjust-unique : Coincide (AdjustResourceInfo F h p)
     adjust-unique =
