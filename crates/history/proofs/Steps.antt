@@ -11,7 +11,6 @@ use borrow.Author.Tests.{eq-eqb, ne-eqb}
 use Rattle.facts.specs.declared.Code.{Code}
 use Rattle.facts.specs.declared.Code.the-variants.{Success}
 use Rattle.facts.specs.declared.Width.{Width}
-use Rattle.facts.specs.declared.Width.the-variants.{Short, Wide}
 use Rattle.facts.specs.Codes.{numberOf}
 use Rattle.facts.specs.Table.{Facts}
 use Rattle.facts.specs.WellFormed.{WellFormed}
@@ -27,6 +26,7 @@ use Rattle.facts.specs.Services.{Service, registerClient, deregisterClient, adj
 use Rattle.facts.specs.Services.{requestSocketMask, releaseSocketMask, serviceNumber, ruleOf, Call}
 use Rattle.facts.proofs.Codes.{code-injective}
 use Rattle.facts.proofs.Unique.{number-injective}
+use Rattle.facts.proofs.Resources.{width-one}
 use Rattle.facts.proofs.Refusals.{noSuccess, none-succeeds, first-not-success}
 use Rattle.facts.proofs.Sets.{put-same}
 use Rattle.history.specs.Events.{Event, makeFresh, call, cardIn, cardOut, boot, sharers}
@@ -38,13 +38,6 @@ use Rattle.history.proofs.Inverse.{adjusted-only, adjusted-back-only}
 use Rattle.history.proofs.Grants.{card-turns, request-io-turns, release-io-turns, request-irq-turns, release-irq-turns}
 use Rattle.history.proofs.Clients.{register-turns, deregister-turns, request-mask-turns, release-mask-turns}
 use Rattle.history.proofs.Resources.{level-added-turns, level-removed-turns, range-added-turns, range-removed-turns, bytes-turns}
-
--- a packet's length has one width
-width-one : (x y : Width) → ioAdjustLength x ≡ ioAdjustLength y → x ≡ y
-width-one Short Short e = refl
-width-one Short Wide e = absurd (omega (arith, e))
-width-one Wide Short e = absurd (omega (arith, e))
-width-one Wide Wide e = refl
 
 -- how many handles a service issues that answers SUCCESS
 abbrev issuedBy : Service → ℕ
