@@ -1,7 +1,8 @@
 #!/bin/sh
-# run.sh: builds the archive and the C side, tries what types must refuse, looks
-# at what the archive needs, and runs the header's example, the model's own
-# cases, the comparison and the demo. Ends at the first failure; types come last.
+# run.sh: builds the archive and the C side, tries what types must refuse and
+# contracts of the entries that a caller must refuse, looks at what the archive
+# needs, and runs the header's example, the model's own cases, the comparison and
+# the demo. Ends at the first failure; types and contracts come last.
 set -eu
 # shellcheck source=tests/toolchain.sh
 . "$(dirname "$0")/toolchain.sh"
@@ -15,11 +16,14 @@ quoted_example() {
 install_compilers
 build_archive
 
-# What types must refuse is tried beside the C side, which leaves a processor free.
+# What types and a caller must refuse is tried beside the C side, which leaves a
+# processor free.
 mkdir -p "$programs"
 sh tests/types.sh >"$programs/types.printed" 2>&1 &
 types=$!
-trap 'kill "$types" 2>/dev/null || true' EXIT
+sh tests/entries.sh >"$programs/entries.printed" 2>&1 &
+entries=$!
+trap 'kill "$types" "$entries" 2>/dev/null || true' EXIT
 
 echo "run: the header as C99 and as C++"
 compile_c -fsyntax-only tests/header.c
@@ -58,11 +62,12 @@ build demo tests/demo.c tests/names.c "$archive"
 run demo >"$programs/demo.printed"
 diff tests/demo.expected "$programs/demo.printed"
 
-echo "run: what types must refuse"
+echo "run: what types and a caller must refuse"
 tried=0
 wait "$types" || tried=$?
+wait "$entries" || tried=$?
 trap - EXIT
-cat "$programs/types.printed"
+cat "$programs/types.printed" "$programs/entries.printed"
 [ "$tried" -eq 0 ] || exit 1
 
 echo "run: all passed"

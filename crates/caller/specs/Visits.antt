@@ -21,6 +21,10 @@ pub record Plan : Type 0 where
   pub packet : List ℕ
   pub level : ℕ
 
+abbrev pub planned : ℕ → List ℕ → ℕ → ℕ → ℕ → List ℕ → ℕ → Plan
+planned sockets records socket service handle packet level =
+    record { sockets = sockets; records = records; socket = socket; service = service; handle = handle; packet = packet; level = level }
+
 -- the events of a visit in which the five entries after cs_fresh answered as r says, and the packet was left as q: each has what the plan gives, and
 -- the number answered is the one that it says
 pub record Visited (g : Plan) (q : List ℕ) (r : Answers) (b : List ℕ) : Type 0 where

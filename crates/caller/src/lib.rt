@@ -1,6 +1,6 @@
 // A caller of the entries, as the console's firmware is one: what its calls bring about is a run.
 ghost use Rattle.history.specs.Events.{FreshCame, CallCame, CardInCame, CardOutCame, BootCame, SharersCame};
-ghost use Rattle.caller.specs.Visits.{EndingIs};
+ghost use Rattle.caller.specs.Visits.{planned, EndingIs};
 
 // Each entry: what it answers and leaves is an event of a run.
 fn fresh(table: &mut [u8], sockets: u32) -> u32
@@ -68,7 +68,7 @@ pub fn visit(
     packet: &mut [u8],
     level: u32,
 ) -> Ending
-    ensures { λ r. ⌜ EndingIs (record { sockets = sockets; records = now (records .entry); socket = socket; service = service; handle = handle; packet = now (packet .entry); level = level }) (now (table .entry)) (now (table .exit)) (now (packet .exit)) r ⌝ }
+    ensures { λ r. ⌜ EndingIs (planned sockets (now (records .entry)) socket service handle (now (packet .entry)) level) (now (table .entry)) (now (table .exit)) (now (packet .exit)) r ⌝ }
 {
     let made = fresh(table, sockets);
     if made != SUCCESS {

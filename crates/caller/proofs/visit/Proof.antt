@@ -1,7 +1,7 @@
 -- `caller::visit` meets its contract: six calls, one after the other, are a run. Assumes nothing.
 use borrow.Author.Needs.{needs}
 use denote.Ref.{now}
-use Rattle.caller.specs.Visits.{Plan}
+use Rattle.caller.specs.Visits.{Plan, planned}
 use Rattle.caller.proofs.Visits.{refused, visited}
 use Rattle.caller.proofs.visit.Statement.{statement}
 use Rattle.caller.proofs.visit.Tie as tie
@@ -45,17 +45,7 @@ start c = given c .before .before
 
 -- what the caller gives
 abbrev plan : tie.Start → Plan
-plan c =
-    let a = c .args in
-    record {
-      sockets = a .sockets;
-      records = now (a .records);
-      socket = a .socket;
-      service = a .service;
-      handle = a .handle;
-      packet = now (a .packet);
-      level = a .level;
-    }
+plan c = let a = c .args in planned (a .sockets) (now (a .records)) (a .socket) (a .service) (a .handle) (now (a .packet)) (a .level)
 
 -- cs_fresh was refused
 returns : tie.Need-returns
