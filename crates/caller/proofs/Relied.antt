@@ -1,9 +1,8 @@
 -- All that a caller may rely on holds: demand 3 and the laws over all entries, of this keeper. Assumes nothing.
-use mathlib.Core.Path.{_≡_, refl, subst}
-use mathlib.Core.List.{List, _∷_, _++_}
+use mathlib.Core.Path.{refl, subst}
+use mathlib.Core.List.{List}
 use Prim.Native.Nat.{ℕ}
 use Rattle.facts.specs.declared.Code.{Code}
-use Rattle.facts.specs.declared.Code.the-variants.{Success}
 use Rattle.facts.specs.Codes.{numberOf}
 use Rattle.history.specs.Events
 use Rattle.history.specs.Events.{Event, codeIn, Ours, FromFresh}

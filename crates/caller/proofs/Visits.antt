@@ -7,12 +7,11 @@ use Rattle.facts.specs.declared.Code.{Code}
 use Rattle.facts.specs.declared.Code.the-variants.{Success}
 use Rattle.facts.specs.Codes.{numberOf}
 use Rattle.facts.proofs.Codes.{code-injective}
-use Rattle.history.specs.Events
-use Rattle.history.specs.Events.{makeFresh, call, cardIn, cardOut, sharers, Ours, FromFresh}
+use Rattle.history.specs.Events.{makeFresh, Ours, FromFresh}
 use Rattle.history.specs.Events.{FreshCame, CallCame, CardInCame, CardOutCame, BootCame, SharersCame}
 use Rattle.caller.specs.declared.Answers.{Answers}
 use Rattle.caller.specs.declared.Ending.the-variants.{Refused}
-use Rattle.caller.specs.Visits.{Plan, Visited, EndingIs}
+use Rattle.caller.specs.Visits.{Plan, Told, log, Visited, EndingIs}
 use Rattle.caller.proofs.Relied.{relied}
 
 -- cs_fresh is refused: no byte changes
@@ -28,29 +27,19 @@ pub visited : (g : Plan) (old b₀ b₁ b₂ b₃ b₄ q : List ℕ) (m : ℕ) (
     → CardOutCame (g .socket) b₃ b₄ (r .removed) → Visited g q r b₄
 visited g old b₀ b₁ b₂ b₃ b₄ q m r zero (k, made) (k₁, i, booted) (k₂, inserted) (k₃, a, called) (k₄, c, shared) (k₅, removed) =
     record {
-      booted = k₁;
-      place = i;
-      inserted = k₂;
-      called = k₃;
-      answered = a;
-      shared = k₄;
-      count = c;
-      removed = k₅;
+      told = told;
       run = run;
-      booted-is = booted .0;
-      inserted-is = inserted .0;
-      called-is = called .0;
-      shared-is = shared .0;
-      removed-is = removed .0;
-      after = relied .after-run (g .sockets) _ b₄ run;
+      numbers = λ j. sym (booted .0) j ∷ sym (inserted .0) j ∷ sym (called .0) j ∷ sym (shared .0) j ∷ sym (removed .0) j ∷ [];
+      after = relied .after-run (g .sockets) (log g q told) b₄ run;
     }
   where
+    told : Told
+    told = record { booted = k₁; place = i; inserted = k₂; called = k₃; answered = a; shared = k₄; count = c; removed = k₅ }
+
     success : k ≡ Success
     success = code-injective k Success (sym (made .0) ∙ zero)
 
-    run : FromFresh Ours (g .sockets)
-        (Events.boot (g .records) k₁ i ∷ cardIn (g .socket) k₂ ∷ call (g .service) (g .handle) (g .packet) k₃ a q
-        ∷ sharers (g .level) k₄ c ∷ cardOut (g .socket) k₅ ∷ []) b₄
+    run : FromFresh Ours (g .sockets) (log g q told) b₄
     run =
         record {
           old = old;

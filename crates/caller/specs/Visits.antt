@@ -1,7 +1,7 @@
 -- A visit: a table is made, and each of the other entries is called once. What comes about is a run. Assumes nothing.
 use mathlib.Core.Path.{_≡_}
 use mathlib.Core.Logic.{_≢_}
-use mathlib.Core.List.{List, [], _∷_}
+use mathlib.Core.List.{List, [], _∷_, map}
 use Prim.Native.Nat.{ℕ}
 use Rattle.facts.specs.declared.Code.{Code}
 use Rattle.facts.specs.declared.Code.the-variants.{Success}
@@ -25,9 +25,8 @@ abbrev pub planned : ℕ → List ℕ → ℕ → ℕ → ℕ → List ℕ → �
 planned sockets records socket service handle packet level =
     record { sockets = sockets; records = records; socket = socket; service = service; handle = handle; packet = packet; level = level }
 
--- the events of a visit in which the five entries after cs_fresh answered as r says, and the packet was left as q: each has what the plan gives, and
--- the number answered is the one that it says
-pub record Visited (g : Plan) (q : List ℕ) (r : Answers) (b : List ℕ) : Type 0 where
+-- the codes and numbers that the five entries after cs_fresh answered
+pub record Told : Type 0 where
   pub booted : Code
   pub place : ℕ
   pub inserted : Code
@@ -36,18 +35,24 @@ pub record Visited (g : Plan) (q : List ℕ) (r : Answers) (b : List ℕ) : Type
   pub shared : Code
   pub count : ℕ
   pub removed : Code
-  pub run : FromFresh Ours (g .sockets)
-      (boot (g .records) booted place ∷ cardIn (g .socket) inserted ∷ call (g .service) (g .handle) (g .packet) called answered q
-      ∷ sharers (g .level) shared count ∷ cardOut (g .socket) removed ∷ []) b
-  pub booted-is : r .booted ≡ numberIn (boot (g .records) booted place)
-  pub inserted-is : r .inserted ≡ numberIn (cardIn (g .socket) inserted)
-  pub called-is : r .called ≡ numberIn (call (g .service) (g .handle) (g .packet) called answered q)
-  pub shared-is : r .shared ≡ numberIn (sharers (g .level) shared count)
-  pub removed-is : r .removed ≡ numberIn (cardOut (g .socket) removed)
-  -- so all that a caller may rely on after a run holds of the table
-  pub after : AfterRun (g .sockets)
-      (boot (g .records) booted place ∷ cardIn (g .socket) inserted ∷ call (g .service) (g .handle) (g .packet) called answered q
-      ∷ sharers (g .level) shared count ∷ cardOut (g .socket) removed ∷ []) b
+
+-- the events of a visit, first to last, in which the packet was left as q: each has what the plan gives
+abbrev pub log : Plan → List ℕ → Told → List Event
+log g q t =
+    boot (g .records) (t .booted) (t .place)
+    ∷ cardIn (g .socket) (t .inserted)
+    ∷ call (g .service) (g .handle) (g .packet) (t .called) (t .answered) q
+    ∷ sharers (g .level) (t .shared) (t .count)
+    ∷ cardOut (g .socket) (t .removed)
+    ∷ []
+
+-- what came about is a run from a fresh table to the bytes b, the numbers that C was answered are those of its events, and all that a caller may rely
+-- on after a run holds
+pub record Visited (g : Plan) (q : List ℕ) (r : Answers) (b : List ℕ) : Type 0 where
+  pub told : Told
+  pub run : FromFresh Ours (g .sockets) (log g q told) b
+  pub numbers : map numberIn (log g q told) ≡ r .booted ∷ r .inserted ∷ r .called ∷ r .shared ∷ r .removed ∷ []
+  pub after : AfterRun (g .sockets) (log g q told) b
 
 -- cs_fresh was refused, and nothing is changed; or what came about is a run from a fresh table
 abbrev pub EndingIs : Plan → List ℕ → List ℕ → List ℕ → Ending → Type 0

@@ -1,5 +1,5 @@
 -- How an example of a code is told: what a rule permits on a well-formed table is given. Assumes nothing.
-use mathlib.Core.Path.{_≡_, refl, subst, sym}
+use mathlib.Core.Path.{_≡_, refl}
 use mathlib.Core.Logic.{_⊎_, inl, inr}
 use mathlib.Core.List.{List, [], _∷_}
 use mathlib.Core.Bool.{Bool, true, false, cond}
@@ -11,7 +11,6 @@ use borrow.Author.Tests.{ltb-true}
 use Rattle.facts.specs.declared.Code.{Code}
 use Rattle.facts.specs.declared.Code.the-variants.{GeneralFailure}
 use Rattle.facts.specs.Table.{Facts}
-use Rattle.facts.specs.Sets.{_∈_}
 use Rattle.facts.specs.WellFormed.{WellFormed}
 use Rattle.facts.specs.Packets.{Bytes}
 use Rattle.facts.specs.Checks.{Outcome, Passed, Kept}

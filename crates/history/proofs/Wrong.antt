@@ -40,7 +40,6 @@ use Rattle.history.proofs.Runs.{exact}
 use Rattle.history.proofs.Giving.{serving, serves, accepted, left, here, _past_}
 use Rattle.history.proofs.OnSockets.{two-sockets, one-client, for}
 use Rattle.history.proofs.ExampleTables.{idle, irqHeld, ioHeld, busy, idle-ready, irq-ready, busy-ready, irqAsked, ioAsked, irqNaming}
-use Rattle.history.proofs.ExampleTables.{irq-granted, io-granted}
 use Rattle.history.proofs.SampleRuns.{made-two, from-two, says, registers, before, Ungranted, registered, BeginsAlike, set-up, ours-begins, asksIrq, asksIo, irq-step}
 use Rattle.history.proofs.SampleRuns.{io-step}
 

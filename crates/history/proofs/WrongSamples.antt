@@ -3,13 +3,12 @@ use mathlib.Core.Path.{_≡_, refl, ap, sym, _∙_, subst}
 use mathlib.Core.Logic.{inl, inr, ⊎-elim}
 use mathlib.Core.List.{List, [], _∷_, _++_}
 use mathlib.Core.Bool.{true, false, true≢false}
-use mathlib.Core.Option.{none, some, Option·none-ne-some, Option·some-injective}
+use mathlib.Core.Option.{none, some, Option·none-ne-some}
 use Prim.Native.Nat.{ℕ}
 use native.Mathlib.Omega.{arith}
 use Rattle.facts.specs.declared.Code.{Code}
 use Rattle.facts.specs.declared.Code.the-variants.{Success}
 use Rattle.facts.specs.Table.{Facts, Client, Level, IoGrant, IrqGrant, fresh}
-use Rattle.facts.specs.Sets.{_∈_}
 use Rattle.facts.specs.WellFormed.{WellFormed}
 use Rattle.facts.specs.Clients.{withClients, registered as entered}
 use Rattle.facts.specs.Sockets.{withMask}
@@ -34,7 +33,7 @@ use Rattle.history.proofs.Inverse.{release-io-makes-none, request-io-ke
 use Rattle.history.proofs.Runs.{exact}
 use Rattle.history.proofs.Standing.{last-stands}
 use Rattle.history.proofs.Giving.{left, serves}
-use Rattle.history.proofs.OnSockets.{for, two-sockets, one-client}
+use Rattle.history.proofs.OnSockets.{for, one-client}
 use Rattle.history.proofs.ExampleTables.{idle, irqHeld, ioHeld, busy, idle-ready, irq-ready, io-ready, busy-ready, irqAsked, ioAsked, ioAt, irqNaming}
 use Rattle.history.proofs.SampleRuns.{made-two, from-two, says, registers, before, ours-begins, set-up, set-up-two, register-permitted, pair, pair-formed}
 use Rattle.history.proofs.SampleRuns.{asksIrq, asksIo, irq-step, io-step}
