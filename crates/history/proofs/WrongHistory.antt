@@ -2,6 +2,7 @@
 use mathlib.Core.Path.{_≡_, refl, ap, sym, _∙_, subst}
 use mathlib.Core.Logic.{_⊎_, inl, inr, ⊎-elim, _↔_, _≢_}
 use mathlib.Core.List.{List, [], _∷_, _++_}
+use mathlib.Core.Bool.{Bool}
 use Prim.Native.Nat.{ℕ, _+_, _<_}
 use native.Mathlib.Nat.{add-zero}
 use native.Mathlib.Omega.{arith}
@@ -16,7 +17,7 @@ use Rattle.facts.specs.Sets.{_∈_}
 use Rattle.facts.specs.WellFormed.{WellFormed}
 use Rattle.facts.specs.Levels.{typeOf}
 use Rattle.facts.specs.Sockets.{socketOf}
-use Rattle.facts.specs.Resources.{actionOf, resourceOf, add, remove, first, next, irqLevel, ioRange, levelGiven, ioAdjustLength, baseGiven}
+use Rattle.facts.specs.Resources.{actionOf, resourceOf, add, remove, first, next, irqLevel, ioRange, levelGiven, ioAdjustLength, baseGiven, countGiven}
 use Rattle.facts.specs.Irq.{assignedIrq, typeAsked}
 use Rattle.facts.specs.Io.{baseAsked, countAsked}
 use Rattle.facts.specs.Boot.{recordsIn}
@@ -26,8 +27,8 @@ use Rattle.facts.proofs.Unique.{number-injective}
 use Rattle.layout.specs.Layout.{image}
 use Rattle.layout.specs.Sound.{Accepted}
 use Rattle.history.specs.Events.{Event, makeFresh, call, cardIn, cardOut, boot, sharers, Keeper, Ours, GoesOn, Runs, FromFresh}
-use Rattle.history.specs.Stands.{Fact, card, io, irq, GivenBack, Recorded, Makes, GivesBack, Stands, StandsSince, registration, registrations}
-use Rattle.history.specs.Stands.{io-back, irq-back}
+use Rattle.history.specs.Stands.{Fact, client, mask, level, range, card, io, irq, GivenBack, Recorded, Makes, GivesBack, Stands, StandsSince, registration, registrations}
+use Rattle.history.specs.Stands.{client-back, mask-back, level-back, range-back, io-back, irq-back}
 use Rattle.history.specs.Tables.{Tells, TellsExactly}
 use Rattle.history.specs.Names.{Name, the-client, the-mask, the-level, the-range, the-card, the-io, the-irq, the-issued, the-sockets, nameOf, NamedBy, Names}
 use Rattle.history.specs.Names.{Framed, register-client, register-issued, deregister, request-mask, release-mask, adjust-level, adjust-range}
@@ -98,6 +99,59 @@ module _ (n : ℕ) (es : List Event) (b : List ℕ) (from : FromFresh Ours n es 
     exact-lost-wrong f stood kept gone x =
         gone (subst (λ (F : Facts). Tells F f) (says w (told x .accepted)) (told x .tells f .1 (last-stands f es e (inr (stood, kept)))))
 
+-- what a service that succeeds may give back, and nothing else
+abbrev pub mayGiveBack : ℕ → List ℕ → Service → Fact → Type 0
+mayGiveBack h p registerClient f = ⊥
+mayGiveBack h p deregisterClient f = (attributes events : ℕ) × (f ≡ client h attributes events)
+mayGiveBack h p adjustResourceInfo f =
+    (actionOf p ≡ remove) × (v : Bool)
+    × (((resourceOf p ≡ irqLevel) × (f ≡ level (levelGiven p) v))
+    ⊎ ((resourceOf p ≡ ioRange)
+    × ((w : Width) × (length p ≡ ioAdjustLength w) × (f ≡ range (record { base = baseGiven w p; count = countGiven w p; reserved = v })))))
+mayGiveBack h p requestIrq f = ⊥
+mayGiveBack h p releaseIrq f =
+    (g : IrqGrant) × (f ≡ irq (socketOf p) g) × (g .client ≡ h) × (g .level ≡ assignedIrq p) × (typeOf (g .manner) ≡ typeAsked p)
+mayGiveBack h p requestIo f = ⊥
+mayGiveBack h p releaseIo f =
+    (g : IoGrant) × (f ≡ io (socketOf p) g) × (g .client ≡ h) × (g .ports .base ≡ baseAsked p) × (g .ports .count ≡ countAsked p)
+mayGiveBack h p requestSocketMask f = ⊥
+mayGiveBack h p releaseSocketMask f = (events : ℕ) × (f ≡ mask h (socketOf p) events)
+
+back-only : {h : ℕ} {p : List ℕ} (v : Service) (f : Fact) → GivenBack h p v f → mayGiveBack h p v f
+back-only v f client-back = (_, _, refl)
+back-only v f mask-back = (_, refl)
+back-only v f (level-back e i) = (i, _, inl (e, refl))
+back-only v f (range-back w n e i) = (i, _, inr (e, (w, n, refl)))
+back-only v f (io-back holder base count) = (_, refl, holder, base, count)
+back-only v f (irq-back holder number type) = (_, refl, holder, number, type)
+
+-- so a service that takes another fact is wrong, and so is any other event that takes one: but for card out, which gives its card back
+module _ (n : ℕ) (es : List Event) (b : List ℕ) (from : FromFresh Ours n es b) {G : Facts} (w : WellFormed G) (f : Fact) (stood : Stands es f)
+    (gone : Tells G f → ⊥) where
+  pub exact-takes-wrong : (v : Service) (h : ℕ) (p : List ℕ) (k : Code) (a : ℕ) (q : List ℕ) → (k ≢ Success) ⊎ (mayGiveBack h p v f → ⊥)
+      → Exact (Besides (call (serviceNumber v) h p k a q) b (image G)) → ⊥
+  exact-takes-wrong v h p k a q other =
+      exact-lost-wrong n es b from (call (serviceNumber v) h p k a q) tt w f stood
+      (λ back. ⊎-elim (λ d. d (back .0))
+      (λ d. d (back-only v f (subst (λ (u : Service). GivenBack h p u f) (number-injective (back .1) v (back .2)) (back .3)))) other)
+      gone
+
+  pub exact-fresh-takes-wrong : (m : ℕ) (k : Code) → k ≢ Success → Exact (Besides (makeFresh m k) b (image G)) → ⊥
+  exact-fresh-takes-wrong m k refused = exact-lost-wrong n es b from (makeFresh m k) refused w f stood (λ back. back) gone
+
+  pub exact-card-in-takes-wrong : (s : ℕ) (k : Code) → Exact (Besides (cardIn s k) b (image G)) → ⊥
+  exact-card-in-takes-wrong s k = exact-lost-wrong n es b from (cardIn s k) tt w f stood (λ back. back) gone
+
+  pub exact-card-out-takes-wrong : (s : ℕ) (k : Code) → (k ≢ Success) ⊎ (f ≢ card s) → Exact (Besides (cardOut s k) b (image G)) → ⊥
+  exact-card-out-takes-wrong s k other =
+      exact-lost-wrong n es b from (cardOut s k) tt w f stood (λ back. ⊎-elim (λ d. d (back .0)) (λ d. d (back .1)) other) gone
+
+  pub exact-boot-takes-wrong : (r : List ℕ) (k : Code) (i : ℕ) → Exact (Besides (boot r k i) b (image G)) → ⊥
+  exact-boot-takes-wrong r k i = exact-lost-wrong n es b from (boot r k i) tt w f stood (λ back. back) gone
+
+  pub exact-question-takes-wrong : (l c : ℕ) (k : Code) → Exact (Besides (sharers l k c) b (image G)) → ⊥
+  exact-question-takes-wrong l c k = exact-lost-wrong n es b from (sharers l k c) tt w f stood (λ back. back) gone
+
 -- ReleaseIO by a stranger, with another base or with another count; ReleaseIRQ by a stranger, with another level or with another type
 io-own : {h : ℕ} {p : List ℕ} (v : Service) (s : ℕ) (g : IoGrant) → GivenBack h p v (io s g)
     → (g .client ≡ h) × (g .ports .base ≡ baseAsked p) × (g .ports .count ≡ countAsked p)
@@ -105,7 +159,7 @@ io-own v s g (io-back holder base count) = (holder, base, count)
 
 irq-own : {h : ℕ} {p : List ℕ} (v : Service) (s : ℕ) (g : IrqGrant) → GivenBack h p v (irq s g)
     → (g .client ≡ h) × (g .level ≡ assignedIrq p) × (typeOf (g .manner) ≡ typeAsked p)
-irq-own v s g (irq-back holder level type) = (holder, level, type)
+irq-own v s g (irq-back holder number type) = (holder, number, type)
 
 module _ (n : ℕ) (es : List Event) (b : List ℕ) (from : FromFresh Ours n es b) (h : ℕ) (p : List ℕ) (a : ℕ) (q : List ℕ) {G : Facts} (w : WellFormed G)
     (s : ℕ) where
@@ -235,7 +289,7 @@ module _ (v : Service) (h : ℕ) (p : List ℕ) (a : ℕ) (q : List ℕ) {F G : 
   pub success-adds-wrong : (Tells F f → ⊥) → Tells G f → Frame (Besides (call (serviceNumber v) h p Success a q) (image F) (image G)) → ⊥
   success-adds-wrong = frame-appears-wrong (call (serviceNumber v) h p Success a q) w w′ f (unnamed v h p Success a q (nameOf f) other adjusts)
 
--- a refusal, First or Next, a question, card in and card out, a boot list, a refused cs_fresh
+-- a refusal, First or Next, a question, card in and card out (of another name, or refused), a boot list, a refused cs_fresh
 module _ {F G : Facts} (w : WellFormed F) (w′ : WellFormed G) (f : Fact) (had : Tells F f) (gone : Tells G f → ⊥) where
   pub refusal-takes-wrong : (n h : ℕ) (p : List ℕ) (k : Code) (a : ℕ) (q : List ℕ) → k ≢ Success → Frame (Besides (call n h p k a q) (image F) (image G)) → ⊥
   refusal-takes-wrong n h p k a q refused = frame-lost-wrong (call n h p k a q) w w′ f (λ m. refused (m .0)) had gone
@@ -248,11 +302,11 @@ module _ {F G : Facts} (w : WellFormed F) (w′ : WellFormed G) (f : Fact) (had 
   pub question-takes-wrong : (l c : ℕ) (k : Code) → Frame (Besides (sharers l k c) (image F) (image G)) → ⊥
   question-takes-wrong l c k = frame-lost-wrong (sharers l k c) w w′ f (λ m. m) had gone
 
-  pub card-in-takes-wrong : (s : ℕ) (k : Code) → nameOf f ≢ the-card s → Frame (Besides (cardIn s k) (image F) (image G)) → ⊥
-  card-in-takes-wrong s k other = frame-lost-wrong (cardIn s k) w w′ f (λ m. other (m .1)) had gone
+  pub card-in-takes-wrong : (s : ℕ) (k : Code) → (k ≢ Success) ⊎ (nameOf f ≢ the-card s) → Frame (Besides (cardIn s k) (image F) (image G)) → ⊥
+  card-in-takes-wrong s k other = frame-lost-wrong (cardIn s k) w w′ f (λ m. ⊎-elim (λ d. d (m .0)) (λ d. d (m .1)) other) had gone
 
-  pub card-out-takes-wrong : (s : ℕ) (k : Code) → nameOf f ≢ the-card s → Frame (Besides (cardOut s k) (image F) (image G)) → ⊥
-  card-out-takes-wrong s k other = frame-lost-wrong (cardOut s k) w w′ f (λ m. other (m .1)) had gone
+  pub card-out-takes-wrong : (s : ℕ) (k : Code) → (k ≢ Success) ⊎ (nameOf f ≢ the-card s) → Frame (Besides (cardOut s k) (image F) (image G)) → ⊥
+  card-out-takes-wrong s k other = frame-lost-wrong (cardOut s k) w w′ f (λ m. ⊎-elim (λ d. d (m .0)) (λ d. d (m .1)) other) had gone
 
   pub boot-takes-wrong : (r : List ℕ) (k : Code) (i : ℕ)
       → ((x : Record) → x ∈ recordsIn i r → (g : Fact) → Recorded x g → nameOf g ≢ nameOf f)
