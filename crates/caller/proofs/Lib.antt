@@ -1,3 +1,4 @@
 -- What a caller's calls bring about is a run. Assumes nothing.
 pub mod Relied
 pub mod Visits
+pub mod Whole

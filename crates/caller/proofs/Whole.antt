@@ -1,0 +1,97 @@
+-- What a caller may rely on leaves nothing out: demand 3 and the laws over all entries follow from it alone, and each part of a visit says something of
+-- it. Nothing is proved over these statements, so that a part that went would be missed here. Assumes nothing.
+use mathlib.Core.Path.{_≡_, refl, sym, _∙_}
+use mathlib.Core.Logic.{_≢_}
+use mathlib.Core.List.{List, [], _∷_, _++_, map}
+use Prim.Native.Nat.{ℕ}
+use Rattle.facts.specs.declared.Code.the-variants.{Success}
+use Rattle.facts.specs.Codes.{numberOf}
+use Rattle.facts.specs.Sets.{_∈_}
+use Rattle.facts.proofs.Codes.{code-injective}
+use Rattle.history.specs.Events.{Event, codeIn, numberIn, call, cardIn, cardOut, boot, sharers, Ours, FromFresh}
+use Rattle.history.specs.Demand.{Demand3}
+use Rattle.history.specs.Laws.{EntryLaws, fifteen}
+use Rattle.history.proofs.Demand.{entry-laws}
+use Rattle.caller.specs.declared.Answers.{Answers}
+use Rattle.caller.specs.declared.Ending.the-variants.{Refused, Done}
+use Rattle.caller.specs.Relied.{Relied, AfterRun}
+use Rattle.caller.specs.Visits.{Plan, Visited, EndingIs}
+
+module _ (r : Relied) where
+  pub demand-back : Demand3 Ours
+  demand-back =
+      record {
+        exact = λ n es b from. r .after-run n es b from .exact;
+        exact-since = r .since;
+        frame = λ e b b′ a x. r .of-call e b b′ x .frame a;
+        card-out = r .of-card-out;
+        never-again = λ n earlier later e h b from. r .after-run n (earlier ++ (e ∷ later)) b from .handles earlier later e h refl;
+        sharers-counted = λ n es b b′ l c from. r .after-run n es b from .counted l c b′;
+        one-grant = record {
+          io-one = λ n es b s g g′ from. r .after-run n es b from .one-io s g g′;
+          irq-one = λ n es b s g g′ from. r .after-run n es b from .one-irq s g g′;
+        };
+        ports-apart = λ n es b s s′ g g′ from. r .after-run n es b from .ports s s′ g g′;
+        levels-apart = λ n es b s s′ g g′ from. r .after-run n es b from .levels s s′ g g′;
+      }
+
+  pub laws-back : EntryLaws Ours
+  laws-back =
+      record {
+        one-outcome = λ e e′ b b₁ b₂ same x y. r .of-call e b b₁ x .one e′ b₂ same y;
+        refusal-keeps = λ e b b′ x. r .of-call e b b′ x .keeps;
+        unformed-refused = λ e b b′ x. r .of-call e b b′ x .unformed;
+        stays = λ e b b′ x. r .of-call e b b′ x .stays;
+        boot-places = record {
+          success = λ rs i b b′ x. r .of-boot rs Success i b b′ x .success refl;
+          within = λ rs k i b b′ x. r .of-boot rs k i b b′ x .within;
+          most = λ rs k i b b′ x. r .of-boot rs k i b b′ x .most;
+          leaves = λ rs k i b b′ x. r .of-boot rs k i b b′ x .leaves;
+        };
+        refused-exactly = record {
+          irq = λ h p k a q b b′ t passed x. r .of-irq h p k a q b b′ t passed x .refused;
+          irq-code = λ h p k a q b b′ t passed x. r .of-irq h p k a q b b′ t passed x .bad-irq;
+          irq-fits = λ h p k a q b b′ t passed x. r .of-irq h p k a q b b′ t passed x .fits;
+          io-named = λ h p k a q b b′ t passed x named. r .of-io-named h p k a q b b′ t passed x named .refused;
+          io-base = λ h p k a q b b′ t passed x named. r .of-io-named h p k a q b b′ t passed x named .bad-base;
+          io-in-use = λ h p k a q b b′ t passed x named. r .of-io-named h p k a q b b′ t passed x named .in-use;
+          io-kept = λ h p k a q b b′ t passed x named. r .of-io-named h p k a q b b′ t passed x named .kept;
+          io-chosen = λ h p k a q b b′ t passed x zero. r .of-io-chosen h p k a q b b′ t passed x zero .refused;
+          io-chosen-code = λ h p k a q b b′ t passed x zero. r .of-io-chosen h p k a q b b′ t passed x zero .in-use;
+          io-fits = λ h p k a q b b′ t passed x zero. r .of-io-chosen h p k a q b b′ t passed x zero .fits;
+        };
+        exact-codes = r .codes;
+        the-fifteen = entry-laws .the-fifteen;
+      }
+
+  -- of the fifteen codes a caller has only that an answer is one of them
+  pub code-back : (e : Event) (b b′ : List ℕ) → Ours e b b′ → numberOf (codeIn e) ∈ fifteen
+  code-back e b b′ x = r .of-call e b b′ x .code
+
+  -- two runs with one log leave the same bytes
+  pub one-table : (n : ℕ) (es : List Event) (b b′ : List ℕ) → FromFresh Ours n es b → FromFresh Ours n es b′ → b ≡ b′
+  one-table n es b b′ from from′ = r .after-run n es b from .alone b′ (r .after-run n es b′ from′ .exact)
+
+-- the log of a visit that was done
+abbrev logOf : {g : Plan} {q : List ℕ} {r : Answers} {b : List ℕ} → Visited g q r b → List Event
+logOf {g} {q} x =
+    boot (g .records) (x .booted) (x .place)
+    ∷ cardIn (g .socket) (x .inserted)
+    ∷ call (g .service) (g .handle) (g .packet) (x .called) (x .answered) q
+    ∷ sharers (g .level) (x .shared) (x .count)
+    ∷ cardOut (g .socket) (x .removed)
+    ∷ []
+
+-- it is a run, and the numbers answered are its events'
+pub logged : (g : Plan) (b b′ q : List ℕ) (r : Answers) (x : EndingIs g b b′ q (Done r))
+    → FromFresh Ours (g .sockets) (logOf x) b′ × AfterRun (g .sockets) (logOf x) b′
+    × (map numberIn (logOf x) ≡ r .booted ∷ r .inserted ∷ r .called ∷ r .shared ∷ r .removed ∷ [])
+logged g b b′ q r x = (
+  x .run,
+  x .after,
+  λ i. sym (x .booted-is) i ∷ sym (x .inserted-is) i ∷ sym (x .called-is) i ∷ sym (x .shared-is) i ∷ sym (x .removed-is) i ∷ [],
+)
+
+-- one that was refused: the number isn't SUCCESS's, and neither table nor packet is changed
+pub refused-back : (g : Plan) (b b′ q : List ℕ) (r : ℕ) → EndingIs g b b′ q (Refused r) → (r ≢ numberOf Success) × (b′ ≡ b) × (q ≡ g .packet)
+refused-back g b b′ q r (k, is, other, table, packet) = ((λ e. other (code-injective k Success (sym is ∙ e))), table, packet)
