@@ -42,6 +42,28 @@ pub other-outcome-wrong : (e e′ : Event) (b b₁ b₂ : List ℕ) → given e 
     → OneOutcome (Besides e′ b b₂) → ⊥
 other-outcome-wrong e e′ b b₁ b₂ same ours differ x = differ (x e e′ b b₁ b₂ same (inl ours) (besides e′ b b₂))
 
+-- so at each entry: the same is given, and something that was answered is another, or the table is
+abbrev OtherWrong : Event → Event → Type 0
+OtherWrong e e′ = (b b₁ b₂ : List ℕ) → Ours e b b₁ → ((e ≡ e′) × (b₁ ≡ b₂) → ⊥) → OneOutcome (Besides e′ b b₂) → ⊥
+
+pub other-fresh-wrong : (n : ℕ) (k k′ : Code) → OtherWrong (makeFresh n k) (makeFresh n k′)
+other-fresh-wrong n k k′ b b₁ b₂ = other-outcome-wrong (makeFresh n k) (makeFresh n k′) b b₁ b₂ refl
+
+pub other-call-wrong : (n h : ℕ) (p : List ℕ) (k k′ : Code) (a a′ : ℕ) (q q′ : List ℕ) → OtherWrong (call n h p k a q) (call n h p k′ a′ q′)
+other-call-wrong n h p k k′ a a′ q q′ b b₁ b₂ = other-outcome-wrong (call n h p k a q) (call n h p k′ a′ q′) b b₁ b₂ refl
+
+pub other-card-in-wrong : (s : ℕ) (k k′ : Code) → OtherWrong (cardIn s k) (cardIn s k′)
+other-card-in-wrong s k k′ b b₁ b₂ = other-outcome-wrong (cardIn s k) (cardIn s k′) b b₁ b₂ refl
+
+pub other-card-out-wrong : (s : ℕ) (k k′ : Code) → OtherWrong (cardOut s k) (cardOut s k′)
+other-card-out-wrong s k k′ b b₁ b₂ = other-outcome-wrong (cardOut s k) (cardOut s k′) b b₁ b₂ refl
+
+pub other-boot-wrong : (r : List ℕ) (k k′ : Code) (i i′ : ℕ) → OtherWrong (boot r k i) (boot r k′ i′)
+other-boot-wrong r k k′ i i′ b b₁ b₂ = other-outcome-wrong (boot r k i) (boot r k′ i′) b b₁ b₂ refl
+
+pub other-sharers-wrong : (l : ℕ) (k k′ : Code) (c c′ : ℕ) → OtherWrong (sharers l k c) (sharers l k′ c′)
+other-sharers-wrong l k k′ c c′ b b₁ b₂ = other-outcome-wrong (sharers l k c) (sharers l k′ c′) b b₁ b₂ refl
+
 -- RefusalKeeps: a refusal that answers a handle or a count, rewrites the packet, or writes in the table
 module _ (k : Code) (refused : k ≢ Success) (b b′ : List ℕ) where
   pub handle-answered-wrong : (n h a : ℕ) (p q : List ℕ) → a ≢ 0 → RefusalKeeps (Besides (call n h p k a q) b b′) → ⊥
