@@ -1,7 +1,7 @@
 -- Keepers that are wrong once, held against demand 3: each does as this keeper, and permits one event more. Assumes nothing.
 use mathlib.Core.Path.{_≡_, refl, ap, sym, _∙_, subst}
 use mathlib.Core.Logic.{_⊎_, inl, inr, ⊎-elim, _↔_, _≢_}
-use mathlib.Core.List.{List, [], _∷_, _++_}
+use mathlib.Core.List.{List, [], _∷_, _++_, append-assoc}
 use mathlib.Core.Bool.{Bool}
 use Prim.Native.Nat.{ℕ, _+_, _<_}
 use native.Mathlib.Nat.{add-zero}
@@ -16,6 +16,7 @@ use Rattle.facts.specs.Table.{Facts, IoGrant, IrqGrant}
 use Rattle.facts.specs.Sets.{_∈_}
 use Rattle.facts.specs.WellFormed.{WellFormed}
 use Rattle.facts.specs.Levels.{typeOf}
+use Rattle.facts.specs.Clients.{clientAttributes, clientEvents}
 use Rattle.facts.specs.Sockets.{socketOf}
 use Rattle.facts.specs.Resources.{actionOf, resourceOf, add, remove, first, next, irqLevel, ioRange, levelGiven, ioAdjustLength, baseGiven, countGiven}
 use Rattle.facts.specs.Irq.{assignedIrq, typeAsked}
@@ -23,17 +24,18 @@ use Rattle.facts.specs.Io.{baseAsked, countAsked}
 use Rattle.facts.specs.Boot.{recordsIn}
 use Rattle.facts.specs.Services.{Service, registerClient, deregisterClient, adjustResourceInfo, requestIrq, releaseIrq, requestIo, releaseIo}
 use Rattle.facts.specs.Services.{requestSocketMask, releaseSocketMask, serviceNumber}
+use Rattle.facts.proofs.Sets.{in-right}
 use Rattle.facts.proofs.Unique.{number-injective}
 use Rattle.layout.specs.Layout.{image}
 use Rattle.layout.specs.Sound.{Accepted}
 use Rattle.history.specs.Events.{Event, makeFresh, call, cardIn, cardOut, boot, sharers, Keeper, Ours, GoesOn, Runs, FromFresh}
-use Rattle.history.specs.Stands.{Fact, client, mask, level, range, card, io, irq, GivenBack, Recorded, Makes, GivesBack, Stands, StandsSince, registration, registrations}
-use Rattle.history.specs.Stands.{client-back, mask-back, level-back, range-back, io-back, irq-back}
+use Rattle.history.specs.Stands.{Fact, client, mask, level, range, card, io, irq, GivenBack, Recorded, Makes, GivesBack, Stands, StandsSince, Registers, registration, registrations}
+use Rattle.history.specs.Stands.{client-made, client-back, mask-back, level-back, range-back, io-back, irq-back}
 use Rattle.history.specs.Tables.{Tells, TellsExactly}
 use Rattle.history.specs.Names.{Name, the-client, the-mask, the-level, the-range, the-card, the-io, the-irq, the-issued, the-sockets, nameOf, NamedBy, Names}
 use Rattle.history.specs.Names.{Framed, register-client, register-issued, deregister, request-mask, release-mask, adjust-level, adjust-range}
 use Rattle.history.specs.Names.{request-io, release-io, request-irq, release-irq}
-use Rattle.history.specs.Demand.{Exact, ExactSince, Frame, CardOutKeeps, Once, Number, SharersCounted}
+use Rattle.history.specs.Demand.{Exact, ExactSince, Frame, CardOutKeeps, NeverAgain, Once, Number, SharersCounted}
 use Rattle.history.proofs.Standing.{stands-never, stands-last, last-stands}
 use Rattle.history.proofs.Frame.{showing-names-none}
 use Rattle.history.proofs.Giving.{accepted}
@@ -328,6 +330,26 @@ module _ (s : ℕ) (k : Code) {F G : Facts} (w : WellFormed F) (w′ : WellForme
 
   pub card-out-adds-wrong : (Tells F f → ⊥) → Tells G f → CardOutKeeps (Besides (cardOut s k) (image F) (image G)) → ⊥
   card-out-adds-wrong never has x = never (kept x .1 has)
+
+-- NeverAgain: whatever packets register, a handle is answered again, or 0
+abbrev registersBy : ℕ → List ℕ → ℕ → List ℕ → Event
+registersBy h p a q = call (serviceNumber registerClient) h p Success a q
+
+registers-as : (h : ℕ) (p : List ℕ) (a : ℕ) (q : List ℕ) → Registers (registersBy h p a q) a
+registers-as h p a q = (clientAttributes p, clientEvents p, (refl, registerClient, refl, client-made))
+
+pub handle-again-wrong : (n : ℕ) (earlier later : List Event) (h h′ : ℕ) (p p′ : List ℕ) (a : ℕ) (q q′ b b′ : List ℕ)
+    → FromFresh Ours n (earlier ++ (registersBy h p a q ∷ later)) b → NeverAgain (Besides (registersBy h′ p′ a q′) b b′) → ⊥
+handle-again-wrong n earlier later h h′ p p′ a q q′ b b′ from x =
+    let again = registersBy h′ p′ a q′ in
+    x n earlier (later ++ (again ∷ [])) (registersBy h p a q) a b′
+    (subst (λ (es : List Event). FromFresh (Besides again b b′) n es b′) (append-assoc earlier (registersBy h p a q ∷ later) (again ∷ []))
+    (then-once n (earlier ++ (registersBy h p a q ∷ later)) b from again tt b′))
+    (registers-as h p a q) .1 again (in-right again later (again ∷ []) (inl refl)) (registers-as h′ p′ a q′)
+
+pub handle-zero-wrong : (n : ℕ) (es : List Event) (h : ℕ) (p q b b′ : List ℕ) → FromFresh Ours n es b → NeverAgain (Besides (registersBy h p 0 q) b b′) → ⊥
+handle-zero-wrong n es h p q b b′ from x =
+    x n es [] (registersBy h p 0 q) 0 b′ (then-once n es b from (registersBy h p 0 q) tt b′) (registers-as h p 0 q) .0 refl
 
 -- SharersCounted: none counted where one shares, one counted twice, more than eight
 module _ (n : ℕ) (es : List Event) (b : List ℕ) (from : FromFresh Ours n es b) (l : ℕ) where
