@@ -8,14 +8,14 @@ use Rattle.facts.specs.declared.Code.the-variants.{Success}
 use Rattle.facts.specs.Codes.{numberOf}
 use Rattle.facts.specs.Sets.{_∈_}
 use Rattle.facts.proofs.Codes.{code-injective}
-use Rattle.history.specs.Events.{Event, codeIn, numberIn, call, cardIn, cardOut, boot, sharers, Ours, FromFresh}
+use Rattle.history.specs.Events.{Event, codeIn, numberIn, Ours, FromFresh}
 use Rattle.history.specs.Demand.{Demand3}
 use Rattle.history.specs.Laws.{EntryLaws, fifteen}
 use Rattle.history.proofs.Demand.{entry-laws}
 use Rattle.caller.specs.declared.Answers.{Answers}
 use Rattle.caller.specs.declared.Ending.the-variants.{Refused, Done}
 use Rattle.caller.specs.Relied.{Relied, AfterRun}
-use Rattle.caller.specs.Visits.{Plan, Visited, EndingIs}
+use Rattle.caller.specs.Visits.{Plan, log, EndingIs}
 
 module _ (r : Relied) where
   pub demand-back : Demand3 Ours
@@ -72,25 +72,11 @@ module _ (r : Relied) where
   pub one-table : (n : ℕ) (es : List Event) (b b′ : List ℕ) → FromFresh Ours n es b → FromFresh Ours n es b′ → b ≡ b′
   one-table n es b b′ from from′ = r .after-run n es b from .alone b′ (r .after-run n es b′ from′ .exact)
 
--- the log of a visit that was done
-abbrev logOf : {g : Plan} {q : List ℕ} {r : Answers} {b : List ℕ} → Visited g q r b → List Event
-logOf {g} {q} x =
-    boot (g .records) (x .booted) (x .place)
-    ∷ cardIn (g .socket) (x .inserted)
-    ∷ call (g .service) (g .handle) (g .packet) (x .called) (x .answered) q
-    ∷ sharers (g .level) (x .shared) (x .count)
-    ∷ cardOut (g .socket) (x .removed)
-    ∷ []
-
--- it is a run, and the numbers answered are its events'
+-- a visit that was done is a run, and the numbers answered are those of its events
 pub logged : (g : Plan) (b b′ q : List ℕ) (r : Answers) (x : EndingIs g b b′ q (Done r))
-    → FromFresh Ours (g .sockets) (logOf x) b′ × AfterRun (g .sockets) (logOf x) b′
-    × (map numberIn (logOf x) ≡ r .booted ∷ r .inserted ∷ r .called ∷ r .shared ∷ r .removed ∷ [])
-logged g b b′ q r x = (
-  x .run,
-  x .after,
-  λ i. sym (x .booted-is) i ∷ sym (x .inserted-is) i ∷ sym (x .called-is) i ∷ sym (x .shared-is) i ∷ sym (x .removed-is) i ∷ [],
-)
+    → FromFresh Ours (g .sockets) (log g q (x .told)) b′ × AfterRun (g .sockets) (log g q (x .told)) b′
+    × (map numberIn (log g q (x .told)) ≡ r .booted ∷ r .inserted ∷ r .called ∷ r .shared ∷ r .removed ∷ [])
+logged g b b′ q r x = (x .run, x .after, x .numbers)
 
 -- one that was refused: the number isn't SUCCESS's, and neither table nor packet is changed
 pub refused-back : (g : Plan) (b b′ q : List ℕ) (r : ℕ) → EndingIs g b b′ q (Refused r) → (r ≢ numberOf Success) × (b′ ≡ b) × (q ≡ g .packet)
