@@ -17,10 +17,11 @@ use Rattle.facts.specs.Sets.{_∈_}
 use Rattle.facts.specs.WellFormed.{WellFormed}
 use Rattle.facts.specs.Levels.{typeOf}
 use Rattle.facts.specs.Clients.{clientAttributes, clientEvents}
-use Rattle.facts.specs.Sockets.{socketOf}
+use Rattle.facts.specs.Sockets.{socketOf, eventsAsked}
 use Rattle.facts.specs.Resources.{actionOf, resourceOf, add, remove, first, next, irqLevel, ioRange, levelGiven, ioAdjustLength, baseGiven, countGiven}
-use Rattle.facts.specs.Irq.{assignedIrq, typeAsked}
-use Rattle.facts.specs.Io.{baseAsked, countAsked}
+use Rattle.facts.specs.Resources.{levelAttributes, attributesGiven, reserves}
+use Rattle.facts.specs.Irq.{assignedIrq, typeAsked, mannerAsked}
+use Rattle.facts.specs.Io.{baseAsked, countAsked, portsAt, sharedAsked}
 use Rattle.facts.specs.Boot.{recordsIn}
 use Rattle.facts.specs.Services.{Service, registerClient, deregisterClient, adjustResourceInfo, requestIrq, releaseIrq, requestIo, releaseIo}
 use Rattle.facts.specs.Services.{requestSocketMask, releaseSocketMask, serviceNumber}
@@ -29,8 +30,9 @@ use Rattle.facts.proofs.Unique.{number-injective}
 use Rattle.layout.specs.Layout.{image}
 use Rattle.layout.specs.Sound.{Accepted}
 use Rattle.history.specs.Events.{Event, makeFresh, call, cardIn, cardOut, boot, sharers, Keeper, Ours, GoesOn, Runs, FromFresh}
-use Rattle.history.specs.Stands.{Fact, client, mask, level, range, card, io, irq, GivenBack, Recorded, Makes, GivesBack, Stands, StandsSince, Registers, registration, registrations}
-use Rattle.history.specs.Stands.{client-made, client-back, mask-back, level-back, range-back, io-back, irq-back}
+use Rattle.history.specs.Stands.{Fact, client, mask, level, range, card, io, irq, Made, GivenBack, Recorded, Makes, GivesBack, Stands, StandsSince, Registers, registration, registrations}
+use Rattle.history.specs.Stands.{client-made, mask-made, level-made, range-made, io-made, irq-made, level-recorded, range-recorded}
+use Rattle.history.specs.Stands.{client-back, mask-back, level-back, range-back, io-back, irq-back}
 use Rattle.history.specs.Tables.{Tells, TellsExactly}
 use Rattle.history.specs.Names.{Name, the-client, the-mask, the-level, the-range, the-card, the-io, the-irq, the-issued, the-sockets, nameOf, NamedBy, Names}
 use Rattle.history.specs.Names.{Framed, register-client, register-issued, deregister, request-mask, release-mask, adjust-level, adjust-range}
@@ -153,6 +155,74 @@ module _ (n : ℕ) (es : List Event) (b : List ℕ) (from : FromFresh Ours n es 
 
   pub exact-question-takes-wrong : (l c : ℕ) (k : Code) → Exact (Besides (sharers l k c) b (image G)) → ⊥
   exact-question-takes-wrong l c k = exact-lost-wrong n es b from (sharers l k c) tt w f stood (λ back. back) gone
+
+-- what a service that succeeds makes, and that it gives back all that it may: nothing more has to hold of what it was given
+abbrev pub mustMake : ℕ → List ℕ → ℕ → List ℕ → Service → Fact → Type 0
+mustMake h p a q registerClient f = f ≡ client a (clientAttributes p) (clientEvents p)
+mustMake h p a q deregisterClient f = ⊥
+mustMake h p a q adjustResourceInfo f =
+    (actionOf p ≡ add)
+    × (((resourceOf p ≡ irqLevel) × (f ≡ level (levelGiven p) (reserves (levelAttributes p))))
+    ⊎ ((resourceOf p ≡ ioRange)
+    × ((w : Width) × (length p ≡ ioAdjustLength w)
+    × (f ≡ range (record { base = baseGiven w p; count = countGiven w p; reserved = reserves (attributesGiven w p) })))))
+mustMake h p a q requestIrq f = f ≡ irq (socketOf p) (record { client = h; level = assignedIrq q; manner = mannerAsked p })
+mustMake h p a q releaseIrq f = ⊥
+mustMake h p a q requestIo f = f ≡ io (socketOf p) (record { client = h; ports = portsAt p (baseAsked q); shared = sharedAsked p })
+mustMake h p a q releaseIo f = ⊥
+mustMake h p a q requestSocketMask f = f ≡ mask h (socketOf p) (eventsAsked p)
+mustMake h p a q releaseSocketMask f = ⊥
+
+made-all : (h : ℕ) (p : List ℕ) (a : ℕ) (q : List ℕ) (v : Service) (f : Fact) → mustMake h p a q v f → Made h p a q v f
+made-all h p a q registerClient f e = subst (Made h p a q registerClient) (sym e) client-made
+made-all h p a q deregisterClient f m = absurd m
+made-all h p a q adjustResourceInfo f (act, inl (is, e)) = subst (Made h p a q adjustResourceInfo) (sym e) (level-made is act)
+made-all h p a q adjustResourceInfo f (act, inr (is, (w, n, e))) = subst (Made h p a q adjustResourceInfo) (sym e) (range-made w n is act)
+made-all h p a q requestIrq f e = subst (Made h p a q requestIrq) (sym e) irq-made
+made-all h p a q releaseIrq f m = absurd m
+made-all h p a q requestIo f e = subst (Made h p a q requestIo) (sym e) io-made
+made-all h p a q releaseIo f m = absurd m
+made-all h p a q requestSocketMask f e = subst (Made h p a q requestSocketMask) (sym e) mask-made
+made-all h p a q releaseSocketMask f m = absurd m
+
+back-all : (h : ℕ) (p : List ℕ) (v : Service) (f : Fact) → mayGiveBack h p v f → GivenBack h p v f
+back-all h p registerClient f m = absurd m
+back-all h p deregisterClient f (x, y, e) = subst (GivenBack h p deregisterClient) (sym e) client-back
+back-all h p adjustResourceInfo f (act, v, inl (is, e)) = subst (GivenBack h p adjustResourceInfo) (sym e) (level-back is act)
+back-all h p adjustResourceInfo f (act, v, inr (is, (w, n, e))) = subst (GivenBack h p adjustResourceInfo) (sym e) (range-back w n is act)
+back-all h p requestIrq f m = absurd m
+back-all h p releaseIrq f (g, e, holder, number, type) = subst (GivenBack h p releaseIrq) (sym e) (irq-back holder number type)
+back-all h p requestIo f m = absurd m
+back-all h p releaseIo f (g, e, holder, base, count) = subst (GivenBack h p releaseIo) (sym e) (io-back holder base count)
+back-all h p requestSocketMask f m = absurd m
+back-all h p releaseSocketMask f (x, e) = subst (GivenBack h p releaseSocketMask) (sym e) mask-back
+
+-- so an event that only says that it made or gave something back is wrong: a service, a boot list, card in, card out
+module _ (n : ℕ) (es : List Event) (b : List ℕ) (from : FromFresh Ours n es b) {G : Facts} (w : WellFormed G) where
+  pub exact-unmade-wrong : (v : Service) (h : ℕ) (p : List ℕ) (a : ℕ) (q : List ℕ) (f : Fact) → mustMake h p a q v f → (Tells G f → ⊥)
+      → Exact (Besides (call (serviceNumber v) h p Success a q) b (image G)) → ⊥
+  exact-unmade-wrong v h p a q f makes =
+      exact-missing-wrong n es b from (call (serviceNumber v) h p Success a q) tt w f (refl, v, refl, made-all h p a q v f makes)
+
+  pub exact-kept-wrong : (v : Service) (h : ℕ) (p : List ℕ) (a : ℕ) (q : List ℕ) (f : Fact) → mayGiveBack h p v f
+      → (Makes (call (serviceNumber v) h p Success a q) f → ⊥) → Tells G f → Exact (Besides (call (serviceNumber v) h p Success a q) b (image G)) → ⊥
+  exact-kept-wrong v h p a q f gives =
+      exact-stays-wrong n es b from (call (serviceNumber v) h p Success a q) tt w f (refl, v, refl, back-all h p v f gives)
+
+  pub boot-level-unmade-wrong : (r : List ℕ) (k : Code) (i : ℕ) (x : Record) → x ∈ recordsIn i r → x .resource ≡ irqLevel
+      → (Tells G (level (x .base) (reserves (x .attributes))) → ⊥) → Exact (Besides (boot r k i) b (image G)) → ⊥
+  boot-level-unmade-wrong r k i x listed is = exact-missing-wrong n es b from (boot r k i) tt w _ (x, listed, level-recorded is)
+
+  pub boot-range-unmade-wrong : (r : List ℕ) (k : Code) (i : ℕ) (x : Record) → x ∈ recordsIn i r → x .resource ≡ ioRange
+      → (Tells G (range (record { base = x .base; count = x .count; reserved = reserves (x .attributes) })) → ⊥)
+      → Exact (Besides (boot r k i) b (image G)) → ⊥
+  boot-range-unmade-wrong r k i x listed is = exact-missing-wrong n es b from (boot r k i) tt w _ (x, listed, range-recorded is)
+
+  pub card-in-unmade-wrong : (s : ℕ) → (Tells G (card s) → ⊥) → Exact (Besides (cardIn s Success) b (image G)) → ⊥
+  card-in-unmade-wrong s = exact-missing-wrong n es b from (cardIn s Success) tt w (card s) (refl, refl)
+
+  pub card-out-kept-wrong : (s : ℕ) → Tells G (card s) → Exact (Besides (cardOut s Success) b (image G)) → ⊥
+  card-out-kept-wrong s = exact-stays-wrong n es b from (cardOut s Success) tt w (card s) (refl, refl) (λ m. m)
 
 -- ReleaseIO by a stranger, with another base or with another count; ReleaseIRQ by a stranger, with another level or with another type
 io-own : {h : ℕ} {p : List ℕ} (v : Service) (s : ℕ) (g : IoGrant) → GivenBack h p v (io s g)
