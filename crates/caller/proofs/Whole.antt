@@ -1,5 +1,5 @@
--- What a caller may rely on leaves nothing out: demand 3 and the laws over all entries follow from it alone, and each part of a visit says something of
--- it. Nothing is proved over these statements, so that a part that went would be missed here. Assumes nothing.
+-- What a caller may rely on leaves nothing out: demand 3 and the laws over all entries come back from it, and so does all that a visit promises. Nothing
+-- else is proved over these statements: a part that went would be missed here. Assumes nothing.
 use mathlib.Core.Path.{_≡_, refl, sym, _∙_}
 use mathlib.Core.Logic.{_≢_}
 use mathlib.Core.List.{List, [], _∷_, _++_, map}
