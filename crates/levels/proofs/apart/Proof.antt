@@ -4,30 +4,6 @@ use borrow.Author.Needs.{needs}
 use Rattle.levels.proofs.apart.Statement.{statement}
 use Rattle.levels.proofs.apart.Tie as tie
 
-enum-told : tie.Need-enum-told
-enum-told c = search needs
-
-row-apart-requires : tie.Need-row-apart-requires
-row-apart-requires c κs = search needs
-
-enum-told-2 : tie.Need-enum-told-2
-enum-told-2 c = search needs
-
-row-apart-requires-2 : tie.Need-row-apart-requires-2
-row-apart-requires-2 c κs = search needs
-
-enum-told-3 : tie.Need-enum-told-3
-enum-told-3 c = search needs
-
-row-apart-requires-3 : tie.Need-row-apart-requires-3
-row-apart-requires-3 c κs = search needs
-
-enum-told-4 : tie.Need-enum-told-4
-enum-told-4 c = search needs
-
-row-apart-requires-4 : tie.Need-row-apart-requires-4
-row-apart-requires-4 c κs = search needs
-
 returns : tie.Need-returns
 returns c = rw (c .before .enum-told .given .1) (c .row-apart .ensures)
 
@@ -44,14 +20,14 @@ pub apart-spec : {M : Type 1} → statement M
 apart-spec =
     tie.close
     (tie.spec
-    enum-told
-    row-apart-requires
-    enum-told-2
-    row-apart-requires-2
-    enum-told-3
-    row-apart-requires-3
-    enum-told-4
-    row-apart-requires-4
+    (λ c. search needs)
+    (λ c κs. search needs)
+    (λ c. search needs)
+    (λ c κs. search needs)
+    (λ c. search needs)
+    (λ c κs. search needs)
+    (λ c. search needs)
+    (λ c κs. search needs)
     returns
     returns-2
     returns-3

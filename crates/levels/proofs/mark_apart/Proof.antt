@@ -6,9 +6,6 @@ use borrow.Author.Needs.{needs}
 use Rattle.levels.proofs.mark_apart.Statement.{statement}
 use Rattle.levels.proofs.mark_apart.Tie as tie
 
-together-requires : tie.Need-together-requires
-together-requires c κs = search needs
-
 returns : tie.Need-returns
 returns c = record { most = omega arith; apart = (λ e. omega arith, λ n. absurd (n (c .before .together .ensures .holds (c .if1 .taken)))) }
 
@@ -16,4 +13,4 @@ returns-2 : tie.Need-returns-2
 returns-2 c = record { most = omega arith; apart = (λ e. c .before .together .ensures .fails (c .if1 .left), λ n. refl) }
 
 pub mark-apart-spec : {M : Type 1} → statement M
-mark-apart-spec = tie.close (tie.spec together-requires returns returns-2)
+mark-apart-spec = tie.close (tie.spec (λ c κs. search needs) returns returns-2)
