@@ -1,26 +1,26 @@
 #!/bin/sh
-# entries.sh: the contracts of the C entries are held by a caller's proofs. In a
-# copy of the crates each entry is given a contract that assumes more, and then
+# entries.sh: the contracts of the C entries are held by a caller's proofs. In one
+# copy of the crates each entry is given a contract that assumes more, in another
 # one that promises nothing. `keeper` is proved all the same; `caller`, which
 # calls each entry in a function of its own, has to be refused at all six.
 set -eu
 # shellcheck source=tests/toolchain.sh
 . "$(dirname "$0")/toolchain.sh"
 
-copy=$(mktemp -d)
-trap 'rm -rf "$copy"' EXIT
-trap 'exit 1' TERM
-mkdir "$copy/target"
-# What is proved already needs no second proof there.
-for made in target/rlib target/stamp; do
-    if [ -d "$made" ]; then cp -r "$made" "$copy/target/"; fi
-done
-source=$copy/crates/keeper/src/lib.rt
-proofs=$copy/crates/keeper/proofs
+copies=$(mktemp -d)
+trap 'rm -rf "$copies"' EXIT
+trap 'wait; exit 1' TERM
 
+# begin NAME: a copy of the crates; what is proved already needs no second proof there
 begin() {
-    rm -rf "$copy/crates"
+    copy=$copies/$1
+    mkdir -p "$copy/target"
+    for made in target/rlib target/stamp; do
+        if [ -d "$made" ]; then cp -r "$made" "$copy/target/"; fi
+    done
     cp -r crates crates.txt "$copy"
+    source=$copy/crates/keeper/src/lib.rt
+    proofs=$copy/crates/keeper/proofs
 }
 
 # stands ENTRY: its first line stands once in the source
@@ -69,22 +69,37 @@ refused() {
     echo "entries: $1: keeper is proved, and caller is refused at each of the six"
 }
 
-begin
-assumes cs_fresh 'sockets ≡ 1'
-assumes cs_call 'handle ≡ 1'
-assumes cs_card_in 'socket ≡ 0'
-assumes cs_card_out 'socket ≡ 0'
-assumes cs_sharers 'level ≡ 3'
-assumes cs_boot 'now records ≡ now table'
-refused 'each entry assumes more of its caller'
+each_assumes_more() {
+    begin assumes_more
+    assumes cs_fresh 'sockets ≡ 1'
+    assumes cs_call 'handle ≡ 1'
+    assumes cs_card_in 'socket ≡ 0'
+    assumes cs_card_out 'socket ≡ 0'
+    assumes cs_sharers 'level ≡ 3'
+    assumes cs_boot 'now records ≡ now table'
+    refused 'each entry assumes more of its caller'
+}
 
-begin
-sed -i '/^#\[no_mangle\]$/d' "$source"
-promises_nothing cs_fresh 'table: &mut [u8], sockets: u32' u32 'table, sockets'
-promises_nothing cs_call 'table: &mut [u8], service: u16, handle: u16, packet: &mut [u8]' u32 \
-    'table, service, handle, packet'
-promises_nothing cs_card_in 'table: &mut [u8], socket: u32' u32 'table, socket'
-promises_nothing cs_card_out 'table: &mut [u8], socket: u32' u32 'table, socket'
-promises_nothing cs_sharers 'table: &[u8], level: u32' u32 'table, level'
-promises_nothing cs_boot 'table: &mut [u8], records: &[u8]' u64 'table, records'
-refused 'each entry promises nothing'
+each_promises_nothing() {
+    begin promises_nothing
+    sed -i '/^#\[no_mangle\]$/d' "$source"
+    promises_nothing cs_fresh 'table: &mut [u8], sockets: u32' u32 'table, sockets'
+    promises_nothing cs_call 'table: &mut [u8], service: u16, handle: u16, packet: &mut [u8]' u32 \
+        'table, service, handle, packet'
+    promises_nothing cs_card_in 'table: &mut [u8], socket: u32' u32 'table, socket'
+    promises_nothing cs_card_out 'table: &mut [u8], socket: u32' u32 'table, socket'
+    promises_nothing cs_sharers 'table: &[u8], level: u32' u32 'table, level'
+    promises_nothing cs_boot 'table: &mut [u8], records: &[u8]' u64 'table, records'
+    refused 'each entry promises nothing'
+}
+
+# Side by side, a processor for each.
+each_assumes_more >"$copies/more" 2>&1 &
+more=$!
+each_promises_nothing >"$copies/nothing" 2>&1 &
+nothing=$!
+tried=0
+wait "$more" || tried=$?
+wait "$nothing" || tried=$?
+cat "$copies/more" "$copies/nothing"
+exit "$tried"
