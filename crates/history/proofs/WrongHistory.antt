@@ -2,7 +2,7 @@
 use mathlib.Core.Path.{_≡_, refl, ap, sym, _∙_, subst}
 use mathlib.Core.Logic.{_⊎_, inl, inr, ⊎-elim, _↔_, _≢_}
 use mathlib.Core.List.{List, [], _∷_, _++_, append-assoc}
-use mathlib.Core.Bool.{Bool}
+use mathlib.Core.Bool.{Bool, true}
 use Prim.Native.Nat.{ℕ, _+_, _<_}
 use native.Mathlib.Nat.{add-zero}
 use native.Mathlib.Omega.{arith}
@@ -15,7 +15,8 @@ use Rattle.facts.specs.Table
 use Rattle.facts.specs.Table.{Facts, IoGrant, IrqGrant}
 use Rattle.facts.specs.Sets.{_∈_}
 use Rattle.facts.specs.WellFormed.{WellFormed}
-use Rattle.facts.specs.Levels.{typeOf}
+use Rattle.facts.specs.Ports.{Meet}
+use Rattle.facts.specs.Levels.{Together, typeOf}
 use Rattle.facts.specs.Clients.{clientAttributes, clientEvents}
 use Rattle.facts.specs.Sockets.{socketOf, eventsAsked}
 use Rattle.facts.specs.Resources.{actionOf, resourceOf, add, remove, first, next, irqLevel, ioRange, levelGiven, ioAdjustLength, baseGiven, countGiven}
@@ -37,7 +38,7 @@ use Rattle.history.specs.Tables.{Tells, TellsExactly}
 use Rattle.history.specs.Names.{Name, the-client, the-mask, the-level, the-range, the-card, the-io, the-irq, the-issued, the-sockets, nameOf, NamedBy, Names}
 use Rattle.history.specs.Names.{Framed, register-client, register-issued, deregister, request-mask, release-mask, adjust-level, adjust-range}
 use Rattle.history.specs.Names.{request-io, release-io, request-irq, release-irq}
-use Rattle.history.specs.Demand.{Exact, ExactSince, Frame, CardOutKeeps, NeverAgain, Once, Number, SharersCounted}
+use Rattle.history.specs.Demand.{Exact, ExactSince, Frame, CardOutKeeps, NeverAgain, OneGrant, PortsApart, LevelsApart, Once, Number, SharersCounted}
 use Rattle.history.proofs.Standing.{stands-never, stands-last, last-stands}
 use Rattle.history.proofs.Frame.{showing-names-none}
 use Rattle.history.proofs.Giving.{accepted}
@@ -420,6 +421,43 @@ handle-again-wrong n earlier later h h′ p p′ a q q′ b b′ from x =
 pub handle-zero-wrong : (n : ℕ) (es : List Event) (h : ℕ) (p q b b′ : List ℕ) → FromFresh Ours n es b → NeverAgain (Besides (registersBy h p 0 q) b b′) → ⊥
 handle-zero-wrong n es h p q b b′ from x =
     x n es [] (registersBy h p 0 q) 0 b′ (then-once n es b from (registersBy h p 0 q) tt b′) (registers-as h p 0 q) .0 refl
+
+-- OneGrant, PortsApart, LevelsApart: after any run, an event makes a grant beside one that stands
+module _ (n : ℕ) (es : List Event) (b : List ℕ) (from : FromFresh Ours n es b) (e : Event) (on : GoesOn e) (b′ : List ℕ) where
+  ran : FromFresh (Besides e b b′) n (es ++ (e ∷ [])) b′
+  ran = then-once n es b from e on b′
+
+  -- the fact f stands, and the event doesn't give it back, but makes f′
+  pub record Beside (f f′ : Fact) : Type 0 where
+    pub stood : Stands es f
+    pub kept : GivesBack e f → ⊥
+    pub made : Makes e f′
+
+  old-stands : {f f′ : Fact} → Beside f f′ → Stands (es ++ (e ∷ [])) f
+  old-stands {f} x = last-stands f es e (inr (x .stood, x .kept))
+
+  new-stands : {f f′ : Fact} → Beside f f′ → Stands (es ++ (e ∷ [])) f′
+  new-stands {f} {f′} x = last-stands f′ es e (inl (x .made))
+
+  module _ (s s′ : ℕ) (g g′ : IoGrant) (beside : Beside (io s g) (io s′ g′)) where
+    -- another one on the same socket
+    pub two-ios-wrong : s ≡ s′ → g ≢ g′ → OneGrant (Besides e b b′) → ⊥
+    two-ios-wrong same d x =
+        d (x .io-one n (es ++ (e ∷ [])) b′ s′ g g′ ran (subst (λ (t : ℕ). Stands (es ++ (e ∷ [])) (io t g)) same (old-stands beside)) (new-stands beside))
+
+    -- of ports that meet and that the two don't both share
+    pub ports-unshared-wrong : io s g ≢ io s′ g′ → Meet (g .ports) (g′ .ports) → ((g .shared ≡ true) × (g′ .shared ≡ true) → ⊥)
+        → PortsApart (Besides e b b′) → ⊥
+    ports-unshared-wrong d meet unshared x = unshared (x n (es ++ (e ∷ [])) b′ s s′ g g′ ran (old-stands beside) (new-stands beside) d meet)
+
+  module _ (s s′ : ℕ) (g g′ : IrqGrant) (beside : Beside (irq s g) (irq s′ g′)) where
+    pub two-irqs-wrong : s ≡ s′ → g ≢ g′ → OneGrant (Besides e b b′) → ⊥
+    two-irqs-wrong same d x =
+        d (x .irq-one n (es ++ (e ∷ [])) b′ s′ g g′ ran (subst (λ (t : ℕ). Stands (es ++ (e ∷ [])) (irq t g)) same (old-stands beside)) (new-stands beside))
+
+    -- of one level, in manners that don't go together
+    pub level-unshared-wrong : irq s g ≢ irq s′ g′ → g .level ≡ g′ .level → (Together (g .manner) (g′ .manner) → ⊥) → LevelsApart (Besides e b b′) → ⊥
+    level-unshared-wrong d same apart x = apart (x n (es ++ (e ∷ [])) b′ s s′ g g′ ran (old-stands beside) (new-stands beside) d same)
 
 -- SharersCounted: none counted where one shares, one counted twice, more than eight
 module _ (n : ℕ) (es : List Event) (b : List ℕ) (from : FromFresh Ours n es b) (l : ℕ) where

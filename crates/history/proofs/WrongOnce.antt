@@ -8,6 +8,7 @@ use native.Mathlib.Omega.{arith}
 use lib.ListN.{length}
 use Rattle.facts.specs.declared.Code.{Code}
 use Rattle.facts.specs.declared.Code.the-variants.{Success, BadBase, BadIrq, GeneralFailure, InUse}
+use Rattle.facts.specs.Codes.{numberOf}
 use Rattle.facts.specs.Table
 use Rattle.facts.specs.Table.{Facts}
 use Rattle.facts.specs.Sets.{_∈_}
@@ -279,6 +280,9 @@ never-gives fresh-table k (n, b, b′, (ours, never)) = never of-fresh refl
 pub code-missing-wrong : (x : Asked) (k : Code) → k ∈ codesOf x → ExactCodes (Never x k) → ⊥
 code-missing-wrong x k listed y = never-gives x k (y x k .0 listed)
 
--- TheCodes: a sixteenth number
+-- TheCodes: a code's number left out; a sixteenth number
+pub number-left-out-wrong : (numbers : List ℕ) (k : Code) → (numberOf k ∈ numbers → ⊥) → TheCodes numbers → ⊥
+number-left-out-wrong numbers k unlisted x = unlisted (x (numberOf k) .1 (k, refl))
+
 pub sixteenth-wrong : TheCodes (0x100 ∷ fifteen) → ⊥
 sixteenth-wrong x = let y = x 0x100 .0 (inl refl) in omega (arith, y .1, code-byte (y .0))

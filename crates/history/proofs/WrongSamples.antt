@@ -39,8 +39,8 @@ use Rattle.history.proofs.SampleRuns.{made-two, from-two, says, registe
 use Rattle.history.proofs.SampleRuns.{asksIrq, asksIo, irq-step, io-step}
 use Rattle.history.proofs.WrongGrants.{ioAlso, eight-names, first-granted, keeps-all}
 use Rattle.history.proofs.WrongOnce.{Besides}
-use Rattle.history.proofs.WrongHistory.{then-once, exact-stays-wrong, exact-sockets-wrong, io-strange-wrong, since-issued-wrong, success-takes-wrong}
-use Rattle.history.proofs.WrongHistory.{none-counted-wrong, counted-twice-wrong}
+use Rattle.history.proofs.WrongHistory.{exact-stays-wrong, exact-sockets-wrong, io-strange-wrong, since-issued-wrong, success-takes-wrong}
+use Rattle.history.proofs.WrongHistory.{two-ios-wrong, two-irqs-wrong, none-counted-wrong, counted-twice-wrong}
 
 -- names of different kinds differ, and names of different levels
 abbrev nameKind : Name → ℕ
@@ -183,28 +183,25 @@ irq-stands =
     ))
 
 pub second-io-wrong : OneGrant (Besides asksIoAgain (image ioHeld) (image ioHeld)) → ⊥
-second-io-wrong x =
-    omega (
-      arith,
-      ap (λ (g : IoGrant). g .ports .base)
-          (x .io-one 2 (log ++ (asksIoAgain ∷ [])) (image ioHeld) 0 (ioGrant 1 (for 0 ioAsked) 0x300) (ioGrant 1 (for 0 (ioAt 0x08 0x03)) 0x308)
-          (then-once 2 log (image ioHeld) granted-both asksIoAgain tt (image ioHeld))
-          (last-stands _ log asksIoAgain
-          (inr (io-stands, keeps-all requestIo 1 (for 0 (ioAt 0x08 0x03)) Success 1 (for 0 (ioAt 0x08 0x03)) (request-io-keeps (λ (f : Fact). ⊥)) _)))
-          (last-stands _ log asksIoAgain (inl (refl, requestIo, refl, io-made)))),
-    )
+second-io-wrong =
+    two-ios-wrong 2 log (image ioHeld) granted-both asksIoAgain tt (image ioHeld) 0 0 (ioGrant 1 (for 0 ioAsked) 0x300)
+    (ioGrant 1 (for 0 (ioAt 0x08 0x03)) 0x308)
+    (record {
+      stood = io-stands;
+      kept = keeps-all requestIo 1 (for 0 (ioAt 0x08 0x03)) Success 1 (for 0 (ioAt 0x08 0x03)) (request-io-keeps (λ (f : Fact). ⊥)) _;
+      made = (refl, requestIo, refl, io-made);
+    })
+    refl (λ e. omega (arith, ap (λ (g : IoGrant). g .ports .base) e))
 
 pub second-irq-wrong : OneGrant (Besides asksIrqAgain (image ioHeld) (image ioHeld)) → ⊥
-second-irq-wrong x =
-    omega (
-      arith,
-      ap (λ (g : IrqGrant). g .level)
-          (x .irq-one 2 (log ++ (asksIrqAgain ∷ [])) (image ioHeld) 0 (irqGrant 1 (for 0 irqAsked) 3) (irqGrant 1 (for 0 irqAsked) 5)
-          (then-once 2 log (image ioHeld) granted-both asksIrqAgain tt (image ioHeld))
-          (last-stands _ log asksIrqAgain
-          (inr (irq-stands, keeps-all requestIrq 1 (for 0 irqAsked) Success 1 (for 0 (irqNaming 3 5)) (request-irq-keeps (λ (f : Fact). ⊥)) _)))
-          (last-stands _ log asksIrqAgain (inl (refl, requestIrq, refl, irq-made)))),
-    )
+second-irq-wrong =
+    two-irqs-wrong 2 log (image ioHeld) granted-both asksIrqAgain tt (image ioHeld) 0 0 (irqGrant 1 (for 0 irqAsked) 3) (irqGrant 1 (for 0 irqAsked) 5)
+    (record {
+      stood = irq-stands;
+      kept = keeps-all requestIrq 1 (for 0 irqAsked) Success 1 (for 0 (irqNaming 3 5)) (request-irq-keeps (λ (f : Fact). ⊥)) _;
+      made = (refl, requestIrq, refl, irq-made);
+    })
+    refl (λ e. omega (arith, ap (λ (g : IrqGrant). g .level) e))
 
 -- SharersCounted: none is counted, or one twice, where the socket 0 shares the level 3
 pub none-told-wrong : SharersCounted (Besides (sharers 3 Success 0) (image ioHeld) (image ioHeld)) → ⊥
