@@ -439,25 +439,24 @@ module _ (n : ℕ) (es : List Event) (b : List ℕ) (from : FromFresh Ours n es 
   new-stands : {f f′ : Fact} → Beside f f′ → Stands (es ++ (e ∷ [])) f′
   new-stands {f} {f′} x = last-stands f′ es e (inl (x .made))
 
-  module _ (s s′ : ℕ) (g g′ : IoGrant) (beside : Beside (io s g) (io s′ g′)) where
-    -- another one on the same socket
-    pub two-ios-wrong : s ≡ s′ → g ≢ g′ → OneGrant (Besides e b b′) → ⊥
-    two-ios-wrong same d x =
-        d (x .io-one n (es ++ (e ∷ [])) b′ s′ g g′ ran (subst (λ (t : ℕ). Stands (es ++ (e ∷ [])) (io t g)) same (old-stands beside)) (new-stands beside))
+  -- another one on the same socket
+  pub two-ios-wrong : (s : ℕ) (g g′ : IoGrant) → Beside (io s g) (io s g′) → g ≢ g′ → OneGrant (Besides e b b′) → ⊥
+  two-ios-wrong s g g′ beside d x = d (x .io-one n (es ++ (e ∷ [])) b′ s g g′ ran (old-stands beside) (new-stands beside))
 
-    -- of ports that meet and that the two don't both share
-    pub ports-unshared-wrong : io s g ≢ io s′ g′ → Meet (g .ports) (g′ .ports) → ((g .shared ≡ true) × (g′ .shared ≡ true) → ⊥)
-        → PortsApart (Besides e b b′) → ⊥
-    ports-unshared-wrong d meet unshared x = unshared (x n (es ++ (e ∷ [])) b′ s s′ g g′ ran (old-stands beside) (new-stands beside) d meet)
+  pub two-irqs-wrong : (s : ℕ) (g g′ : IrqGrant) → Beside (irq s g) (irq s g′) → g ≢ g′ → OneGrant (Besides e b b′) → ⊥
+  two-irqs-wrong s g g′ beside d x = d (x .irq-one n (es ++ (e ∷ [])) b′ s g g′ ran (old-stands beside) (new-stands beside))
 
-  module _ (s s′ : ℕ) (g g′ : IrqGrant) (beside : Beside (irq s g) (irq s′ g′)) where
-    pub two-irqs-wrong : s ≡ s′ → g ≢ g′ → OneGrant (Besides e b b′) → ⊥
-    two-irqs-wrong same d x =
-        d (x .irq-one n (es ++ (e ∷ [])) b′ s′ g g′ ran (subst (λ (t : ℕ). Stands (es ++ (e ∷ [])) (irq t g)) same (old-stands beside)) (new-stands beside))
+  -- one of ports that meet, which the two don't both share
+  pub ports-unshared-wrong : (s s′ : ℕ) (g g′ : IoGrant) → Beside (io s g) (io s′ g′) → io s g ≢ io s′ g′ → Meet (g .ports) (g′ .ports)
+      → ((g .shared ≡ true) × (g′ .shared ≡ true) → ⊥) → PortsApart (Besides e b b′) → ⊥
+  ports-unshared-wrong s s′ g g′ beside d meet unshared x =
+      unshared (x n (es ++ (e ∷ [])) b′ s s′ g g′ ran (old-stands beside) (new-stands beside) d meet)
 
-    -- of one level, in manners that don't go together
-    pub level-unshared-wrong : irq s g ≢ irq s′ g′ → g .level ≡ g′ .level → (Together (g .manner) (g′ .manner) → ⊥) → LevelsApart (Besides e b b′) → ⊥
-    level-unshared-wrong d same apart x = apart (x n (es ++ (e ∷ [])) b′ s s′ g g′ ran (old-stands beside) (new-stands beside) d same)
+  -- one of the same level, in a manner that doesn't go with the other's
+  pub level-unshared-wrong : (s s′ : ℕ) (g g′ : IrqGrant) → Beside (irq s g) (irq s′ g′) → irq s g ≢ irq s′ g′ → g .level ≡ g′ .level
+      → (Together (g .manner) (g′ .manner) → ⊥) → LevelsApart (Besides e b b′) → ⊥
+  level-unshared-wrong s s′ g g′ beside d same apart x =
+      apart (x n (es ++ (e ∷ [])) b′ s s′ g g′ ran (old-stands beside) (new-stands beside) d same)
 
 -- SharersCounted: none counted where one shares, one counted twice, more than eight
 module _ (n : ℕ) (es : List Event) (b : List ℕ) (from : FromFresh Ours n es b) (l : ℕ) where

@@ -27,8 +27,8 @@ use Rattle.cases.proofs.Permitted.{_then_}
 use Rattle.history.specs.Events.{Event, call, sharers, Ours, FromFresh}
 use Rattle.history.specs.Stands.{Fact, mask, level, io, irq, Made, Makes, Stands, io-made, io-back, irq-made}
 use Rattle.history.specs.Tables.{Tells}
-use Rattle.history.specs.Names.{Name, the-client, the-mask, the-level, the-range, the-card, the-io, the-irq, the-issued, the-sockets}
-use Rattle.history.specs.Demand.{Exact, ExactSince, Frame, OneGrant, SharersCounted}
+use Rattle.history.specs.Names.{Name, the-client, the-mask, the-level, the-range, the-card, the-io, the-irq, the-issued, the-sockets, nameOf}
+use Rattle.history.specs.Demand.{Exact, ExactSince, Frame, OneGrant, PortsApart, LevelsApart, SharersCounted}
 use Rattle.history.proofs.Inverse.{release-io-makes-none, request-io-keeps, request-irq-keeps}
 use Rattle.history.proofs.Runs.{exact}
 use Rattle.history.proofs.Standing.{last-stands}
@@ -40,9 +40,9 @@ use Rattle.history.proofs.SampleRuns.{asksIrq, asksIo, irq-step, io-ste
 use Rattle.history.proofs.WrongGrants.{ioAlso, eight-names, first-granted, keeps-all}
 use Rattle.history.proofs.WrongOnce.{Besides}
 use Rattle.history.proofs.WrongHistory.{exact-stays-wrong, exact-sockets-wrong, io-strange-wrong, since-issued-wrong, success-takes-wrong}
-use Rattle.history.proofs.WrongHistory.{two-ios-wrong, two-irqs-wrong, none-counted-wrong, counted-twice-wrong}
+use Rattle.history.proofs.WrongHistory.{two-ios-wrong, two-irqs-wrong, ports-unshared-wrong, level-unshared-wrong, none-counted-wrong, counted-twice-wrong}
 
--- names of different kinds differ, and names of different levels
+-- names of different kinds differ, and names with different numbers
 abbrev nameKind : Name → ℕ
 nameKind (the-client h) = 0
 nameKind (the-mask h s) = 1
@@ -54,16 +54,16 @@ nameKind (the-irq s) = 6
 nameKind the-issued = 7
 nameKind the-sockets = 8
 
-abbrev levelNamed : Name → ℕ
-levelNamed (the-client h) = 0
-levelNamed (the-mask h s) = 0
-levelNamed (the-level l) = l
-levelNamed (the-range b) = 0
-levelNamed (the-card s) = 0
-levelNamed (the-io s) = 0
-levelNamed (the-irq s) = 0
-levelNamed the-issued = 0
-levelNamed the-sockets = 0
+abbrev numberNamed : Name → ℕ
+numberNamed (the-client h) = h
+numberNamed (the-mask h s) = h
+numberNamed (the-level l) = l
+numberNamed (the-range b) = b
+numberNamed (the-card s) = s
+numberNamed (the-io s) = s
+numberNamed (the-irq s) = s
+numberNamed the-issued = 0
+numberNamed the-sockets = 0
 
 -- Frame: a granted RequestIO that takes the socket's IRQ grant
 pub io-takes-irq-wrong : Frame (Besides asksIo (image irqHeld) (image (withIrq ioHeld 0 none))) → ⊥
@@ -109,7 +109,7 @@ add-reserves-another-wrong =
     (level-formed (levelAdded idle 5 0) (level-added-formed idle (idle-ready .formed) 5 0 ((λ e. e (inl refl)) then (omega arith) then (λ e. true≢false (sym e)) then tt)) 3
     (record { managed = true; reserved = true }) (omega arith) (λ e. refl) (λ s g e at. refl))
     (level 3 false) (λ m. m)
-    (λ e. ⊎-elim (λ l. omega (arith, ap levelNamed (l .1))) (λ r. omega (arith, r .0)) (e .1 .named)) refl
+    (λ e. ⊎-elim (λ l. omega (arith, ap numberNamed (l .1))) (λ r. omega (arith, r .0)) (e .1 .named)) refl
     (λ e. true≢false (ap (λ (v : Level). v .reserved) e))
 
 -- Exact: a ReleaseIO that only says so
@@ -184,24 +184,52 @@ irq-stands =
 
 pub second-io-wrong : OneGrant (Besides asksIoAgain (image ioHeld) (image ioHeld)) → ⊥
 second-io-wrong =
-    two-ios-wrong 2 log (image ioHeld) granted-both asksIoAgain tt (image ioHeld) 0 0 (ioGrant 1 (for 0 ioAsked) 0x300)
+    two-ios-wrong 2 log (image ioHeld) granted-both asksIoAgain tt (image ioHeld) 0 (ioGrant 1 (for 0 ioAsked) 0x300)
     (ioGrant 1 (for 0 (ioAt 0x08 0x03)) 0x308)
     (record {
       stood = io-stands;
       kept = keeps-all requestIo 1 (for 0 (ioAt 0x08 0x03)) Success 1 (for 0 (ioAt 0x08 0x03)) (request-io-keeps (λ (f : Fact). ⊥)) _;
       made = (refl, requestIo, refl, io-made);
     })
-    refl (λ e. omega (arith, ap (λ (g : IoGrant). g .ports .base) e))
+    (λ e. omega (arith, ap (λ (g : IoGrant). g .ports .base) e))
 
 pub second-irq-wrong : OneGrant (Besides asksIrqAgain (image ioHeld) (image ioHeld)) → ⊥
 second-irq-wrong =
-    two-irqs-wrong 2 log (image ioHeld) granted-both asksIrqAgain tt (image ioHeld) 0 0 (irqGrant 1 (for 0 irqAsked) 3) (irqGrant 1 (for 0 irqAsked) 5)
+    two-irqs-wrong 2 log (image ioHeld) granted-both asksIrqAgain tt (image ioHeld) 0 (irqGrant 1 (for 0 irqAsked) 3) (irqGrant 1 (for 0 irqAsked) 5)
     (record {
       stood = irq-stands;
       kept = keeps-all requestIrq 1 (for 0 irqAsked) Success 1 (for 0 (irqNaming 3 5)) (request-irq-keeps (λ (f : Fact). ⊥)) _;
       made = (refl, requestIrq, refl, irq-made);
     })
-    refl (λ e. omega (arith, ap (λ (g : IrqGrant). g .level) e))
+    (λ e. omega (arith, ap (λ (g : IrqGrant). g .level) e))
+
+-- PortsApart, LevelsApart: the socket 1 is granted the ports, or the level, that the socket 0 has for itself
+abbrev asksIoToo : Event
+asksIoToo = call (serviceNumber requestIo) 1 (for 1 ioAsked) Success 1 (for 1 ioAsked)
+
+abbrev asksIrqToo : Event
+asksIrqToo = call (serviceNumber requestIrq) 1 (for 1 irqAsked) Success 1 (for 1 (irqNaming 3 3))
+
+pub same-ports-wrong : PortsApart (Besides asksIoToo (image ioHeld) (image ioHeld)) → ⊥
+same-ports-wrong =
+    ports-unshared-wrong 2 log (image ioHeld) granted-both asksIoToo tt (image ioHeld) 0 1 (ioGrant 1 (for 0 ioAsked) 0x300) (ioGrant 1 (for 1 ioAsked) 0x300)
+    (record {
+      stood = io-stands;
+      kept = keeps-all requestIo 1 (for 1 ioAsked) Success 1 (for 1 ioAsked) (request-io-keeps (λ (f : Fact). ⊥)) _;
+      made = (refl, requestIo, refl, io-made);
+    })
+    (λ e. omega (arith, ap (λ (f : Fact). numberNamed (nameOf f)) e))
+    (record { one = 0x300; other = 0x300; one-in = omega arith; other-in = omega arith; equal = refl }) (λ both. true≢false (sym (both .0)))
+
+pub same-level-wrong : LevelsApart (Besides asksIrqToo (image ioHeld) (image ioHeld)) → ⊥
+same-level-wrong =
+    level-unshared-wrong 2 log (image ioHeld) granted-both asksIrqToo tt (image ioHeld) 0 1 (irqGrant 1 (for 0 irqAsked) 3) (irqGrant 1 (for 1 irqAsked) 3)
+    (record {
+      stood = irq-stands;
+      kept = keeps-all requestIrq 1 (for 1 irqAsked) Success 1 (for 1 (irqNaming 3 3)) (request-irq-keeps (λ (f : Fact). ⊥)) _;
+      made = (refl, requestIrq, refl, irq-made);
+    })
+    (λ e. omega (arith, ap (λ (f : Fact). numberNamed (nameOf f)) e)) refl (λ together. together .shares refl)
 
 -- SharersCounted: none is counted, or one twice, where the socket 0 shares the level 3
 pub none-told-wrong : SharersCounted (Besides (sharers 3 Success 0) (image ioHeld) (image ioHeld)) → ⊥
