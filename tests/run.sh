@@ -2,7 +2,8 @@
 # run.sh: builds the archive and the C side, tries what types must refuse and
 # contracts of the entries that a caller must refuse, looks at what the archive
 # needs, and runs the header's example, the model's own cases, the comparison and
-# the demo. Ends at the first failure; types and contracts come last.
+# the demo. Crates that are proved already are not proved again. Ends at the first
+# failure; types and contracts come last.
 set -eu
 # shellcheck source=tests/toolchain.sh
 . "$(dirname "$0")/toolchain.sh"
@@ -49,7 +50,7 @@ build model_cases tests/model_cases.c tests/model_io_cases.c \
 run model_cases
 
 # shellcheck disable=SC2086
-build compare tests/compare.c tests/compare_calls.c tests/compare_resources.c \
+build compare -Wmissing-prototypes tests/compare.c tests/compare_calls.c tests/compare_resources.c \
     tests/compare_holders.c tests/compare_boot.c tests/compare_sockets.c tests/compare_irq.c \
     tests/compare_irq_joining.c tests/compare_io.c tests/compare_io_choice.c tests/compare_io_held.c \
     tests/compare_io_worlds.c tests/compare_io_answering.c tests/compare_masks.c \

@@ -10,8 +10,9 @@ programs=target/tests
 
 kit() { dirname "$(dirname "$(rt doc)")"; }
 
-# One check more at a time than there are processors: a check also waits.
-RT_JOBS=${RT_JOBS:-$(($(nproc) + 1))}
+# Twice as many checks at a time as there are processors: checks run in batches that
+# wait for their slowest, and a check also waits for files.
+RT_JOBS=${RT_JOBS:-$((2 * $(nproc)))}
 export RT_JOBS
 
 # rt staticlib proves one crate after the other; rt check, before it, several at a time.

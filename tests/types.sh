@@ -47,32 +47,32 @@ refused() {
     esac
 }
 
-refused clients lib.rt 'holds(t, i, h)' 'holds(t, i, i)' Handle usize
-refused clients lib.rt 'enter(t, n, handle,' 'enter(t, handle, n,' usize Handle
-refused clients lib.rt 'grant_on(t, Socket(s), h)' 'grant_on(t, h, h)' Socket Handle
-refused grants ios.rt 'io_pair_sound(t, s, Socket(u))' 'io_pair_sound(t, s, u)' Socket usize
-refused sharers lib.rt 'sharer(t, level, Socket(s))' 'sharer(t, level, s)' Socket usize
-refused keeper lib.rt 'clients::deregister(table, Handle(handle), packet)' \
-    'clients::deregister(table, Socket(3), packet)' Handle Socket
-refused keeper lib.rt 'sharers::pack(sharers::of_level(table, level))' \
-    'answers::pack(sharers::of_level(table, level))' Answer SharerCount
-refused keeper lib.rt 'facts::number(sockets::card(table, socket, present))' \
-    'answers::pack(sockets::card(table, socket, present))' Answer Code
-refused holders lib.rt 'better(t, what, best, Socket(s))' 'better(t, what, best, s)' Socket usize
-refused boot lib.rt 'return Booted::Stopped(place, code)' 'return Booted::Stopped(code, place)' usize Code
-refused keeper lib.rt 'boot::pack(boot::boot(table, records))' \
-    'answers::pack(boot::boot(table, records))' Answer Booted
-refused masks lib.rt 'write(t, i, socket, 0)' 'write(t, socket, i, 0)' usize Socket
-refused irq lib.rt 'grant_of(t, socket, h, reading::byte(p, ASSIGNED_AT))' \
-    'grant_of(t, h, socket, reading::byte(p, ASSIGNED_AT))' Socket Handle
-refused irq lib.rt 'enter(t, socket, h, level, levels::place(manner))' \
-    'enter(t, socket, level, h, levels::place(manner))' Handle usize
-refused fitting lib.rt 'levels_at(t, p, m, Socket(s))' 'levels_at(t, p, m, s)' Socket usize
-refused keeper lib.rt 'irq::request(table, Handle(handle), packet)' \
-    'irq::request(table, handle, packet)' Handle u16
-refused obstacles lib.rt 'met(t, Socket(s), count, lines, most)' 'met(t, s, count, lines, most)' Socket usize
-refused bases lib.rt 'stands(t, p, Socket(s))' 'stands(t, p, s)' Socket usize
-refused io_ports lib.rt 'grant_of(t, socket, h, base, count)' 'grant_of(t, h, socket, base, count)' Socket Handle
-refused io_ports lib.rt 'enter_asked(t, socket, h, base, p)' 'enter_asked(t, socket, base, h, p)' Handle usize
-refused keeper lib.rt 'io_ports::request(table, Handle(handle), packet)' \
-    'io_ports::request(table, handle, packet)' Handle u16
+refused client_services lib.rt 'holds(t, i, h)' 'holds(t, i, i)' Handle usize
+refused client_services lib.rt 'enter(t, n, handle,' 'enter(t, handle, n,' usize Handle
+refused client_services lib.rt 'grant_on(t, Socket(s), h)' 'grant_on(t, h, h)' Socket Handle
+refused table_grants ios.rt 'io_pair_sound(t, s, Socket(u))' 'io_pair_sound(t, s, u)' Socket usize
+refused irq_sharers lib.rt 'sharer(t, level, Socket(s))' 'sharer(t, level, s)' Socket usize
+refused keeper lib.rt 'client_services::deregister(table, h, packet)' \
+    'client_services::deregister(table, Socket(3), packet)' Handle Socket
+refused keeper lib.rt 'irq_sharers::pack(irq_sharers::of_level(table, level))' \
+    'service_answers::pack(irq_sharers::of_level(table, level))' Answer SharerCount
+refused keeper lib.rt 'facts::number(socket_cards::card(table, socket, present))' \
+    'service_answers::pack(socket_cards::card(table, socket, present))' Answer Code
+refused managed_holders lib.rt 'better(t, what, best, Socket(s))' 'better(t, what, best, s)' Socket usize
+refused managed_boot lib.rt 'return Booted::Stopped(place, code)' 'return Booted::Stopped(code, place)' usize Code
+refused keeper lib.rt 'managed_boot::pack(managed_boot::boot(table, records))' \
+    'service_answers::pack(managed_boot::boot(table, records))' Answer Booted
+refused socket_masks lib.rt 'write(t, i, socket, 0)' 'write(t, socket, i, 0)' usize Socket
+refused irq_services lib.rt 'grant_of(t, socket, h, table_read::byte(p, ASSIGNED_AT))' \
+    'grant_of(t, h, socket, table_read::byte(p, ASSIGNED_AT))' Socket Handle
+refused irq_services lib.rt 'enter(t, socket, h, level, irq_levels::manner_byte(manner))' \
+    'enter(t, socket, level, h, irq_levels::manner_byte(manner))' Handle usize
+refused irq_fitting lib.rt 'levels_at(t, p, m, Socket(s))' 'levels_at(t, p, m, s)' Socket usize
+refused keeper lib.rt 'irq_services::request(table, h, packet)' \
+    'irq_services::request(table, handle, packet)' Handle u16
+refused io_obstacles lib.rt 'met(t, Socket(s), count, lines, most)' 'met(t, s, count, lines, most)' Socket usize
+refused io_bases lib.rt 'stands(t, p, Socket(s))' 'stands(t, p, s)' Socket usize
+refused io_services lib.rt 'grant_of(t, socket, h, base, count)' 'grant_of(t, h, socket, base, count)' Socket Handle
+refused io_services lib.rt 'enter_asked(t, socket, h, base, p)' 'enter_asked(t, socket, base, h, p)' Handle usize
+refused keeper lib.rt 'io_services::request(table, h, packet)' \
+    'io_services::request(table, handle, packet)' Handle u16

@@ -2,3 +2,4 @@
 pub mod Relied
 pub mod Visits
 pub mod Whole
+pub use Visits.{refused, visited}

@@ -1,15 +1,12 @@
 -- All that a caller may rely on holds: demand 3 and the laws over all entries, of this keeper. Assumes nothing.
-use mathlib.Core.Path.{refl, subst}
-use mathlib.Core.List.{List}
-use Prim.Native.Nat.{ℕ}
-use Rattle.facts.specs.declared.Code.{Code}
-use Rattle.facts.specs.Codes.{numberOf}
+use Rattle.facts.proofs.Words.{refl, subst, List, ℕ}
 use Rattle.history.specs.Events
-use Rattle.history.specs.Events.{Event, codeIn, Ours, FromFresh}
-use Rattle.history.specs.Stands.{Stands, registrations}
-use Rattle.history.proofs.Demand.{demand-3, entry-laws}
-use Rattle.history.proofs.Pinned.{said-once}
-use Rattle.caller.specs.Relied.{Relied, AfterRun}
+use Rattle.facts.specs.{Code, numberOf}
+use Rattle.history.specs.{Event, codeIn, Ours, FromFresh, registrations}
+use Rattle.history.specs.Stands.{Stands}
+use Rattle.history.proofs.{demand-3, entry-laws, said-once}
+use Rattle.caller.specs.Relied.{Relied}
+use Rattle.caller.specs.{AfterRun}
 
 after-run : (sockets : ℕ) (es : List Event) (b : List ℕ) → FromFresh Ours sockets es b → AfterRun sockets es b
 after-run n es b from =

@@ -1,17 +1,11 @@
 -- Six entries called one after the other, each as it promises, make a run. Assumes nothing.
-use mathlib.Core.Path.{_≡_, refl, ap, sym, _∙_, subst}
-use mathlib.Core.Logic.{_≢_}
-use mathlib.Core.List.{List, [], _∷_}
-use Prim.Native.Nat.{ℕ}
-use Rattle.facts.specs.declared.Code.{Code}
-use Rattle.facts.specs.declared.Code.the-variants.{Success}
-use Rattle.facts.specs.Codes.{numberOf}
-use Rattle.facts.proofs.Codes.{code-injective}
-use Rattle.history.specs.Events.{makeFresh, Ours, FromFresh}
-use Rattle.history.specs.Events.{FreshCame, CallCame, CardInCame, CardOutCame, BootCame, SharersCame}
-use Rattle.caller.specs.declared.Answers.{Answers}
+use Rattle.facts.proofs.Words.{_≡_, refl, ap, sym, _∙_, subst, _≢_, List, [], _∷_, ℕ}
+use Rattle.facts.specs.{Code, Success, numberOf}
+use Rattle.facts.proofs.{code-injective}
+use Rattle.history.specs.{makeFresh, Ours, FromFresh, FreshCame, CallCame, CardInCame, CardOutCame, BootCame, SharersCame}
+use Rattle.caller.specs.declared.VisitAnswers.{VisitAnswers}
 use Rattle.caller.specs.declared.Ending.the-variants.{Refused}
-use Rattle.caller.specs.Visits.{Plan, Told, log, Visited, EndingIs}
+use Rattle.caller.specs.{Plan, Told, log, Visited, EndingIs}
 use Rattle.caller.proofs.Relied.{relied}
 
 -- cs_fresh is refused: no byte changes
@@ -21,7 +15,7 @@ refused g b b′ r (k, came) d =
     (k, came .0, other, relied .of-call (makeFresh (g .sockets) k) b b′ (came .1) .keeps other, refl)
 
 -- the others are called
-pub visited : (g : Plan) (old b₀ b₁ b₂ b₃ b₄ q : List ℕ) (m : ℕ) (r : Answers) → m ≡ numberOf Success → FreshCame (g .sockets) old b₀ m
+pub visited : (g : Plan) (old b₀ b₁ b₂ b₃ b₄ q : List ℕ) (m : ℕ) (r : VisitAnswers) → m ≡ numberOf Success → FreshCame (g .sockets) old b₀ m
     → BootCame (g .records) b₀ b₁ (r .booted) → CardInCame (g .socket) b₁ b₂ (r .inserted)
     → CallCame (g .service) (g .handle) (g .packet) q b₂ b₃ (r .called) → SharersCame (g .level) b₃ (r .shared)
     → CardOutCame (g .socket) b₃ b₄ (r .removed) → Visited g q r b₄

@@ -1,21 +1,14 @@
 -- What a caller may rely on leaves nothing out: demand 3 and the laws over all entries come back from it, and so does all that a visit promises. Nothing
 -- else is proved over these statements: a part that went would be missed here. Assumes nothing.
-use mathlib.Core.Path.{_≡_, refl, sym, _∙_}
-use mathlib.Core.Logic.{_≢_}
-use mathlib.Core.List.{List, [], _∷_, _++_, map}
-use Prim.Native.Nat.{ℕ}
-use Rattle.facts.specs.declared.Code.the-variants.{Success}
-use Rattle.facts.specs.Codes.{numberOf}
-use Rattle.facts.specs.Sets.{_∈_}
-use Rattle.facts.proofs.Codes.{code-injective}
-use Rattle.history.specs.Events.{Event, codeIn, numberIn, Ours, FromFresh}
-use Rattle.history.specs.Demand.{Demand3}
-use Rattle.history.specs.Laws.{EntryLaws, fifteen}
-use Rattle.history.proofs.Demand.{entry-laws}
-use Rattle.caller.specs.declared.Answers.{Answers}
+use Rattle.facts.proofs.Words.{_≡_, refl, sym, _∙_, _≢_, List, [], _∷_, _++_, map, ℕ}
+use Rattle.facts.specs.{Success, numberOf, _∈_}
+use Rattle.facts.proofs.{code-injective}
+use Rattle.history.specs.{Event, codeIn, numberIn, Ours, FromFresh, Demand3, EntryLaws, fifteen}
+use Rattle.history.proofs.{entry-laws}
+use Rattle.caller.specs.declared.VisitAnswers.{VisitAnswers}
 use Rattle.caller.specs.declared.Ending.the-variants.{Refused, Done}
-use Rattle.caller.specs.Relied.{Relied, AfterRun}
-use Rattle.caller.specs.Visits.{Plan, log, EndingIs}
+use Rattle.caller.specs.Relied.{Relied}
+use Rattle.caller.specs.{AfterRun, Plan, log, EndingIs}
 
 module _ (r : Relied) where
   pub demand-back : Demand3 Ours
@@ -73,7 +66,7 @@ module _ (r : Relied) where
   one-table n es b b′ from from′ = r .after-run n es b from .alone b′ (r .after-run n es b′ from′ .exact)
 
 -- a visit that was done is a run, and the numbers answered are those of its events
-pub logged : (g : Plan) (b b′ q : List ℕ) (r : Answers) (x : EndingIs g b b′ q (Done r))
+pub logged : (g : Plan) (b b′ q : List ℕ) (r : VisitAnswers) (x : EndingIs g b b′ q (Done r))
     → FromFresh Ours (g .sockets) (log g q (x .told)) b′ × AfterRun (g .sockets) (log g q (x .told)) b′
     × (map numberIn (log g q (x .told)) ≡ r .booted ∷ r .inserted ∷ r .called ∷ r .shared ∷ r .removed ∷ [])
 logged g b b′ q r x = (x .run, x .after, x .numbers)

@@ -7,7 +7,7 @@ use Rattle.facts.specs.declared.Code.{Code}
 use Rattle.facts.specs.declared.Code.the-variants.{Success}
 use Rattle.history.specs.Events.{Event, numberIn, makeFresh, call, cardIn, cardOut, boot, sharers, Ours, FromFresh}
 use Rattle.caller.specs.Relied.{AfterRun}
-use Rattle.caller.specs.declared.Answers.{Answers}
+use Rattle.caller.specs.declared.VisitAnswers.{VisitAnswers}
 use Rattle.caller.specs.declared.Ending.{Ending}
 use Rattle.caller.specs.declared.Ending.the-variants.{Refused, Done}
 
@@ -48,7 +48,7 @@ log g q t =
 
 -- what came about is a run from a fresh table to the bytes b, the numbers that C was answered are those of its events, and all that a caller may rely
 -- on after a run holds
-pub record Visited (g : Plan) (q : List ℕ) (r : Answers) (b : List ℕ) : Type 0 where
+pub record Visited (g : Plan) (q : List ℕ) (r : VisitAnswers) (b : List ℕ) : Type 0 where
   pub told : Told
   pub run : FromFresh Ours (g .sockets) (log g q told) b
   pub numbers : map numberIn (log g q told) ≡ r .booted ∷ r .inserted ∷ r .called ∷ r .shared ∷ r .removed ∷ []

@@ -43,7 +43,7 @@ fn card_out(table: &mut [u8], socket: u32) -> u32
 const SUCCESS: u32 = 0;
 
 // What the entries answered.
-pub struct Answers {
+pub struct VisitAnswers {
     pub booted: u64,
     pub inserted: u32,
     pub called: u32,
@@ -54,7 +54,7 @@ pub struct Answers {
 // The code of a cs_fresh that was refused; or all answers.
 pub enum Ending {
     Refused(u32),
-    Done(Answers),
+    Done(VisitAnswers),
 }
 
 // A visit at the console: a table is made, and each of the other entries is called once.
@@ -79,7 +79,7 @@ pub fn visit(
     let called = call(table, service, handle, packet);
     let shared = sharers(table, level);
     let removed = card_out(table, socket);
-    Ending::Done(Answers {
+    Ending::Done(VisitAnswers {
         booted,
         inserted,
         called,

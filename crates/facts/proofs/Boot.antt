@@ -1,19 +1,7 @@
 -- The records that the bytes of a boot list are, and the code at their end. Assumes nothing.
-use mathlib.Core.Path.{_≡_, refl, ap}
-use mathlib.Core.Logic.{_≢_}
-use mathlib.Core.List.{List, [], _∷_}
-use mathlib.Core.Bool.{Bool, cond, true, false}
-use Prim.Native.Nat.{ℕ, zero, suc, _*_, _/_, _%_, _≤_, _<_}
-use native.Mathlib.Nat.{not-suc-le-zero}
-use native.Mathlib.Omega.{arith}
-use lib.Dec.{eqb}
-use lib.ListN.{length, take, drop, length-drop}
-use borrow.Author.Tests.{eq-eqb, ne-eqb, eqb-true}
-use Rattle.facts.specs.declared.Code.{Code}
-use Rattle.facts.specs.declared.Code.the-variants.{Success, BadArgLength}
-use Rattle.facts.specs.declared.Record.{Record}
-use Rattle.facts.specs.Codes.{numberOf}
-use Rattle.facts.specs.Boot.{recordSize, recordOf, recordsIn, recordsOf, endOf}
+use Rattle.facts.proofs.Words.{_≡_, refl, ap, _≢_, List, [], _∷_, Bool, cond, true, false, ℕ, zero, suc, _*_, _/_, _%_, _≤_, _<_}
+use Rattle.facts.proofs.Words.{not-suc-le-zero, arith, eqb, length, take, drop, length-drop, eq-eqb, ne-eqb, eqb-true}
+use Rattle.facts.specs.{Code, Success, BadArgLength, Record, numberOf, recordSize, recordOf, recordsIn, recordsOf, endOf}
 
 pub records-length : (n : ℕ) (b : List ℕ) → length (recordsIn n b) ≡ n
 records-length zero b = refl
@@ -62,8 +50,8 @@ module _ (b : List ℕ) where
       same = omega (arith, length-drop recordSize b)
 
   pub whole-end : endOf b ≡ Success → length b % recordSize ≡ 0
-  whole-end = go (eqb (length b % recordSize) 0) (eqb-true (length b % recordSize) 0)
+  whole-end = marked-or-not (eqb (length b % recordSize) 0) (eqb-true (length b % recordSize) 0)
     where
-      go : (none : Bool) → (none ≡ true → length b % recordSize ≡ 0) → codeAfter none ≡ Success → length b % recordSize ≡ 0
-      go true is e = is refl
-      go false is e = absurd (omega (arith, ap numberOf e))
+      marked-or-not : (none : Bool) → (none ≡ true → length b % recordSize ≡ 0) → codeAfter none ≡ Success → length b % recordSize ≡ 0
+      marked-or-not true is e = is refl
+      marked-or-not false is e = absurd (omega (arith, ap numberOf e))

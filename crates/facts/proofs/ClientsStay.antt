@@ -1,26 +1,12 @@
 -- RegisterClient, DeregisterClient, socket masks, card in and card out leave a well-formed set well formed. Assumes nothing.
-use mathlib.Core.Path.{_≡_, refl, sym, _∙_, subst}
-use mathlib.Core.Logic.{_⊎_, inl, inr, _≢_}
-use mathlib.Core.List.{List, [], _∷_}
-use mathlib.Core.Bool.{Bool, cond, true, false}
-use mathlib.Core.Option.{Option, none, some, Option·some-injective, Option·none-ne-some}
-use Prim.Native.Nat.{ℕ, _<_}
-use native.Mathlib.Decide.{decLt}
-use native.Mathlib.Omega.{arith}
-use lib.Dec.{eqb}
-use lib.ListN.{length, length-append}
-use Rattle.facts.specs.Table
-use Rattle.facts.specs.Table.{Facts, Client}
-use Rattle.facts.specs.Sets.{_∈_}
-use Rattle.facts.specs.Packets.{word}
-use Rattle.facts.specs.WellFormed.{WellFormed, ClientFits, Live, EventsAllowed}
-use Rattle.facts.specs.Checks.{Check, Outcome, Passed}
-use Rattle.facts.specs.Clients.{Register, Deregister, registerChecks, registered, newClient, withClients, withoutClient, HoldsIo, HoldsIrq}
-use Rattle.facts.specs.Clients.{HoldsMask}
-use Rattle.facts.specs.Sockets.{CardTo, CardOutcome, RequestSocketMask, ReleaseSocketMask, socketOf, requestChecks}
-use Rattle.facts.specs.Sockets.{ownMaskChecks, requestMaskLength, masking, withMask}
-use Rattle.facts.proofs.Sets.{in-left, in-either, in-map, map-in, length-map, without-in, in-without, without-fewer, put-all}
-use Rattle.facts.proofs.Sets.{rising-more, rising-without, rising-map}
+use Rattle.facts.proofs.Words.{_≡_, refl, sym, _∙_, subst, _⊎_, inl, inr, _≢_, List, [], _∷_, Bool, cond, true, false, Option, none, some}
+use Rattle.facts.proofs.Words.{Option·some-injective, Option·none-ne-some, ℕ, _<_, decLt, arith, eqb, length, length-append, WellFormed}
+use Rattle.facts.specs.{Facts, Client, _∈_, word, ClientFits, Live, EventsAllowed, Check, Outcome, Passed, Register, Deregister}
+use Rattle.facts.specs.{registerChecks, registered, newClient, withClients, withoutClient, HoldsIo, HoldsIrq, HoldsMask, CardTo, CardOutcome}
+use Rattle.facts.specs.{RequestSocketMask, ReleaseSocketMask, socketOf, requestChecks, ownMaskChecks, requestMaskLength, masking, withMask}
+use Rattle.facts.specs.{allEvents, mostClients, mostIssued}
+use Rattle.facts.proofs.Sets.{in-left, in-either, in-map, map-in, length-map, without-in, in-without, without-fewer, put-all, rising-more}
+use Rattle.facts.proofs.Sets.{rising-without, rising-map}
 use Rattle.facts.proofs.Told.{told, live-told, attributes-told}
 use Rattle.facts.proofs.Formed.{live-in, client-fits, card-formed, clients-formed}
 
@@ -52,11 +38,11 @@ module _ (F : Facts) (h : ℕ) (p : List ℕ) (o : Outcome) (w : WellFormed F) w
       passed : Passed (registerChecks F p)
       passed = r .0
 
-      room : length (F .clients) < Table.mostClients
-      room = told (decLt (length (F .clients)) Table.mostClients) (λ d. passed .1 .1 .1 .0 (inl (omega arith)))
+      room : length (F .clients) < mostClients
+      room = told (decLt (length (F .clients)) mostClients) (λ d. passed .1 .1 .1 .0 (inl (omega arith)))
 
-      left : F .issued < Table.mostIssued
-      left = told (decLt (F .issued) Table.mostIssued) (λ d. passed .1 .1 .1 .0 (inr (omega arith)))
+      left : F .issued < mostIssued
+      left = told (decLt (F .issued) mostIssued) (λ d. passed .1 .1 .1 .0 (inr (omega arith)))
 
       G : Facts
       G = registered F (word p 0) (word p 2)
@@ -74,7 +60,7 @@ module _ (F : Facts) (h : ℕ) (p : List ℕ) (o : Outcome) (w : WellFormed F) w
           (record {
             issued = omega arith;
             attributes = told (attributes-told (word p 0)) (passed .1 .0);
-            events = told (decLt (word p 2) Table.allEvents) (passed .1 .1 .0);
+            events = told (decLt (word p 2) allEvents) (passed .1 .1 .0);
             mask = λ s m q. absurd (Option·none-ne-some m q);
           })
       fits c (inr (inr m)) = absurd m
@@ -105,11 +91,11 @@ module _ (F : Facts) (h s : ℕ) (m : Option ℕ) (w : WellFormed F) where
 
   -- its cases
   by-handle : (P : Client → Type 0) (c : Client) → P (masking s m c) → P c → P (masked c)
-  by-handle P c there other = go (eqb (c .handle) h)
+  by-handle P c there other = marked-or-not (eqb (c .handle) h)
     where
-      go : (t : Bool) → P (cond t (masking s m c) c)
-      go true = there
-      go false = other
+      marked-or-not : (t : Bool) → P (cond t (masking s m c) c)
+      marked-or-not true = there
+      marked-or-not false = other
 
   pub mask-formed : ((e : ℕ) → m ≡ some e → (s < F .sockets) × EventsAllowed e) → WellFormed (withClients F (withMask h s m (F .clients)))
   mask-formed good =
@@ -154,7 +140,7 @@ module _ (F : Facts) (h : ℕ) (p : List ℕ) (o : Outcome) (w : WellFormed F) w
       )))
     where
       allowed : EventsAllowed (word p 2)
-      allowed = told (decLt (word p 2) Table.allEvents) (request-passed requestMaskLength F h p (ownMaskChecks F h p) (r .0) .0)
+      allowed = told (decLt (word p 2) allEvents) (request-passed requestMaskLength F h p (ownMaskChecks F h p) (r .0) .0)
 
   pub release-mask-stays : ReleaseSocketMask F h p o → WellFormed (o .facts)
   release-mask-stays (inl r) = subst WellFormed (sym (r .1 .facts)) w

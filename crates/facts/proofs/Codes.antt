@@ -1,53 +1,41 @@
--- A code's number is one byte's, and no other code's. Assumes nothing.
-use mathlib.Core.Path.{_≡_, refl, ap, sym, _∙_}
-use mathlib.Core.List.{List, [], _∷_}
-use Prim.Native.Nat.{ℕ, _<_}
-use native.Mathlib.Omega.{arith}
-use Rattle.facts.specs.declared.Code.{Code}
-use Rattle.facts.specs.declared.Code.the-variants.{Success, BadAttribute, BadBase, BadIrq, BadSize, BadSocket, NoCard, UnsupportedService}
-use Rattle.facts.specs.declared.Code.the-variants.{GeneralFailure, BadArgLength, BadArgs, InUse, NoMoreItems, OutOfResource, BadHandle}
-use Rattle.facts.specs.Codes.{numberOf}
+-- A code's number is one byte's, and no other code's; and the number that packs a code and another number. Assumes nothing.
+use Rattle.facts.proofs.Words.{_≡_, refl, ap, sym, _∙_, List, [], _∷_, ℕ, _*_, _<_, add-zero, zero-add, arith}
+use Rattle.facts.specs.{Code, Success, BadAttribute, BadBase, BadIrq, BadSize, BadSocket, NoCard, UnsupportedService, GeneralFailure}
+use Rattle.facts.specs.{BadArgLength, BadArgs, InUse, NoMoreItems, OutOfResource, BadHandle, numberOf, packed}
 use Rattle.facts.proofs.Sets.{found}
 
-pub code-byte : (k : Code) → numberOf k < 256
-code-byte Success = omega arith
-code-byte BadAttribute = omega arith
-code-byte BadBase = omega arith
-code-byte BadIrq = omega arith
-code-byte BadSize = omega arith
-code-byte BadSocket = omega arith
-code-byte NoCard = omega arith
-code-byte UnsupportedService = omega arith
-code-byte GeneralFailure = omega arith
-code-byte BadArgLength = omega arith
-code-byte BadArgs = omega arith
-code-byte InUse = omega arith
-code-byte NoMoreItems = omega arith
-code-byte OutOfResource = omega arith
-code-byte BadHandle = omega arith
-
--- a code is found again by its number among the fifteen
+-- the fifteen; a code is found again among them by its number, which is a byte's
 abbrev codes : List Code
 codes =
     Success ∷ BadAttribute ∷ BadBase ∷ BadIrq ∷ BadSize ∷ BadSocket ∷ NoCard ∷ UnsupportedService
     ∷ GeneralFailure ∷ BadArgLength ∷ BadArgs ∷ InUse ∷ NoMoreItems ∷ OutOfResource ∷ BadHandle ∷ []
 
-found-again : (k : Code) → found numberOf Success (numberOf k) codes ≡ k
-found-again Success = refl
-found-again BadAttribute = refl
-found-again BadBase = refl
-found-again BadIrq = refl
-found-again BadSize = refl
-found-again BadSocket = refl
-found-again NoCard = refl
-found-again UnsupportedService = refl
-found-again GeneralFailure = refl
-found-again BadArgLength = refl
-found-again BadArgs = refl
-found-again InUse = refl
-found-again NoMoreItems = refl
-found-again OutOfResource = refl
-found-again BadHandle = refl
+code-told : (k : Code) → (numberOf k < 256) × (found numberOf Success (numberOf k) codes ≡ k)
+code-told Success = (omega arith, refl)
+code-told BadAttribute = (omega arith, refl)
+code-told BadBase = (omega arith, refl)
+code-told BadIrq = (omega arith, refl)
+code-told BadSize = (omega arith, refl)
+code-told BadSocket = (omega arith, refl)
+code-told NoCard = (omega arith, refl)
+code-told UnsupportedService = (omega arith, refl)
+code-told GeneralFailure = (omega arith, refl)
+code-told BadArgLength = (omega arith, refl)
+code-told BadArgs = (omega arith, refl)
+code-told InUse = (omega arith, refl)
+code-told NoMoreItems = (omega arith, refl)
+code-told OutOfResource = (omega arith, refl)
+code-told BadHandle = (omega arith, refl)
+
+pub code-byte : (k : Code) → numberOf k < 256
+code-byte k = code-told k .0
 
 pub code-injective : (k k′ : Code) → numberOf k ≡ numberOf k′ → k ≡ k′
-code-injective k k′ e = sym (found-again k) ∙ ap (λ (n : ℕ). found numberOf Success n codes) e ∙ found-again k′
+code-injective k k′ e = sym (code-told k .1) ∙ ap (λ (n : ℕ). found numberOf Success n codes) e ∙ code-told k′ .1
+
+-- SUCCESS with a number, and a refusal's code
+pub packs-success : (n : ℕ) → 65536 * n ≡ packed Success n
+packs-success n = sym (zero-add (65536 * n))
+
+pub packs-code : (k : Code) (n : ℕ) → n ≡ numberOf k → n ≡ packed k 0
+packs-code k n e = e ∙ sym (add-zero (numberOf k))

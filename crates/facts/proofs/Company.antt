@@ -1,11 +1,6 @@
 -- Meeting and going together don't depend on the order of the two. Assumes nothing.
-use mathlib.Core.Path.{_≡_, sym, _∙_, subst}
-use Prim.Native.Nat.{ℕ, _%_, _^_}
-use native.Mathlib.Nat.{min-comm}
-use Rattle.facts.specs.declared.Manner.{Manner}
-use Rattle.facts.specs.Table.{Ports}
-use Rattle.facts.specs.Ports.{Meet}
-use Rattle.facts.specs.Levels.{Together}
+use Rattle.facts.proofs.Words.{_≡_, sym, _∙_, subst, ℕ, _%_, _^_, min-comm, Ports}
+use Rattle.facts.specs.{Manner, Meet, Together}
 
 pub meet-symmetric : (a b : Ports) → Meet a b → Meet b a
 meet-symmetric a b m =

@@ -1,17 +1,8 @@
 -- An I/O or IRQ request whose earlier checks pass is refused exactly when no resource fits. Assumes nothing.
-use mathlib.Core.Path.{_≡_, ap, sym, _∙_}
-use mathlib.Core.Logic.{_⊎_, inl, inr, ⊎-elim, _≢_, _↔_}
-use mathlib.Core.List.{List, [], _∷_, _++_}
-use Prim.Native.Nat.{ℕ}
-use native.Mathlib.Omega.{arith}
-use Rattle.facts.specs.declared.Code.{Code}
-use Rattle.facts.specs.declared.Code.the-variants.{Success, BadBase, BadIrq, InUse}
-use Rattle.facts.specs.Codes.{numberOf}
-use Rattle.facts.specs.Table.{Facts}
-use Rattle.facts.specs.Checks.{Check, _gives_, Outcome, Passed, Decided}
-use Rattle.facts.specs.Irq.{RequestIrq, NoLevelFits, irqAheadChecks, levelChecks}
-use Rattle.facts.specs.Io.{RequestIo, NotAllManaged, InTheWay, NoCandidate, baseAsked, ioAheadChecks, baseChecks}
-use Rattle.facts.specs.Laws.{ExactlyWhen}
+use Rattle.facts.proofs.Words.{_≡_, ap, sym, _∙_, _⊎_, inl, inr, ⊎-elim, _≢_, _↔_, List, [], _∷_, _++_, ℕ, arith}
+use Rattle.facts.specs.{Code, Success, BadBase, BadIrq, InUse, numberOf, Facts, Check, _gives_, Outcome, Passed, Decided, RequestIrq}
+use Rattle.facts.specs.{NoLevelFits, irqAheadChecks, levelChecks, RequestIo, NotAllManaged, InTheWay, NoCandidate, baseAsked, ioAheadChecks}
+use Rattle.facts.specs.{baseChecks, ExactlyWhen}
 use Rattle.facts.proofs.Joining.{taken-fits}
 
 -- where the checks ahead pass, the rest decide

@@ -1,25 +1,13 @@
 -- A well-formed set with other cards, clients, levels, ranges or grants is well formed, if what is new fits. Assumes nothing.
-use mathlib.Core.Path.{_≡_, refl, ap, sym, _∙_, subst}
-use mathlib.Core.Logic.{_≢_}
-use mathlib.Core.List.{List}
-use mathlib.Core.Bool.{Bool, true, false≢true}
-use mathlib.Core.Option.{Option, some, Option·none-ne-some}
-use Prim.Native.Nat.{ℕ, _+_, _≤_, _<_}
-use native.Mathlib.Omega.{arith}
-use lib.ListN.{length}
-use Rattle.facts.specs.Table
-use Rattle.facts.specs.Table.{Facts, Client, Level, Range, Ports, IoGrant, IrqGrant, fresh}
-use Rattle.facts.specs.Sets.{_∈_}
-use Rattle.facts.specs.Ports.{Within, Managed, AllManaged, Answers, AnswersManaged}
-use Rattle.facts.specs.WellFormed.{WellFormed, ClientFits, IoFits, IrqFits, IoCompany, IrqCompany, Live, Rising, Apart}
-use Rattle.facts.specs.Sockets.{withCard}
-use Rattle.facts.specs.Resources.{withLevel, withRanges}
-use Rattle.facts.specs.Irq.{withIrq}
-use Rattle.facts.specs.Io.{withIo}
+use Rattle.facts.proofs.Words.{_≡_, refl, ap, sym, _∙_, subst, _≢_, List, Bool, true, false≢true, Option, some, Option·none-ne-some, ℕ, _+_}
+use Rattle.facts.proofs.Words.{_≤_, _<_, arith, length, Ports, WellFormed}
+use Rattle.facts.specs.{Facts, Client, Level, Range, IoGrant, IrqGrant, fresh, _∈_, Within, Managed, AllManaged, Answers, AnswersManaged}
+use Rattle.facts.specs.{ClientFits, IoFits, IrqFits, IoCompany, IrqCompany, Live, Rising, Apart, withCard, withLevel, withRanges, withIrq}
+use Rattle.facts.specs.{withIo, allLevels, allPorts, mostClients, mostIssued, mostRanges, mostSockets}
 use Rattle.facts.proofs.Company.{meet-symmetric, together-symmetric}
 use Rattle.facts.proofs.Sets.{put-all, put-pairs}
 
-pub fresh-formed : (n : ℕ) → 1 ≤ n → n ≤ Table.mostSockets → WellFormed (fresh n)
+pub fresh-formed : (n : ℕ) → 1 ≤ n → n ≤ mostSockets → WellFormed (fresh n)
 fresh-formed n least most =
     record {
       sockets-least = least;
@@ -83,11 +71,11 @@ module _ (F G : Facts) where
         }
 
 -- no managed port is past FFFF
-pub managed-below : (F : Facts) → WellFormed F → (p : ℕ) → Managed F p → p < Table.allPorts
+pub managed-below : (F : Facts) → WellFormed F → (p : ℕ) → Managed F p → p < allPorts
 managed-below F w p m = omega (arith, m .has .below, w .ranges (m .range) (m .listed))
 
 -- a card answers at its own ports
-pub own-answers : (a : Ports) (p : ℕ) → p < Table.allPorts → Within p (a .base) (a .count) → Answers a p
+pub own-answers : (a : Ports) (p : ℕ) → p < allPorts → Within p (a .base) (a .count) → Answers a p
 own-answers a p l h = record { below = l; own = p; own-in = h; equal = refl }
 
 -- the company that two grants keep doesn't depend on their order
@@ -141,7 +129,7 @@ module _ (F : Facts) (w : WellFormed F) where
 
   -- other clients: each fits, and those of the grants are among them
   module _ (n : ℕ) (cs : List Client) where
-    pub clients-formed : n ≤ Table.mostIssued → length cs ≤ Table.mostClients → Rising 0 cs → ((c : Client) → c ∈ cs → ClientFits (listing F n cs) c)
+    pub clients-formed : n ≤ mostIssued → length cs ≤ mostClients → Rising 0 cs → ((c : Client) → c ∈ cs → ClientFits (listing F n cs) c)
         → ((s : ℕ) (g : IoGrant) → F .io s ≡ some g → Live (listing F n cs) (g .client))
         → ((s : ℕ) (g : IrqGrant) → F .irq s ≡ some g → Live (listing F n cs) (g .client))
         → WellFormed (listing F n cs)
@@ -166,7 +154,7 @@ module _ (F : Facts) (w : WellFormed F) where
         }
 
   -- another level: below the last, reserved only if it is managed, and managed if a grant holds it
-  pub level-formed : (l : ℕ) (v : Level) → l < Table.allLevels → (v .reserved ≡ true → v .managed ≡ true)
+  pub level-formed : (l : ℕ) (v : Level) → l < allLevels → (v .reserved ≡ true → v .managed ≡ true)
       → ((s : ℕ) (g : IrqGrant) → F .irq s ≡ some g → g .level ≡ l → v .managed ≡ true)
       → WellFormed (withLevel F l v)
   level-formed l v below reserved held =
@@ -178,7 +166,7 @@ module _ (F : Facts) (w : WellFormed F) where
         clients-most = w .clients-most;
         handles = w .handles;
         clients = still-clients (withLevel F l v) refl refl (omega arith);
-        levels = put-all (λ (k : ℕ) (x : Level). x .managed ≡ true → k < Table.allLevels) (F .level) l v (λ e. below) (λ k d. w .levels k);
+        levels = put-all (λ (k : ℕ) (x : Level). x .managed ≡ true → k < allLevels) (F .level) l v (λ e. below) (λ k d. w .levels k);
         reserved = put-all (λ (k : ℕ) (x : Level). x .reserved ≡ true → x .managed ≡ true) (F .level) l v reserved (λ k d. w .reserved k);
         ranges-most = w .ranges-most;
         apart = w .apart;
@@ -196,7 +184,7 @@ module _ (F : Facts) (w : WellFormed F) where
           (λ k d q. subst (λ (i : ℕ). F .level i .managed ≡ true) q m) (g .level) refl
 
   -- other ranges: in order, none past FFFF, and wherever a card answers that is granted ports, the port is still managed
-  pub ranges-formed : (rs : List Range) → length rs ≤ Table.mostRanges → Apart 0 rs → ((r : Range) → r ∈ rs → r .base + r .count ≤ Table.allPorts)
+  pub ranges-formed : (rs : List Range) → length rs ≤ mostRanges → Apart 0 rs → ((r : Range) → r ∈ rs → r .base + r .count ≤ allPorts)
       → ((s : ℕ) (g : IoGrant) → F .io s ≡ some g → (p : ℕ) → Answers (g .ports) p → Managed F p → Managed (withRanges F rs) p)
       → WellFormed (withRanges F rs)
   ranges-formed rs most apart within stays =

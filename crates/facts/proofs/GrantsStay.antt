@@ -1,23 +1,10 @@
 -- RequestIRQ, ReleaseIRQ, RequestIO and ReleaseIO leave a well-formed set well formed. Assumes nothing.
-use mathlib.Core.Path.{_≡_, sym, subst}
-use mathlib.Core.Logic.{inl, inr, ⊎-elim}
-use mathlib.Core.List.{List}
-use mathlib.Core.Option.{none, some, Option·some-injective, Option·none-ne-some}
-use Prim.Native.Nat.{ℕ, _^_, _≤_}
-use native.Mathlib.Decide.{ℕ-discrete, decLe}
-use native.Mathlib.Omega.{arith}
-use borrow.Author.Tests.{eq-eqb}
-use Rattle.facts.specs.Table
-use Rattle.facts.specs.Table.{Facts, IoGrant, IrqGrant}
-use Rattle.facts.specs.Packets.{bit, Bytes}
-use Rattle.facts.specs.Ports.{Meet, AllManaged, AnswersManaged}
-use Rattle.facts.specs.WellFormed.{WellFormed, IoFits, IrqFits, IoCompany, IrqCompany}
-use Rattle.facts.specs.Levels.{Together, Holds}
-use Rattle.facts.specs.Checks.{Outcome, Passed}
-use Rattle.facts.specs.Sockets.{socketOf, requestChecks}
-use Rattle.facts.specs.Irq.{RequestIrq, ReleaseIrq, GrantsIrq, ownIrqChecks, levelChecks, irqGrant, mannerAsked, requestIrqLength}
-use Rattle.facts.specs.Io.{RequestIo, ReleaseIo, GrantsIo, BaseTaken, ownIoChecks, baseChecks, ioGrant, portsAt, requestIoLength}
-use Rattle.facts.specs.Io.{countAsked, linesAsked, ioAttributes}
+use Rattle.facts.proofs.Words.{_≡_, sym, subst, inl, inr, ⊎-elim, List, none, some, Option·some-injective, Option·none-ne-some, ℕ, _^_, _≤_}
+use Rattle.facts.proofs.Words.{ℕ-discrete, decLe, arith, eq-eqb, WellFormed}
+use Rattle.facts.specs.{Facts, IoGrant, IrqGrant, bit, Bytes, Meet, AllManaged, AnswersManaged, IoFits, IrqFits, IoCompany, IrqCompany}
+use Rattle.facts.specs.{Together, Holds, Outcome, Passed, socketOf, requestChecks, RequestIrq, ReleaseIrq, GrantsIrq, ownIrqChecks}
+use Rattle.facts.specs.{levelChecks, irqGrant, mannerAsked, requestIrqLength, RequestIo, ReleaseIo, GrantsIo, BaseTaken, ownIoChecks}
+use Rattle.facts.specs.{baseChecks, ioGrant, portsAt, requestIoLength, countAsked, linesAsked, ioAttributes, mostLines}
 use Rattle.facts.proofs.Company.{together-symmetric}
 use Rattle.facts.proofs.Joining.{joined-together}
 use Rattle.facts.proofs.Told.{told, both-told, true-told, managed-told}
@@ -110,7 +97,7 @@ module _ (F : Facts) (h : ℕ) (p : List ℕ) (o : Outcome) (w : WellFormed F) w
             socket = socket-passed requestIoLength F h p (ownIoChecks F p (baseChecks F p)) passed;
             base = positive (granted .taken);
             line = told (decLe 1 (linesAsked p)) (λ d. own .0 (inr (inr (inl (omega arith)))));
-            lines = told (decLe (linesAsked p) Table.mostLines) (λ d. own .0 (inr (inr (inr (omega arith)))));
+            lines = told (decLe (linesAsked p) mostLines) (λ d. own .0 (inr (inr (inr (omega arith)))));
             port = told (decLe 1 (countAsked p)) (λ d. own .1 .0 (inl (omega arith)));
             asked = omega (arith, bytes 4);
             decoded = told (decLe (countAsked p) (2 ^ linesAsked p)) (λ d. own .1 .0 (inr (inl (omega arith))));

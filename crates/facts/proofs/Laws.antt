@@ -1,12 +1,6 @@
 -- The laws that specs/Laws states hold. Assumes nothing.
-use mathlib.Core.Logic.{inl, inr}
-use Prim.Native.Nat.{ℕ, _≤_}
-use native.Mathlib.Omega.{arith}
-use Rattle.facts.specs.Table
-use Rattle.facts.specs.Table.{Facts}
-use Rattle.facts.specs.WellFormed.{WellFormed}
-use Rattle.facts.specs.Irq.{Count, Sharers}
-use Rattle.facts.specs.Laws.{ServiceLaws, HostLaws, BytesLaws}
+use Rattle.facts.proofs.Words.{inl, inr, ℕ, _≤_, arith, WellFormed}
+use Rattle.facts.specs.{Facts, Count, Sharers, ServiceLaws, HostLaws, BytesLaws, mostSockets}
 use Rattle.facts.proofs.Unique.{call-unique, card-unique, sharers-unique, boot-unique}
 use Rattle.facts.proofs.Refusals.{call-refusal-keeps, card-refusal-keeps, sharers-refusal-zero, boot-leaves, boot-success, boot-within}
 use Rattle.facts.proofs.Sharing.{sharers-most}
@@ -26,7 +20,7 @@ service-laws =
       stays-formed = call-stays;
     }
 
-count-most : (F : Facts) (l : ℕ) (o : Count) → WellFormed F → Sharers F l o → o .count ≤ Table.mostSockets
+count-most : (F : Facts) (l : ℕ) (o : Count) → WellFormed F → Sharers F l o → o .count ≤ mostSockets
 count-most F l o w (inl r) = omega (arith, r .1)
 count-most F l o w (inr r) = omega (arith, r .1 .1, sharers-most F l w)
 

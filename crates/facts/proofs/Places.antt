@@ -1,23 +1,9 @@
 -- How far a boot list comes: each record that is added is a level or a range more, and a table has no more than so many. Assumes nothing.
-use mathlib.Core.Path.{_≡_, refl, ap, _∙_}
-use mathlib.Core.Logic.{_≢_}
-use mathlib.Core.List.{List, [], _∷_}
-use mathlib.Core.Bool.{Bool, cond, true, false}
-use Prim.Native.Nat.{ℕ, zero, suc, _+_, _≤_, _<_}
-use native.Mathlib.Nat.{not-suc-le-zero}
-use native.Mathlib.Decide.{decLt, ℕ-discrete}
-use native.Mathlib.Omega.{arith}
-use lib.Dec.{eqb}
-use lib.ListN.{length}
-use Rattle.facts.specs.declared.Code.{Code}
-use Rattle.facts.specs.declared.Record.{Record}
-use Rattle.facts.specs.Table
-use Rattle.facts.specs.Table.{Facts, Level}
-use Rattle.facts.specs.Sets.{put}
-use Rattle.facts.specs.WellFormed.{WellFormed}
-use Rattle.facts.specs.Checks.{Passed}
-use Rattle.facts.specs.Resources.{addLevelChecks, addRangeChecks, levelAdded, rangeAdded, ioRange, reserveBit}
-use Rattle.facts.specs.Boot.{Boot, Booted, ended, refused, added, recordAdded, recordChecks}
+use Rattle.facts.proofs.Words.{_≡_, refl, ap, _∙_, _≢_, List, [], _∷_, Bool, cond, true, false, ℕ, zero, suc, _+_, _≤_, _<_, not-suc-le-zero}
+use Rattle.facts.proofs.Words.{decLt, ℕ-discrete, arith, eqb, length, WellFormed}
+use Rattle.facts.specs.{Code, Record, Facts, Level, put, Passed, addLevelChecks, addRangeChecks, levelAdded, rangeAdded, ioRange, reserveBit}
+use Rattle.facts.specs.{Booted, ended, refused, added, recordAdded, recordChecks, allLevels, mostLines, mostRanges}
+use Rattle.facts.specs.Boot.{Boot}
 use Rattle.facts.proofs.Sets.{put-same, put-other}
 use Rattle.facts.proofs.Told.{told}
 use Rattle.facts.proofs.ResourcesStay.{inserted-more, boot-stays}
@@ -42,11 +28,11 @@ levels-most (suc n) level = omega (arith, levels-most n level, one-most (level n
 
 module _ (level : ℕ → Level) (l : ℕ) (v : Level) (now : v .managed ≡ true) (free : level l .managed ≢ true) where
   unmanaged : one (level l .managed) ≡ 0
-  unmanaged = go (level l .managed) free
+  unmanaged = marked-or-not (level l .managed) free
     where
-      go : (t : Bool) → t ≢ true → one t ≡ 0
-      go true d = absurd (d refl)
-      go false d = refl
+      marked-or-not : (t : Bool) → t ≢ true → one t ≡ 0
+      marked-or-not true d = absurd (d refl)
+      marked-or-not false d = refl
 
   levels-same : (n : ℕ) → n ≤ l → levelsBelow n (put level l v) ≡ levelsBelow n level
   unfolding levelsBelow
@@ -57,38 +43,38 @@ module _ (level : ℕ → Level) (l : ℕ) (v : Level) (now : v .managed ≡ tru
   levels-more : (n : ℕ) → l < n → levelsBelow n (put level l v) ≡ levelsBelow n level + 1
   unfolding levelsBelow
   levels-more zero h = absurd (not-suc-le-zero h)
-  levels-more (suc n) h = go (ℕ-discrete n l) (levels-more n)
+  levels-more (suc n) h = same-or-not (ℕ-discrete n l) (levels-more n)
     where
-      go : Dec (n ≡ l) → (l < n → levelsBelow n (put level l v) ≡ levelsBelow n level + 1)
+      same-or-not : Dec (n ≡ l) → (l < n → levelsBelow n (put level l v) ≡ levelsBelow n level + 1)
           → levelsBelow n (put level l v) + one (put level l v n .managed) ≡ levelsBelow n level + one (level n .managed) + 1
-      go (yes e) ih =
+      same-or-not (yes e) ih =
           omega (
             arith,
             levels-same n (omega arith),
             ap (λ (k : ℕ). one (put level l v k .managed)) e ∙ ap (λ (x : Level). one (x .managed)) (put-same level l v) ∙ ap one now,
             ap (λ (k : ℕ). one (level k .managed)) e ∙ unmanaged,
           )
-      go (no d) ih =
+      same-or-not (no d) ih =
           omega (arith, ih (omega (arith, d)), ap (λ (x : Level). one (x .managed)) (put-other level l v n d))
 
 -- the levels and ranges that are managed
 abbrev managedIn : Facts → ℕ
-managedIn F = levelsBelow Table.allLevels (F .level) + length (F .ranges)
+managedIn F = levelsBelow allLevels (F .level) + length (F .ranges)
 
 -- a record that is added is one more
 one-more : (F : Facts) (r : Record) → Passed (recordChecks F r) → managedIn (recordAdded F r) ≡ managedIn F + 1
-one-more F r passed = go (eqb (r .resource) ioRange) (passed .1 .1)
+one-more F r passed = marked-or-not (eqb (r .resource) ioRange) (passed .1 .1)
   where
-    go : (io : Bool)
-        → Passed (cond io (addRangeChecks F (r .base) (r .count) (r .attributes) Table.mostLines) (addLevelChecks F (r .base) (r .attributes)))
+    marked-or-not : (io : Bool)
+        → Passed (cond io (addRangeChecks F (r .base) (r .count) (r .attributes) mostLines) (addLevelChecks F (r .base) (r .attributes)))
         → managedIn (cond io (rangeAdded F (r .base) (r .count) (r .attributes)) (levelAdded F (r .base) (r .attributes))) ≡ managedIn F + 1
-    go true p =
+    marked-or-not true p =
         omega (arith, inserted-more (record { base = r .base; count = r .count; reserved = eqb (r .attributes) reserveBit }) (F .ranges))
-    go false p =
+    marked-or-not false p =
         omega (
           arith,
-          levels-more (F .level) (r .base) (record { managed = true; reserved = eqb (r .attributes) reserveBit }) refl (p .1 .1 .0) Table.allLevels
-              (told (decLt (r .base) Table.allLevels) (λ d. p .1 .0 (omega arith))),
+          levels-more (F .level) (r .base) (record { managed = true; reserved = eqb (r .attributes) reserveBit }) refl (p .1 .1 .0) allLevels
+              (told (decLt (r .base) allLevels) (λ d. p .1 .0 (omega arith))),
         )
 
 module _ (e : Code) where
@@ -97,6 +83,6 @@ module _ (e : Code) where
   boot-managed F (r ∷ rs) i o (refused g) = refl
   boot-managed F (r ∷ rs) i o (added p b) = omega (arith, boot-managed _ _ _ o b, one-more F r p)
 
-  pub boot-most : (F : Facts) (rs : List Record) (o : Booted) → WellFormed F → Boot e F rs 0 o → o .place ≤ Table.allLevels + Table.mostRanges
+  pub boot-most : (F : Facts) (rs : List Record) (o : Booted) → WellFormed F → Boot e F rs 0 o → o .place ≤ allLevels + mostRanges
   boot-most F rs o w b =
-      omega (arith, boot-managed F rs 0 o b, levels-most Table.allLevels (o .facts .level), boot-stays e F rs 0 o w b .ranges-most)
+      omega (arith, boot-managed F rs 0 o b, levels-most allLevels (o .facts .level), boot-stays e F rs 0 o w b .ranges-most)

@@ -1,33 +1,16 @@
 -- The refusal law: a permitted outcome whose code isn't Success answers 0 and keeps the packet and the facts; and no check gives Success. Assumes
 -- nothing.
-use mathlib.Core.Path.{_≡_, refl, sym, _∙_}
-use mathlib.Core.Logic.{_⊎_, _≢_, _↔_, inl, inr}
-use mathlib.Core.List.{List, [], _∷_}
-use mathlib.Core.Bool.{Bool, true, false, cond}
-use Prim.Native.Nat.{ℕ, zero, suc, _+_, _≤_}
-use native.Mathlib.Omega.{arith}
-use lib.ListN.{length, take}
-use lib.Dec.{T, eqb}
-use Rattle.facts.specs.declared.Code.{Code}
-use Rattle.facts.specs.declared.Code.the-variants.{Success}
-use Rattle.facts.specs.Codes.{numberOf}
-use Rattle.facts.specs.declared.Width.{Width}
-use Rattle.facts.specs.declared.Record.{Record}
-use Rattle.facts.specs.Table
-use Rattle.facts.specs.Table.{Facts}
-use Rattle.facts.specs.Checks.{Check, Outcome, FirstGiven, Passed, RuledThen, Ruled, Rule}
-use Rattle.facts.specs.Laws.{RefusalKeeps}
-use Rattle.facts.specs.Clients.{registerChecks, deregisterChecks}
-use Rattle.facts.specs.Sockets.{CardTo, CardOutcome, requestMaskChecks, releaseMaskChecks}
-use Rattle.facts.specs.Resources.{ByAction, AdjustIrq, AdjustIo, AddLevel, RemoveLevel, ShowLevel, AddRange, RemoveRange, ShowRange}
-use Rattle.facts.specs.Resources.{actionOf, ioRange, levelGiven, levelAttributes, baseGiven, countGiven, attributesGiven, linesGiven}
-use Rattle.facts.specs.Resources.{adjustChecks, addLevelChecks, removeLevelChecks, showLevelChecks, addRangeChecks, removeRangeChecks}
-use Rattle.facts.specs.Resources.{showRangeChecks}
-use Rattle.facts.specs.Irq.{Sharers, Count, irqRequestChecks, irqReleaseChecks}
-use Rattle.facts.specs.Io.{ioRequestChecks, ioReleaseChecks}
-use Rattle.facts.specs.Boot.{Boot, Booted, ended, refused, added, recordChecks, recordsAdded, recordAdded}
-use Rattle.facts.specs.Services.{Service, registerClient, deregisterClient, adjustResourceInfo, requestIrq, releaseIrq, requestIo, releaseIo}
-use Rattle.facts.specs.Services.{requestSocketMask, releaseSocketMask, ruleOf, Call}
+use Rattle.facts.proofs.Words.{_≡_, refl, sym, _∙_, _⊎_, _≢_, _↔_, inl, inr, List, [], _∷_, Bool, true, false, cond, ℕ, zero, suc, _+_, _≤_}
+use Rattle.facts.proofs.Words.{arith, length, take, T, eqb}
+use Rattle.facts.specs.{Code, Success, numberOf, Width, Record, Facts, Check, Outcome, FirstGiven, Passed, RuledThen, Ruled, Rule}
+use Rattle.facts.specs.{RefusalKeeps, registerChecks, deregisterChecks, CardTo, CardOutcome, requestMaskChecks, releaseMaskChecks, ByAction}
+use Rattle.facts.specs.{AdjustIrq, AdjustIo, AddLevel, RemoveLevel, ShowLevel, AddRange, RemoveRange, ShowRange, actionOf, ioRange, levelGiven}
+use Rattle.facts.specs.{levelAttributes, baseGiven, countGiven, attributesGiven, linesGiven, adjustChecks, addLevelChecks, removeLevelChecks}
+use Rattle.facts.specs.{showLevelChecks, addRangeChecks, removeRangeChecks, showRangeChecks, Sharers, Count, irqRequestChecks}
+use Rattle.facts.specs.{irqReleaseChecks, ioRequestChecks, ioReleaseChecks, Booted, ended, refused, added, recordChecks, recordsAdded}
+use Rattle.facts.specs.{recordAdded, Service, registerClient, deregisterClient, adjustResourceInfo, requestIrq, releaseIrq, requestIo}
+use Rattle.facts.specs.{releaseIo, requestSocketMask, releaseSocketMask, ruleOf, Call, mostLines}
+use Rattle.facts.specs.Boot.{Boot}
 use Rattle.facts.proofs.Unique.{first-not-passed}
 
 module _ {F : Facts} {p : List ℕ} where
@@ -119,12 +102,12 @@ module _ (cs : List Check) (n : NoSuccess cs) {F : Facts} {p : List ℕ} (D : Ou
   ruled-success (inr r) = (λ e. r .0, λ passed. r .1 .0)
 
 pub record-no-success : (F : Facts) (r : Record) → NoSuccess (recordChecks F r)
-record-no-success F r = none-succeeds (recordChecks F r) (go (eqb (r .resource) ioRange))
+record-no-success F r = none-succeeds (recordChecks F r) (marked-or-not (eqb (r .resource) ioRange))
   where
-    go : (io : Bool)
-        → T (noSuccess (cond io (addRangeChecks F (r .base) (r .count) (r .attributes) Table.mostLines) (addLevelChecks F (r .base) (r .attributes))))
-    go true = tt
-    go false = tt
+    marked-or-not : (io : Bool)
+        → T (noSuccess (cond io (addRangeChecks F (r .base) (r .count) (r .attributes) mostLines) (addLevelChecks F (r .base) (r .attributes))))
+    marked-or-not true = tt
+    marked-or-not false = tt
 
 -- the boot list, whose first record stands in the place i
 module _ (e : Code) where

@@ -1,28 +1,12 @@
 -- AdjustResourceInfo and the boot list leave a well-formed set well formed. Assumes nothing.
-use mathlib.Core.Path.{_≡_, refl, ap, sym, _∙_, subst}
-use mathlib.Core.Logic.{_⊎_, inl, inr, ⊎-elim, _≢_}
-use mathlib.Core.List.{List, [], _∷_}
-use mathlib.Core.Bool.{Bool, cond, true, false}
-use mathlib.Core.Option.{some}
-use Prim.Native.Nat.{ℕ, suc, _+_, _≤_, _<_}
-use native.Mathlib.Decide.{decLe, decLt}
-use native.Mathlib.Omega.{arith}
-use lib.Dec.{eqb, ltb}
-use lib.ListN.{length}
-use borrow.Author.Tests.{ltb-true, ltb-false}
-use Rattle.facts.specs.declared.Code.{Code}
-use Rattle.facts.specs.declared.Width.{Width}
-use Rattle.facts.specs.declared.Record.{Record}
-use Rattle.facts.specs.Table
-use Rattle.facts.specs.Table.{Facts, Range, IoGrant}
-use Rattle.facts.specs.Sets.{_∈_}
-use Rattle.facts.specs.Ports.{Has, Managed, Answers}
-use Rattle.facts.specs.WellFormed.{WellFormed, Apart}
-use Rattle.facts.specs.Checks.{Outcome, Passed}
-use Rattle.facts.specs.Resources.{AdjustResourceInfo, AdjustIrq, AdjustIo, inserted, withoutRange, ioRange}
-use Rattle.facts.specs.Resources.{addLevelChecks, removeLevelChecks, addRangeChecks, removeRangeChecks, levelAdded, levelRemoved, rangeAdded}
-use Rattle.facts.specs.Resources.{rangeRemoved, reserveBit, levelGiven, levelAttributes, baseGiven, countGiven, attributesGiven, linesGiven}
-use Rattle.facts.specs.Boot.{Boot, Booted, ended, refused, added, recordAdded, recordChecks}
+use Rattle.facts.proofs.Words.{_≡_, refl, ap, sym, _∙_, subst, _⊎_, inl, inr, ⊎-elim, _≢_, List, [], _∷_, Bool, cond, true, false, some, ℕ}
+use Rattle.facts.proofs.Words.{suc, _+_, _≤_, _<_, decLe, decLt, arith, eqb, ltb, length, ltb-true, ltb-false, WellFormed}
+use Rattle.facts.specs.{Code, Width, Record, Facts, Range, IoGrant, _∈_, Has, Managed, Answers, Apart, Outcome, Passed, AdjustResourceInfo}
+use Rattle.facts.specs.{AdjustIrq, AdjustIo, inserted, withoutRange, ioRange, addLevelChecks, removeLevelChecks, addRangeChecks}
+use Rattle.facts.specs.{removeRangeChecks, levelAdded, levelRemoved, rangeAdded, rangeRemoved, reserveBit, levelGiven, levelAttributes}
+use Rattle.facts.specs.{baseGiven, countGiven, attributesGiven, linesGiven, Booted, ended, refused, added, recordAdded, recordChecks}
+use Rattle.facts.specs.{allLevels, allPorts, mostLines, mostRanges}
+use Rattle.facts.specs.Boot.{Boot}
 use Rattle.facts.proofs.Sets.{without-in, in-without, without-fewer, apart-without}
 use Rattle.facts.proofs.Unique.{range-unique}
 use Rattle.facts.proofs.Told.{told}
@@ -32,22 +16,22 @@ use Rattle.facts.proofs.Formed.{managed-in, level-formed, ranges-formed
 module _ (F : Facts) (w : WellFormed F) (l attributes : ℕ) where
   pub level-added-formed : Passed (addLevelChecks F l attributes) → WellFormed (levelAdded F l attributes)
   level-added-formed passed =
-      level-formed F w l _ (told (decLt l Table.allLevels) (λ d. passed .1 .0 (omega arith))) (λ e. refl) (λ s g e q. refl)
+      level-formed F w l _ (told (decLt l allLevels) (λ d. passed .1 .0 (omega arith))) (λ e. refl) (λ s g e q. refl)
 
   pub level-removed-formed : Passed (removeLevelChecks F l attributes) → WellFormed (levelRemoved F l)
   level-removed-formed passed =
-      level-formed F w l _ (told (decLt l Table.allLevels) (λ d. passed .1 .0 (omega arith))) (λ e. e)
+      level-formed F w l _ (told (decLt l allLevels) (λ d. passed .1 .0 (omega arith))) (λ e. e)
       (λ s g e q. absurd (passed .1 .1 .1 .0 (record { socket = s; grant = g; holds = record { live = e; at = q } })))
 
 -- ranges: one put in its place
 pub inserted-cases : (P : List Range → Type 0) (r x : Range) (xs : List Range) → (r .base < x .base → P (r ∷ x ∷ xs))
     → (x .base ≤ r .base → P (x ∷ inserted r xs))
     → P (inserted r (x ∷ xs))
-inserted-cases P r x xs before after = go (ltb (r .base) (x .base)) (ltb-true (r .base) (x .base)) (ltb-false (r .base) (x .base))
+inserted-cases P r x xs before after = marked-or-not (ltb (r .base) (x .base)) (ltb-true (r .base) (x .base)) (ltb-false (r .base) (x .base))
   where
-    go : (t : Bool) → (t ≡ true → r .base < x .base) → (t ≡ false → x .base ≤ r .base) → P (cond t (r ∷ x ∷ xs) (x ∷ inserted r xs))
-    go true f g = before (f refl)
-    go false f g = after (g refl)
+    marked-or-not : (t : Bool) → (t ≡ true → r .base < x .base) → (t ≡ false → x .base ≤ r .base) → P (cond t (r ∷ x ∷ xs) (x ∷ inserted r xs))
+    marked-or-not true f g = before (f refl)
+    marked-or-not false f g = after (g refl)
 
 pub inserted-more : (r : Range) (xs : List Range) → length (inserted r xs) ≡ suc (length xs)
 inserted-more r [] = refl
@@ -94,7 +78,7 @@ module _ (F : Facts) (w : WellFormed F) (base count attributes lines : ℕ) wher
   range-added-formed passed =
       ranges-formed F w (inserted new (F .ranges)) (omega (arith, room, inserted-more new (F .ranges)))
       (apart-inserted new 0 (F .ranges) (omega arith) port clear (w .apart))
-      (λ r m. ⊎-elim (λ e. subst (λ (x : Range). x .base + x .count ≤ Table.allPorts) (sym e) within) (w .ranges r) (inserted-in new r (F .ranges) m))
+      (λ r m. ⊎-elim (λ e. subst (λ (x : Range). x .base + x .count ≤ allPorts) (sym e) within) (w .ranges r) (inserted-in new r (F .ranges) m))
       (λ s g e p a. managed-in F _ (λ r m. in-inserted new r (F .ranges) m) p)
     where
       new : Range
@@ -103,11 +87,11 @@ module _ (F : Facts) (w : WellFormed F) (base count attributes lines : ℕ) wher
       port : 1 ≤ count
       port = told (decLe 1 count) (λ d. passed .1 .0 (inl (omega arith)))
 
-      within : base + count ≤ Table.allPorts
-      within = told (decLe (base + count) Table.allPorts) (λ d. passed .1 .1 .0 (omega arith))
+      within : base + count ≤ allPorts
+      within = told (decLe (base + count) allPorts) (λ d. passed .1 .1 .0 (omega arith))
 
-      room : length (F .ranges) < Table.mostRanges
-      room = told (decLt (length (F .ranges)) Table.mostRanges) (λ d. passed .1 .1 .1 .1 .0 (omega arith))
+      room : length (F .ranges) < mostRanges
+      room = told (decLt (length (F .ranges)) mostRanges) (λ d. passed .1 .1 .1 .1 .0 (omega arith))
 
       clear : Clear new (F .ranges)
       clear x m p here there = passed .1 .1 .1 .0 (p, here, record { range = x; listed = m; has = there })
@@ -173,13 +157,13 @@ module _ (F : Facts) (h : ℕ) (p : List ℕ) (o : Outcome) (w : WellFormed F) w
 
 -- the boot list
 pub record-added-formed : (F : Facts) (r : Record) → WellFormed F → Passed (recordChecks F r) → WellFormed (recordAdded F r)
-record-added-formed F r w passed = go (eqb (r .resource) ioRange) (passed .1 .1)
+record-added-formed F r w passed = marked-or-not (eqb (r .resource) ioRange) (passed .1 .1)
   where
-    go : (io : Bool)
-        → Passed (cond io (addRangeChecks F (r .base) (r .count) (r .attributes) Table.mostLines) (addLevelChecks F (r .base) (r .attributes)))
+    marked-or-not : (io : Bool)
+        → Passed (cond io (addRangeChecks F (r .base) (r .count) (r .attributes) mostLines) (addLevelChecks F (r .base) (r .attributes)))
         → WellFormed (cond io (rangeAdded F (r .base) (r .count) (r .attributes)) (levelAdded F (r .base) (r .attributes)))
-    go true passed = range-added-formed F w (r .base) (r .count) (r .attributes) Table.mostLines passed
-    go false passed = level-added-formed F w (r .base) (r .attributes) passed
+    marked-or-not true passed = range-added-formed F w (r .base) (r .count) (r .attributes) mostLines passed
+    marked-or-not false passed = level-added-formed F w (r .base) (r .attributes) passed
 
 module _ (e : Code) where
   pub boot-stays : (F : Facts) (rs : List Record) (i : ℕ) (o : Booted) → WellFormed F → Boot e F rs i o → WellFormed (o .facts)

@@ -1,11 +1,6 @@
 -- What an answer decides: one that is written out, a comparison, an answer said of something else, and one that a test turned round. Assumes nothing.
-use mathlib.Core.Path.{_≡_, refl}
-use mathlib.Core.Bool.{Bool, true, false, not, true≢false, false≢true}
-use Prim.Native.Nat.{ℕ, _<_}
-use native.Mathlib.Omega.{arith}
-use borrow.Author.Tests.{ltb-true, ltb-false, eqb-true, eqb-false, not-true, not-false}
-use lib.Dec.{ltb, eqb}
-use Rattle.facts.specs.Says.{Says}
+use Rattle.facts.proofs.Words.{_≡_, refl, Bool, true, false, not, true≢false, false≢true, ℕ, _<_, arith, ltb-true, ltb-false, eqb-true}
+use Rattle.facts.proofs.Words.{eqb-false, not-true, not-false, ltb, eqb, Says}
 
 pub says-true : {P : Type 0} → P → Says true P
 says-true p = record { holds = λ e. p; fails = λ e. absurd (true≢false e) }

@@ -1,18 +1,7 @@
 -- Laws of listed facts and of a fact put in its place. Assumes nothing.
-use mathlib.Core.Path.{_≡_, refl, ap, sym, _∙_, subst}
-use mathlib.Core.Logic.{_⊎_, inl, inr, ⊎-elim, _≢_}
-use mathlib.Core.List.{List, [], _∷_, _++_, map}
-use mathlib.Core.Bool.{Bool, true, false, cond}
-use mathlib.Core.Option.{Option, some}
-use Prim.Native.Nat.{ℕ, suc, _+_, _≤_, _<_}
-use native.Mathlib.Decide.{ℕ-discrete}
-use native.Mathlib.Omega.{arith}
-use lib.ListN.{length}
-use lib.Dec.{eqb}
-use borrow.Author.Tests.{eq-eqb, ne-eqb, eqb-true, eqb-false}
-use Rattle.facts.specs.Table.{Client, Range}
-use Rattle.facts.specs.Sets.{_∈_, put, without}
-use Rattle.facts.specs.WellFormed.{Rising, Apart}
+use Rattle.facts.proofs.Words.{_≡_, refl, ap, sym, _∙_, subst, _⊎_, inl, inr, ⊎-elim, _≢_, List, [], _∷_, _++_, map, Bool, true, false, cond}
+use Rattle.facts.proofs.Words.{Option, some, ℕ, suc, _+_, _≤_, _<_, ℕ-discrete, arith, length, eqb, eq-eqb, ne-eqb, eqb-true, eqb-false}
+use Rattle.facts.specs.{Client, Range, _∈_, put, without, Rising, Apart}
 
 module _ {A : Type 0} where
   -- what is put in its place, and what stays
@@ -24,19 +13,19 @@ module _ {A : Type 0} where
 
   -- what stands at a place was put there, or stood there
   pub put-is : (f : ℕ → A) (k : ℕ) (x : A) (j : ℕ) → ((j ≡ k) × (put f k x j ≡ x)) ⊎ ((j ≢ k) × (put f k x j ≡ f j))
-  put-is f k x j = go (ℕ-discrete j k)
+  put-is f k x j = same-or-not (ℕ-discrete j k)
     where
-      go : Dec (j ≡ k) → ((j ≡ k) × (put f k x j ≡ x)) ⊎ ((j ≢ k) × (put f k x j ≡ f j))
-      go (yes e) = inl (e, ap (put f k x) e ∙ put-same f k x)
-      go (no d) = inr (d, put-other f k x j d)
+      same-or-not : Dec (j ≡ k) → ((j ≡ k) × (put f k x j ≡ x)) ⊎ ((j ≢ k) × (put f k x j ≡ f j))
+      same-or-not (yes e) = inl (e, ap (put f k x) e ∙ put-same f k x)
+      same-or-not (no d) = inr (d, put-other f k x j d)
 
   -- so what holds of all that stood, and of what is put, holds of all that stands
   pub put-all : (P : ℕ → A → Type 0) (f : ℕ → A) (k : ℕ) (x : A) → P k x → ((j : ℕ) → j ≢ k → P j (f j)) → (j : ℕ) → P j (put f k x j)
-  put-all P f k x there others j = go (put-is f k x j)
+  put-all P f k x there others j = either-way (put-is f k x j)
     where
-      go : ((j ≡ k) × (put f k x j ≡ x)) ⊎ ((j ≢ k) × (put f k x j ≡ f j)) → P j (put f k x j)
-      go (inl e) = subst (P j) (sym (e .1)) (subst (λ (i : ℕ). P i x) (sym (e .0)) there)
-      go (inr e) = subst (P j) (sym (e .1)) (others j (e .0))
+      either-way : ((j ≡ k) × (put f k x j ≡ x)) ⊎ ((j ≢ k) × (put f k x j ≡ f j)) → P j (put f k x j)
+      either-way (inl e) = subst (P j) (sym (e .1)) (subst (λ (i : ℕ). P i x) (sym (e .0)) there)
+      either-way (inr e) = subst (P j) (sym (e .1)) (others j (e .0))
 
 -- two that stand at different places keep company, if those that stood did and what is put does with them
 pub put-pairs : {A : Type 0} (C : A → A → Type 0) → ((a b : A) → C a b → C b a) → (f : ℕ → Option A) (k : ℕ) (x : Option A)
@@ -68,11 +57,11 @@ module _ {A : Type 0} where
   pub in-either : (x : A) (s t : List A) → x ∈ (s ++ t) → (x ∈ s) ⊎ (x ∈ t)
   in-either x [] t m = inr m
   in-either x (y ∷ s) t (inl e) = inl (inl e)
-  in-either x (y ∷ s) t (inr m) = go (in-either x s t m)
+  in-either x (y ∷ s) t (inr m) = either-way (in-either x s t m)
     where
-      go : (x ∈ s) ⊎ (x ∈ t) → (x ∈ (y ∷ s)) ⊎ (x ∈ t)
-      go (inl n) = inl (inr n)
-      go (inr n) = inr n
+      either-way : (x ∈ s) ⊎ (x ∈ t) → (x ∈ (y ∷ s)) ⊎ (x ∈ t)
+      either-way (inl n) = inl (inr n)
+      either-way (inr n) = inr n
 
   -- a member of a list, each of which f changes
   pub in-map : (f : A → A) (x : A) (s : List A) → x ∈ s → f x ∈ map f s
@@ -99,11 +88,11 @@ module _ {A : Type 0} where
     -- its two cases
     pub by-number : (P : List A → Type 0) (y : A) (s : List A) → (number y ≡ n → P s) → (number y ≢ n → P (y ∷ without number n s))
         → P (without number n (y ∷ s))
-    by-number P y s here there = go (eqb (number y) n) (eqb-true (number y) n) (eqb-false (number y) n)
+    by-number P y s here there = marked-or-not (eqb (number y) n) (eqb-true (number y) n) (eqb-false (number y) n)
       where
-        go : (t : Bool) → (t ≡ true → number y ≡ n) → (t ≡ false → number y ≡ n → ⊥) → P (cond t s (y ∷ without number n s))
-        go true e f = here (e refl)
-        go false e f = there (f refl)
+        marked-or-not : (t : Bool) → (t ≡ true → number y ≡ n) → (t ≡ false → number y ≡ n → ⊥) → P (cond t s (y ∷ without number n s))
+        marked-or-not true e f = here (e refl)
+        marked-or-not false e f = there (f refl)
 
     pub without-in : (x : A) (s : List A) → x ∈ without number n s → x ∈ s
     without-in x [] m = m

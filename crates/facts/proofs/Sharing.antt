@@ -1,13 +1,6 @@
 -- "the number of live grants, never over 8". Assumes nothing.
-use mathlib.Core.Bool.{Bool, cond, true, false}
-use mathlib.Core.Option.{Option, none, some}
-use Prim.Native.Nat.{ℕ, zero, suc, _≤_}
-use native.Mathlib.Omega.{arith}
-use lib.Dec.{eqb}
-use Rattle.facts.specs.Table
-use Rattle.facts.specs.Table.{Facts, IrqGrant}
-use Rattle.facts.specs.WellFormed.{WellFormed}
-use Rattle.facts.specs.Irq.{sharer, sharersBelow}
+use Rattle.facts.proofs.Words.{Bool, cond, true, false, Option, none, some, ℕ, zero, suc, _≤_, arith, eqb, WellFormed}
+use Rattle.facts.specs.{Facts, IrqGrant, sharer, sharersBelow, mostSockets}
 
 at-most-one : (t : Bool) → cond t 1 0 ≤ 1
 at-most-one true = omega arith
@@ -21,5 +14,5 @@ below-most : (F : Facts) (l n : ℕ) → sharersBelow F l n ≤ n
 below-most F l zero = omega arith
 below-most F l (suc n) = omega (arith, below-most F l n, sharer-most l (F .irq n))
 
-pub sharers-most : (F : Facts) (l : ℕ) → WellFormed F → sharersBelow F l (F .sockets) ≤ Table.mostSockets
+pub sharers-most : (F : Facts) (l : ℕ) → WellFormed F → sharersBelow F l (F .sockets) ≤ mostSockets
 sharers-most F l w = omega (arith, below-most F l (F .sockets), w .sockets-most)

@@ -1,14 +1,7 @@
 -- Every call leaves a well-formed set well formed. Assumes nothing.
-use mathlib.Core.Path.{sym, subst}
-use mathlib.Core.Logic.{inl, inr}
-use mathlib.Core.List.{List}
-use Prim.Native.Nat.{ℕ}
-use Rattle.facts.specs.Table.{Facts}
-use Rattle.facts.specs.WellFormed.{WellFormed}
-use Rattle.facts.specs.Checks.{Outcome}
-use Rattle.facts.specs.Services.{Service, registerClient, deregisterClient, adjustResourceInfo, requestIrq, releaseIrq, requestIo, releaseIo}
-use Rattle.facts.specs.Services.{requestSocketMask, releaseSocketMask, ruleOf, Call}
-use Rattle.facts.specs.Packets.{Bytes}
+use Rattle.facts.proofs.Words.{sym, subst, inl, inr, List, ℕ, WellFormed}
+use Rattle.facts.specs.{Facts, Outcome, Service, registerClient, deregisterClient, adjustResourceInfo, requestIrq, releaseIrq, requestIo}
+use Rattle.facts.specs.{releaseIo, requestSocketMask, releaseSocketMask, ruleOf, Call, Bytes}
 use Rattle.facts.proofs.ClientsStay.{register-stays, deregister-stays, request-mask-stays, release-mask-stays}
 use Rattle.facts.proofs.ResourcesStay.{adjust-stays}
 use Rattle.facts.proofs.GrantsStay.{request-irq-stays, release-irq-stays, request-io-stays, release-io-stays}

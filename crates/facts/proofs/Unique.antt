@@ -1,38 +1,19 @@
 -- Any two permitted outcomes coincide: laws of checks, of choices and of what is done, and from them every rule. Assumes nothing.
-use mathlib.Core.Path.{_≡_, refl, sym, ap, ap₂, subst, _∙_}
-use mathlib.Core.Logic.{_⊎_, inl, inr, ⊎-elim}
-use mathlib.Core.List.{List, [], _∷_}
-use mathlib.Core.Bool.{Bool, false}
-use mathlib.Core.Option.{some}
-use Prim.Native.Nat.{ℕ, _+_, _<_}
-use native.Mathlib.Omega.{arith}
-use lib.ListN.{length}
-use Rattle.facts.specs.declared.Code.{Code}
-use Rattle.facts.specs.declared.Record.{Record}
-use Rattle.facts.specs.declared.Width.{Width}
-use Rattle.facts.specs.Table.{Facts, Range}
-use Rattle.facts.specs.Sets.{_∈_}
-use Rattle.facts.specs.WellFormed.{Apart}
-use Rattle.facts.specs.Checks.{Check, Outcome, FirstGiven, Passed, Kept, Leaves, DecidedThen, Decided, RuledThen, Ruled, Rule}
-use Rattle.facts.specs.Choice.{Before, Chosen, Lowest}
-use Rattle.facts.specs.Laws.{Coincide}
-use Rattle.facts.specs.Clients.{Register, Deregister, registerChecks, deregisterChecks}
-use Rattle.facts.specs.Sockets.{CardTo, CardOutcome, RequestSocketMask, ReleaseSocketMask, socketOf, cardChecks, requestMaskChecks}
-use Rattle.facts.specs.Sockets.{releaseMaskChecks}
-use Rattle.facts.specs.Resources.{ioAdjustLength, ByAction, AdjustIrq, AdjustIo, AdjustResourceInfo, AddLevel, RemoveLevel}
-use Rattle.facts.specs.Resources.{ShowLevel, AddRange, RemoveRange, ShowRange}
-use Rattle.facts.specs.Resources.{LevelHeld, LevelHolder, LevelShown, RangeHeld, RangeHolder, RangeShown, unheld, of-type, one-alone, all-share}
-use Rattle.facts.specs.Resources.{actionOf, first, next, levelGiven, levelAttributes, baseGiven, countGiven, attributesGiven, linesGiven}
-use Rattle.facts.specs.Resources.{adjustChecks, addLevelChecks, removeLevelChecks, showLevelChecks, addRangeChecks, removeRangeChecks}
-use Rattle.facts.specs.Resources.{showRangeChecks, showingLevel, showingRange}
-use Rattle.facts.specs.Levels.{typeOf}
-use Rattle.facts.specs.Packets.{withWord}
-use Rattle.facts.specs.Irq.{RequestIrq, ReleaseIrq, Sharers, Count, irqRequestChecks, irqReleaseChecks, sharersChecks, irqGrant, assigning}
-use Rattle.facts.specs.Irq.{LevelTaken, withIrq}
-use Rattle.facts.specs.Io.{RequestIo, ReleaseIo, BaseTaken, ioRequestChecks, ioReleaseChecks, ioGrant, withIo}
-use Rattle.facts.specs.Boot.{Boot, ended, refused, added, stopped, recordChecks}
-use Rattle.facts.specs.Services.{Service, registerClient, deregisterClient, adjustResourceInfo, requestIrq, releaseIrq, requestIo, releaseIo}
-use Rattle.facts.specs.Services.{requestSocketMask, releaseSocketMask, serviceNumber, ruleOf, Call}
+use Rattle.facts.proofs.Words.{_≡_, refl, sym, ap, ap₂, subst, _∙_, _⊎_, inl, inr, ⊎-elim, List, [], _∷_, Bool, false, some, ℕ, _+_, _<_}
+use Rattle.facts.proofs.Words.{arith, length}
+use Rattle.facts.specs.{Code, Record, Width, Facts, Range, _∈_, Apart, Check, Outcome, FirstGiven, Passed, Kept, Leaves, DecidedThen, Decided}
+use Rattle.facts.specs.{RuledThen, Ruled, Rule, Before, Chosen, Lowest, Coincide, Register, Deregister, registerChecks, deregisterChecks}
+use Rattle.facts.specs.{CardTo, CardOutcome, RequestSocketMask, ReleaseSocketMask, socketOf, cardChecks, requestMaskChecks, releaseMaskChecks}
+use Rattle.facts.specs.{ioAdjustLength, ByAction, AdjustIrq, AdjustIo, AdjustResourceInfo, AddLevel, RemoveLevel, ShowLevel, AddRange}
+use Rattle.facts.specs.{RemoveRange, ShowRange, LevelHeld, LevelHolder, LevelShown, RangeHeld, RangeHolder, RangeShown, unheld, of-type}
+use Rattle.facts.specs.{one-alone, all-share, actionOf, first, next, levelGiven, levelAttributes, baseGiven, countGiven, attributesGiven}
+use Rattle.facts.specs.{linesGiven, adjustChecks, addLevelChecks, removeLevelChecks, showLevelChecks, addRangeChecks, removeRangeChecks}
+use Rattle.facts.specs.{showRangeChecks, showingLevel, showingRange, typeOf, withWord, RequestIrq, ReleaseIrq, Sharers, Count}
+use Rattle.facts.specs.{irqRequestChecks, irqReleaseChecks, sharersChecks, irqGrant, assigning, LevelTaken, withIrq, RequestIo, ReleaseIo}
+use Rattle.facts.specs.{BaseTaken, ioRequestChecks, ioReleaseChecks, ioGrant, withIo, ended, refused, added, stopped, recordChecks, Service}
+use Rattle.facts.specs.{registerClient, deregisterClient, adjustResourceInfo, requestIrq, releaseIrq, requestIo, releaseIo, requestSocketMask}
+use Rattle.facts.specs.{releaseSocketMask, serviceNumber, ruleOf, Call}
+use Rattle.facts.specs.Boot.{Boot}
 use Rattle.facts.proofs.Sets.{apart-over, found}
 use Rattle.facts.proofs.Resources.{width-one}
 

@@ -34,7 +34,7 @@ abbrev pub AllManaged : Facts → ℕ → ℕ → Type 0
 AllManaged F base count = (p : ℕ) → Within p base count → Managed F p
 
 -- K2 (document 02): "each port that equals a granted one modulo two to the lines", up to FFFF: a card that is granted the ports answers at p. It
--- answers at its own ports and, if it decodes fewer than 16 lines, at their images.
+-- answers at its own ports and, if it decodes fewer than 16 lines, at their aliases: the ports that its lines do not tell from them.
 pub record Answers (a : Ports) (p : ℕ) : Type 0 where
   pub below : p < Table.allPorts
   pub own : ℕ

@@ -51,12 +51,12 @@ pub struct Record {
 }
 
 // The resource types (5.3) that are managed.
-pub const IO_RANGE: u8 = 1;
+pub const IO_RESOURCE: u8 = 1;
 
-pub const IRQ_LEVEL: u8 = 2;
+pub const IRQ_RESOURCE: u8 = 2;
 
 // What an Add or a Remove of a range names.
-pub struct Asked {
+pub struct RangeAsked {
     pub base: u32,
     pub count: u32,
     pub attributes: u8,

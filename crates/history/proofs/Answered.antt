@@ -1,31 +1,13 @@
 -- An event's code and number are those that the promise speaks of, and on an accepted table its rule is that of the facts. Assumes nothing.
-use mathlib.Core.Path.{_≡_, refl, sym, _∙_, subst}
-use mathlib.Core.Logic.{inl, inr, ⊎-elim}
-use mathlib.Core.List.{List}
-use mathlib.Core.Bool.{Bool, true, false}
-use Prim.Native.Nat.{ℕ}
-use native.Mathlib.Omega.{arith}
-use Rattle.facts.specs.declared.Code.{Code}
-use Rattle.facts.specs.declared.Code.the-variants.{Success, GeneralFailure}
-use Rattle.facts.specs.Codes.{numberOf}
-use Rattle.facts.specs.Table.{Facts}
-use Rattle.facts.specs.WellFormed.{WellFormed}
-use Rattle.facts.specs.Services.{Call}
-use Rattle.facts.specs.Sockets.{CardTo}
-use Rattle.facts.specs.Irq.{Sharers}
-use Rattle.facts.specs.Boot.{BootBytes, stopped, recordsOf, endOf}
-use Rattle.facts.proofs.Codes.{code-byte, code-injective}
-use Rattle.facts.proofs.Laws.{service-laws, host-laws}
-use Rattle.layout.specs.Layout.{image}
-use Rattle.layout.specs.Sound.{Accepted}
+use Rattle.facts.proofs.Words.{_≡_, refl, sym, _∙_, subst, inl, inr, ⊎-elim, List, Bool, true, false, ℕ, arith, WellFormed}
+use Rattle.facts.specs.{Code, Success, GeneralFailure, numberOf, Facts, Call, CardTo, Sharers, BootBytes, stopped, recordsOf, endOf, packed, placed}
+use Rattle.facts.proofs.{code-byte, code-injective, service-laws, host-laws}
+use Rattle.layout.specs.{image, Accepted}
 use Rattle.layout.specs.Served.{Served}
-use Rattle.layout.proofs.Accepts.{one-set}
-use Rattle.answers.specs.Answers.{packed}
-use Rattle.boot.specs.Booting.{placed}
-use Rattle.promises.specs.Entries.{CallAnswers, CardAnswers, SharersAnswers, BootAnswers}
-use Rattle.promises.specs.Entries.{CallPermitted, CardPermitted, SharersPermitted, BootPermitted}
-use Rattle.promises.proofs.Laws.{laws}
-use Rattle.history.specs.Events.{Event, makeFresh, call, cardIn, cardOut, boot, sharers, Ours, Entries, GoesOn}
+use Rattle.layout.proofs.{one-set}
+use Rattle.promises.specs.{CallAnswers, CardAnswers, SharersAnswers, BootAnswers, CallPermitted, CardPermitted, SharersPermitted, BootPermitted}
+use Rattle.promises.proofs.{laws}
+use Rattle.history.specs.{Event, makeFresh, call, cardIn, cardOut, boot, sharers, Ours, Entries, GoesOn}
 
 -- whatever an entry answers and leaves as promised is an event
 pub entries : Entries

@@ -1,26 +1,12 @@
 -- How clients and masks turn: RegisterClient and DeregisterClient, RequestSocketMask and ReleaseSocketMask. Assumes nothing.
-use mathlib.Core.Path.{_≡_, refl, ap, sym, _∙_, subst}
-use mathlib.Core.Logic.{_⊎_, inl, inr, ⊎-elim, _≢_}
-use mathlib.Core.List.{List, [], _∷_, _++_}
-use mathlib.Core.Bool.{Bool, cond}
-use mathlib.Core.Option.{Option, none, some, Option·none-ne-some, Option·some-injective}
-use Prim.Native.Nat.{ℕ, _+_}
-use native.Mathlib.Nat.{add-zero}
-use native.Mathlib.Decide.{ℕ-discrete}
-use lib.Dec.{eqb}
-use borrow.Author.Tests.{eq-eqb, ne-eqb}
-use Rattle.facts.specs.Table.{Facts, Client}
-use Rattle.facts.specs.Sets.{_∈_, put}
-use Rattle.facts.specs.WellFormed.{WellFormed}
-use Rattle.facts.specs.Checks.{Passed}
-use Rattle.facts.specs.Clients.{registered, newClient, nextHandle, clientAttributes, clientEvents, withClients, withoutClient, deregisterChecks}
-use Rattle.facts.specs.Sockets.{socketOf, eventsAsked, masking, withMask, requestMaskChecks, requestMaskLength, ownMaskChecks}
-use Rattle.facts.specs.Services.{registerClient, deregisterClient, requestSocketMask, releaseSocketMask}
-use Rattle.facts.proofs.Sets.{put-same, in-left, in-right, in-either, in-map, map-in, in-without, without-in, rising-left-out}
-use Rattle.facts.proofs.Formed.{listing}
-use Rattle.facts.proofs.ClientsStay.{live-passed, request-passed}
-use Rattle.history.specs.Stands.{Fact, client, mask, Made, GivenBack, client-made, mask-made, client-back, mask-back}
-use Rattle.history.specs.Tables.{Tells}
+use Rattle.facts.proofs.Words.{_≡_, refl, ap, sym, _∙_, subst, _⊎_, inl, inr, ⊎-elim, _≢_, List, [], _∷_, _++_, Bool, cond, Option, none, some}
+use Rattle.facts.proofs.Words.{Option·none-ne-some, Option·some-injective, ℕ, _+_, add-zero, ℕ-discrete, eqb, eq-eqb, ne-eqb, WellFormed}
+use Rattle.facts.specs.{Facts, Client, _∈_, put, Passed, registered, newClient, nextHandle, clientAttributes, clientEvents, withClients}
+use Rattle.facts.specs.{withoutClient, deregisterChecks, socketOf, eventsAsked, masking, withMask, requestMaskChecks, requestMaskLength}
+use Rattle.facts.specs.{ownMaskChecks, registerClient, deregisterClient, requestSocketMask, releaseSocketMask}
+use Rattle.facts.proofs.{put-same, in-left, in-right, in-either, in-map, map-in, in-without, without-in, rising-left-out, listing, live-passed}
+use Rattle.facts.proofs.{request-passed}
+use Rattle.history.specs.{Fact, client, mask, Made, GivenBack, client-made, mask-made, client-back, mask-back, Tells}
 use Rattle.history.proofs.Turns.{Turned, Turns, by-kind, put-turned}
 use Rattle.history.proofs.Inverse.{client-only, mask-only, deregister-makes-none, release-mask-makes-none, client-back-only, mask-back-only}
 use Rattle.history.proofs.Inverse.{register-keeps, request-mask-keeps}
@@ -90,11 +76,11 @@ deregister-turns F h p a q w passed =
 
     -- a client is the one left out, or stays
     left : {A : Type 0} (c : Client) → c ∈ F .clients → (c .handle ≡ h → A) → (c ∈ withoutClient h (F .clients) → A) → A
-    left {A} c i this other = go (ℕ-discrete (c .handle) h)
+    left {A} c i this other = same-or-not (ℕ-discrete (c .handle) h)
       where
-        go : Dec (c .handle ≡ h) → A
-        go (yes e) = this e
-        go (no d) = other (in-without number h c (F .clients) i d)
+        same-or-not : Dec (c .handle ≡ h) → A
+        same-or-not (yes e) = this e
+        same-or-not (no d) = other (in-without number h c (F .clients) i d)
 
 -- another mask, or none, of the client h for the socket s
 module _ (F : Facts) (h s : ℕ) (x : Option ℕ) where
@@ -105,11 +91,11 @@ module _ (F : Facts) (h s : ℕ) (x : Option ℕ) where
   after = withClients F (withMask h s x (F .clients))
 
   masked-is : (c : Client) → ((c .handle ≡ h) × (masked c ≡ masking s x c)) ⊎ ((c .handle ≢ h) × (masked c ≡ c))
-  masked-is c = go (ℕ-discrete (c .handle) h)
+  masked-is c = same-or-not (ℕ-discrete (c .handle) h)
     where
-      go : Dec (c .handle ≡ h) → ((c .handle ≡ h) × (masked c ≡ masking s x c)) ⊎ ((c .handle ≢ h) × (masked c ≡ c))
-      go (yes e) = inl (e, ap (λ (t : Bool). cond t (masking s x c) c) (eq-eqb (c .handle) h e))
-      go (no d) = inr (d, ap (λ (t : Bool). cond t (masking s x c) c) (ne-eqb (c .handle) h d))
+      same-or-not : Dec (c .handle ≡ h) → ((c .handle ≡ h) × (masked c ≡ masking s x c)) ⊎ ((c .handle ≢ h) × (masked c ≡ c))
+      same-or-not (yes e) = inl (e, ap (λ (t : Bool). cond t (masking s x c) c) (eq-eqb (c .handle) h e))
+      same-or-not (no d) = inr (d, ap (λ (t : Bool). cond t (masking s x c) c) (ne-eqb (c .handle) h d))
 
   -- what a client keeps
   masked-same : {A : Type 0} (part : Client → A) → ((c : Client) → part (masking s x c) ≡ part c) → (c : Client) → part (masked c) ≡ part c
@@ -174,15 +160,15 @@ module _ (F : Facts) (h s : ℕ) (x : Option ℕ) where
             (masked-is c)
 
         came : Tells after (mask k t m) → New (mask k t m) ⊎ Tells F (mask k t m)
-        came (d, i, e, q) = let y = map-in masked d (F .clients) i in go (y .0) (y .1) (y .2) (masked-is (y .0))
+        came (d, i, e, q) = let y = map-in masked d (F .clients) i in of-each (y .0) (y .1) (y .2) (masked-is (y .0))
           where
-            go : (c : Client) → c ∈ F .clients → d ≡ masked c → ((c .handle ≡ h) × (masked c ≡ masking s x c)) ⊎ ((c .handle ≢ h) × (masked c ≡ c))
+            of-each : (c : Client) → c ∈ F .clients → d ≡ masked c → ((c .handle ≡ h) × (masked c ≡ masking s x c)) ⊎ ((c .handle ≢ h) × (masked c ≡ c))
                 → New (mask k t m) ⊎ Tells F (mask k t m)
-            go c j same (inl own) =
+            of-each c j same (inl own) =
                 let here = sym (ap (λ (z : Client). z .handle) same ∙ same-handle c) ∙ e in
                 ⊎-elim (λ y. inl (subst (λ (z : ℕ). New (mask z t m)) (sym (own .0) ∙ here) y)) (λ y. inr (c, j, here, y))
                 (own-turned c j (own .0) t m .1 (sym (ap (λ (z : Client). z .mask t) (same ∙ own .1)) ∙ q))
-            go c j same (inr other) =
+            of-each c j same (inr other) =
                 inr (c, j, sym (ap (λ (z : Client). z .handle) (same ∙ other .1)) ∙ e, sym (ap (λ (z : Client). z .mask t) (same ∙ other .1)) ∙ q)
 
     pub mask-turns : ((f : Fact) → New f → Tells after f) → ((f : Fact) → Back f → Tells after f → ⊥) → Turns Back New 0 F after

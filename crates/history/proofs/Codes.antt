@@ -1,7 +1,5 @@
 -- Each service and each call of the host gives exactly the codes listed for it. Assumes nothing.
-use Rattle.history.specs.Events.{Ours}
-use Rattle.history.specs.Codes.{codesOf, CanGive}
-use Rattle.history.specs.Laws.{ExactCodes}
+use Rattle.history.specs.{Ours, codesOf, CanGive, ExactCodes}
 use Rattle.history.proofs.Impossible.{none-else}
 use Rattle.history.proofs.Listed.{each-in}
 use Rattle.history.proofs.Examples.{examples}

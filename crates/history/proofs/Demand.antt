@@ -1,7 +1,5 @@
 -- Demand 3 and the laws over all entries hold of this keeper. Assumes nothing.
-use Rattle.history.specs.Events.{Ours}
-use Rattle.history.specs.Demand.{Demand3}
-use Rattle.history.specs.Laws.{EntryLaws}
+use Rattle.history.specs.{Ours, Demand3, EntryLaws}
 use Rattle.history.proofs.Runs.{exact, exact-since}
 use Rattle.history.proofs.Frame.{frame, card-out}
 use Rattle.history.proofs.Handles.{never-again}

@@ -1,23 +1,10 @@
 -- A call of RequestIRQ or RequestIO whose earlier checks pass is refused exactly when no resource fits. Assumes nothing.
-use mathlib.Core.Path.{_≡_, refl, ap, sym, subst}
-use mathlib.Core.Logic.{_⊎_, inl, inr, ⊎-elim, _≢_}
-use mathlib.Core.List.{List}
-use Prim.Native.Nat.{ℕ}
-use lib.Dec.{T}
-use Rattle.facts.specs.declared.Code.{Code}
-use Rattle.facts.specs.declared.Code.the-variants.{Success}
-use Rattle.facts.specs.Table.{Facts}
-use Rattle.facts.specs.WellFormed.{WellFormed}
-use Rattle.facts.specs.Checks.{Check, Outcome, Passed, Ruled}
-use Rattle.facts.specs.Irq.{RequestIrq, GrantsIrq, Fits, assignedIrq, irqRequestChecks}
-use Rattle.facts.specs.Io.{RequestIo, GrantsIo, Candidate, BaseTaken, baseAsked, ioRequestChecks}
-use Rattle.facts.specs.Services.{Service, requestIrq, requestIo, serviceNumber, ruleOf, Call}
-use Rattle.facts.proofs.Unique.{number-injective}
-use Rattle.facts.proofs.Refusals.{noSuccess, none-succeeds, ruled-then-success}
-use Rattle.facts.proofs.Exactly.{exactly-when}
-use Rattle.layout.specs.Sound.{Accepted}
-use Rattle.history.specs.Events.{call, Ours}
-use Rattle.history.specs.Laws.{RefusedExactly}
+use Rattle.facts.proofs.Words.{_≡_, refl, ap, sym, subst, _⊎_, inl, inr, ⊎-elim, _≢_, List, ℕ, T, WellFormed}
+use Rattle.facts.specs.{Code, Success, Facts, Check, Outcome, Passed, Ruled, RequestIrq, GrantsIrq, Fits, assignedIrq, irqRequestChecks, RequestIo}
+use Rattle.facts.specs.{GrantsIo, Candidate, BaseTaken, baseAsked, ioRequestChecks, Service, requestIrq, requestIo, serviceNumber, ruleOf, Call}
+use Rattle.facts.proofs.{number-injective, noSuccess, none-succeeds, ruled-then-success, exactly-when}
+use Rattle.layout.specs.{Accepted}
+use Rattle.history.specs.{call, Ours, RefusedExactly}
 use Rattle.history.proofs.Answered.{stepped}
 use Rattle.history.proofs.Grants.{base-answered, level-answered}
 

@@ -1,28 +1,12 @@
 -- The tables of the examples, and that they are well formed: a run of requests, and two tables that are full. Assumes nothing.
-use mathlib.Core.Path.{_≡_, refl, ap}
-use mathlib.Core.Logic.{inl, inr, ⊎-elim}
-use mathlib.Core.List.{List, [], _∷_}
-use mathlib.Core.Bool.{true, true≢false, false≢true}
-use mathlib.Core.Option.{some, Option·none-ne-some}
-use Prim.Native.Nat.{ℕ, zero, suc, _+_, _≤_, _<_}
-use native.Mathlib.Omega.{arith}
-use lib.ListN.{length}
-use Rattle.facts.specs.declared.Manner.the-variants.{Exclusive}
-use Rattle.facts.specs.Table
-use Rattle.facts.specs.Table.{Facts, Range, fresh}
-use Rattle.facts.specs.Sets.{_∈_}
-use Rattle.facts.specs.WellFormed.{WellFormed, Apart}
-use Rattle.facts.specs.Clients.{withClients}
-use Rattle.facts.specs.Sockets.{RequestSocketMask, withCard, withMask}
-use Rattle.facts.specs.Resources.{levelAdded, rangeAdded, withRanges}
-use Rattle.facts.specs.Irq.{RequestIrq, Fits, IrqAttributesBad, IrqInfoBad}
-use Rattle.facts.specs.Io.{RequestIo, IoAttributesBad, IoSizeBad}
-use Rattle.facts.specs.Services.{requestIrq, requestIo, requestSocketMask}
-use Rattle.facts.proofs.Formed.{card-formed, clients-formed, ranges-formed, listing}
-use Rattle.facts.proofs.ResourcesStay.{level-added-formed, range-added-formed}
-use Rattle.cases.specs.Cases.{done, oneClient, range, ports, grantingIrq, grantingIo}
-use Rattle.cases.proofs.Levels.{alone-taken}
-use Rattle.cases.proofs.Permitted.{as-left, _then_, _nor_, listed-alone}
+use Rattle.facts.proofs.Words.{_≡_, refl, ap, inl, inr, ⊎-elim, List, [], _∷_, true, true≢false, false≢true, some, Option·none-ne-some, ℕ, zero, suc}
+use Rattle.facts.proofs.Words.{_+_, _≤_, _<_, arith, length, WellFormed}
+use Rattle.facts.specs.{Exclusive, Facts, Range, fresh, _∈_, Apart, withClients, RequestSocketMask, withCard, withMask, levelAdded, rangeAdded}
+use Rattle.facts.specs.{withRanges, RequestIrq, Fits, IrqAttributesBad, IrqInfoBad, RequestIo, IoAttributesBad, IoSizeBad, requestIrq, requestIo}
+use Rattle.facts.specs.{requestSocketMask, mostIssued, mostRanges}
+use Rattle.facts.proofs.{card-formed, clients-formed, ranges-formed, listing, level-added-formed, range-added-formed}
+use Rattle.facts_cases.specs.{done, oneClient, range, ports, grantingIrq, grantingIo}
+use Rattle.facts_cases.proofs.{alone-taken, as-left, _then_, _nor_, listed-alone}
 use Rattle.history.proofs.Giving.{left}
 use Rattle.history.proofs.OnSockets.{Ready, ready, two-sockets, one-client, for, own-passed, irqRequests, ioRequests, maskRequests}
 
@@ -126,11 +110,11 @@ busy-ready =
 
 -- every handle issued
 abbrev pub spent : Facts
-spent = listing (fresh 2) Table.mostIssued []
+spent = listing (fresh 2) mostIssued []
 
 pub spent-formed : WellFormed spent
 spent-formed =
-    clients-formed (fresh 2) two-sockets Table.mostIssued [] (omega arith) (omega arith) tt (λ c m. absurd m)
+    clients-formed (fresh 2) two-sockets mostIssued [] (omega arith) (omega arith) tt (λ c m. absurd m)
     (λ s g e. absurd (Option·none-ne-some g e)) (λ s g e. absurd (Option·none-ne-some g e))
 
 -- as many ranges as there can be, of a port each
@@ -151,9 +135,9 @@ one-port-below base (suc n) r (inl e) = omega (arith, ap (λ (x : Range). x .bas
 one-port-below base (suc n) r (inr m) = omega (arith, one-port-below (base + 1) n r m)
 
 abbrev pub full : Facts
-full = withRanges (fresh 2) (onePort 0 Table.mostRanges)
+full = withRanges (fresh 2) (onePort 0 mostRanges)
 
 pub full-formed : WellFormed full
 full-formed =
-    ranges-formed (fresh 2) two-sockets _ (omega (arith, one-port-length 0 Table.mostRanges)) (one-port-apart 0 Table.mostRanges)
-    (λ r m. omega (arith, one-port-below 0 Table.mostRanges r m)) (λ s g e. absurd (Option·none-ne-some g e))
+    ranges-formed (fresh 2) two-sockets _ (omega (arith, one-port-length 0 mostRanges)) (one-port-apart 0 mostRanges)
+    (λ r m. omega (arith, one-port-below 0 mostRanges r m)) (λ s g e. absurd (Option·none-ne-some g e))

@@ -1,48 +1,26 @@
 -- An example of each code that a service or a call of the host can give. Assumes nothing.
-use mathlib.Core.Path.{refl, sym, ap, subst}
-use mathlib.Core.Logic.{inl, inr, ⊎-elim}
-use mathlib.Core.List.{List, [], _∷_, _++_}
-use mathlib.Core.Bool.{Bool, true, false, true≢false, false≢true}
-use mathlib.Core.Option.{none, Option·none-ne-some, Option·some-injective}
-use Prim.Native.Nat.{ℕ, _≤_}
-use native.Mathlib.Omega.{arith}
-use lib.ListN.{replicate}
-use lib.Dec.{T}
-use Rattle.facts.specs.declared.Code.{Code}
-use Rattle.facts.specs.declared.Code.the-variants.{Success, BadAttribute, BadBase, BadIrq, BadSize, BadSocket, NoCard, UnsupportedService}
-use Rattle.facts.specs.declared.Code.the-variants.{GeneralFailure, BadArgLength, BadArgs, InUse, NoMoreItems, OutOfResource, BadHandle}
-use Rattle.facts.specs.declared.Manner.the-variants.{Exclusive}
-use Rattle.facts.specs.declared.Width.the-variants.{Wide}
-use Rattle.facts.specs.Codes.{numberOf}
-use Rattle.facts.specs.Table.{Facts, IrqGrant, fresh, mostRanges, mostLines}
-use Rattle.facts.specs.WellFormed.{WellFormed}
-use Rattle.facts.specs.Packets.{long}
-use Rattle.facts.specs.Levels.{typeOf}
-use Rattle.facts.specs.Checks.{FirstGiven}
-use Rattle.facts.specs.Clients.{Masks, withClients}
-use Rattle.facts.specs.Sockets.{CardTo, withCard, withMask}
-use Rattle.facts.specs.Resources.{addLevelChecks, addRangeChecks}
-use Rattle.facts.specs.Irq.{Sharers, IrqHeld, withIrq}
-use Rattle.facts.specs.Io.{withIo}
+use Rattle.facts.proofs.Words.{refl, sym, ap, subst, inl, inr, ⊎-elim, List, [], _∷_, _++_, Bool, true, false, true≢false, false≢true, none}
+use Rattle.facts.proofs.Words.{Option·none-ne-some, Option·some-injective, ℕ, _≤_, arith, replicate, T, WellFormed}
 use Rattle.facts.specs.Boot
-use Rattle.facts.specs.Services.{Service, registerClient, deregisterClient, adjustResourceInfo, requestIrq, releaseIrq, requestIo, releaseIo}
-use Rattle.facts.specs.Services.{requestSocketMask, releaseSocketMask, serviceNumber, Serves}
-use Rattle.layout.specs.Layout.{image}
-use Rattle.layout.proofs.Image.{image-length}
-use Rattle.promises.specs.Entries.{CardAnswers}
-use Rattle.cases.specs.Cases.{done, refused, managing, range, oneClient, noClient, clientPacket, addPacket}
-use Rattle.cases.proofs.Cases.{cases}
-use Rattle.cases.proofs.Permitted.{as-left, as-kept, _then_, _nor_}
-use Rattle.history.specs.Events.{Ours}
-use Rattle.history.specs.Codes.{Asked, service, no-service, card-in, card-out, boot-list, sharers-of, fresh-table, codesOf, CanGive}
+use Rattle.facts.specs.{Code, Success, BadAttribute, BadBase, BadIrq, BadSize, BadSocket, NoCard, UnsupportedService, GeneralFailure, BadArgLength}
+use Rattle.facts.specs.{BadArgs, InUse, NoMoreItems, OutOfResource, BadHandle, Exclusive, Wide, numberOf, Facts, IrqGrant, fresh, mostRanges}
+use Rattle.facts.specs.{mostLines, long, typeOf, FirstGiven, Masks, withClients, CardTo, withCard, withMask, addLevelChecks, addRangeChecks, Sharers}
+use Rattle.facts.specs.{IrqHeld, withIrq, withIo, Service, registerClient, deregisterClient, adjustResourceInfo, requestIrq, releaseIrq, requestIo}
+use Rattle.facts.specs.{releaseIo, requestSocketMask, releaseSocketMask, serviceNumber, Serves}
+use Rattle.layout.specs.{image}
+use Rattle.layout.proofs.{image-length}
+use Rattle.promises.specs.{CardAnswers}
+use Rattle.facts_cases.specs.{done, refused, managing, range, oneClient, noClient, clientPacket, addPacket}
+use Rattle.facts_cases.proofs.{cases, as-left, as-kept, _then_, _nor_}
+use Rattle.history.specs.{Ours, Asked, service, no-service, card-in, card-out, boot-list, sharers-of, fresh-table, codesOf, CanGive}
 use Rattle.history.proofs.Listed.{Each}
-use Rattle.history.proofs.Giving.{allBytes, no-table, uncalled, general, accepted, serving, calls, gives, refuses, boots}
-use Rattle.history.proofs.Giving.{level-named, range-named, first, here, _past_}
-use Rattle.history.proofs.OnSockets.{two-sockets, one-client, for, own-passed, own-refuses, begins}
-use Rattle.history.proofs.OnSockets.{irqRequests, irqReleases, ioRequests, ioReleases, maskRequests, maskReleases}
+use Rattle.history.proofs.Giving.{allBytes, no-table, uncalled, general, accepted, serving, calls, gives, refuses, boots, level-named}
+use Rattle.history.proofs.Giving.{range-named, first, here, _past_}
+use Rattle.history.proofs.OnSockets.{two-sockets, one-client, for, own-passed, own-refuses, begins, irqRequests, irqReleases, ioRequests}
+use Rattle.history.proofs.OnSockets.{ioReleases, maskRequests, maskReleases}
 use Rattle.history.proofs.ExampleTables.{irqHeld, ioHeld, busy, idle-ready, irq-ready, io-ready, busy-ready, spent-formed, full-formed}
-use Rattle.history.proofs.ExampleTables.{irqNaming, ioAt, irqAsked, ioAsked, maskAsked, irq-good, io-good, irq-granted, io-granted, mask-granted}
-use Rattle.history.proofs.ExampleTables.{one-port-length, one-port-below}
+use Rattle.history.proofs.ExampleTables.{irqNaming, ioAt, irqAsked, ioAsked, maskAsked, irq-good, io-good, irq-granted, io-granted}
+use Rattle.history.proofs.ExampleTables.{mask-granted, one-port-length, one-port-below}
 
 -- what the client 1 holds where it holds everything: a mask, and a level; a packet that gives the level back, by its type
 masked : Masks busy 1 0 1

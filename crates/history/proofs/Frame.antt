@@ -1,29 +1,14 @@
 -- Every fact that a call's rule doesn't name reads as before. Assumes nothing.
-use mathlib.Core.Path.{_≡_, refl, ap, sym, subst}
-use mathlib.Core.Logic.{_⊎_, inl, inr, ⊎-elim, _≢_}
-use mathlib.Core.List.{List}
-use mathlib.Core.Bool.{Bool, cond}
-use Prim.Native.Nat.{ℕ}
-use native.Mathlib.Decide.{ℕ-discrete}
-use native.Mathlib.Omega.{arith}
-use lib.Dec.{eqb}
-use borrow.Author.Tests.{ne-eqb}
-use Rattle.facts.specs.declared.Code.{Code}
-use Rattle.facts.specs.declared.Code.the-variants.{Success}
-use Rattle.facts.specs.Codes.{numberOf}
-use Rattle.facts.specs.Table.{Facts}
-use Rattle.facts.specs.Resources.{actionOf, add, remove, first, next}
-use Rattle.facts.specs.Services.{Service, registerClient, adjustResourceInfo, serviceNumber}
-use Rattle.facts.proofs.Codes.{code-injective}
-use Rattle.facts.proofs.Unique.{number-injective}
-use Rattle.history.specs.Events.{Event, makeFresh, call, cardIn, cardOut, boot, sharers, GoesOn, Ours}
-use Rattle.history.specs.Stands.{Fact, Made, GivenBack, Makes, GivesBack, registration}
-use Rattle.history.specs.Stands.{client-made, mask-made, level-made, range-made, io-made, irq-made}
-use Rattle.history.specs.Stands.{client-back, mask-back, level-back, range-back, io-back, irq-back}
-use Rattle.history.specs.Names.{Name, the-issued, nameOf, NamedBy, Names, Framed}
-use Rattle.history.specs.Names.{register-client, register-issued, deregister, request-mask, release-mask, adjust-level, adjust-range, request-io}
-use Rattle.history.specs.Names.{release-io, request-irq, release-irq}
-use Rattle.history.specs.Demand.{Frame, CardOutKeeps}
+use Rattle.facts.proofs.Words.{_≡_, refl, ap, sym, subst, _⊎_, inl, inr, ⊎-elim, _≢_, List, Bool, cond, ℕ, ℕ-discrete, arith, eqb, ne-eqb}
+use Rattle.facts.specs.{Code, Success, numberOf, Facts, actionOf, add, remove, first, next, Service, registerClient, adjustResourceInfo}
+use Rattle.facts.specs.{serviceNumber}
+use Rattle.facts.proofs.{code-injective, number-injective}
+use Rattle.history.specs.{Event, makeFresh, call, cardIn, cardOut, boot, sharers, GoesOn, Ours, Fact, Made, GivenBack, Makes, GivesBack}
+use Rattle.history.specs.{registration, client-made, mask-made, level-made, range-made, io-made, irq-made, client-back, mask-back, level-back}
+use Rattle.history.specs.{range-back, io-back, irq-back, Name, the-issued, nameOf, NamedBy, Framed, register-client, register-issued}
+use Rattle.history.specs.{deregister, request-mask, release-mask, adjust-level, adjust-range, request-io, release-io, request-irq, release-irq}
+use Rattle.history.specs.{Frame, CardOutKeeps}
+use Rattle.history.specs.Names.{Names}
 use Rattle.history.proofs.Steps.{EventTurns, refused-issues}
 use Rattle.history.proofs.Runs.{passes}
 use Rattle.history.proofs.Laws.{stays}
@@ -71,27 +56,27 @@ adjusting-names x (adjust-range w n e act) = act
 
 pub showing-names-none : (h : ℕ) (p : List ℕ) (k : Code) (a : ℕ) (q : List ℕ) → (actionOf p ≡ first) ⊎ (actionOf p ≡ next) → (x : Name)
     → Names (call (serviceNumber adjustResourceInfo) h p k a q) x → ⊥
-showing-names-none h p k a q shows x m = go shows (adjusting-names x named)
+showing-names-none h p k a q shows x m = either-way shows (adjusting-names x named)
   where
     named : NamedBy h p a adjustResourceInfo x
     named = subst (λ (v : Service). NamedBy h p a v x) (number-injective (m .1) adjustResourceInfo (m .2)) (m .3)
 
-    go : (actionOf p ≡ first) ⊎ (actionOf p ≡ next) → (actionOf p ≡ add) ⊎ (actionOf p ≡ remove) → ⊥
-    go (inl e) (inl i) = omega (arith, e, i)
-    go (inl e) (inr i) = omega (arith, e, i)
-    go (inr e) (inl i) = omega (arith, e, i)
-    go (inr e) (inr i) = omega (arith, e, i)
+    either-way : (actionOf p ≡ first) ⊎ (actionOf p ≡ next) → (actionOf p ≡ add) ⊎ (actionOf p ≡ remove) → ⊥
+    either-way (inl e) (inl i) = omega (arith, e, i)
+    either-way (inl e) (inr i) = omega (arith, e, i)
+    either-way (inr e) (inl i) = omega (arith, e, i)
+    either-way (inr e) (inr i) = omega (arith, e, i)
 
 -- an event that doesn't name the number issued registers nobody
 unregistered : (e : Event) → (Names e the-issued → ⊥) → registration e ≡ 0
 unregistered (makeFresh n k) none = refl
-unregistered (call n h p k a q) none = go (ℕ-discrete n (serviceNumber registerClient)) (ℕ-discrete (numberOf k) (numberOf Success))
+unregistered (call n h p k a q) none = each-way (ℕ-discrete n (serviceNumber registerClient)) (ℕ-discrete (numberOf k) (numberOf Success))
   where
-    go : Dec (n ≡ serviceNumber registerClient) → Dec (numberOf k ≡ numberOf Success) → registration (call n h p k a q) ≡ 0
-    go (yes e) (yes i) = absurd (none (code-injective k Success i, registerClient, sym e, register-issued))
-    go (no d) y =
+    each-way : Dec (n ≡ serviceNumber registerClient) → Dec (numberOf k ≡ numberOf Success) → registration (call n h p k a q) ≡ 0
+    each-way (yes e) (yes i) = absurd (none (code-injective k Success i, registerClient, sym e, register-issued))
+    each-way (no d) y =
         ap (λ (t : Bool). cond t (cond (eqb (numberOf k) (numberOf Success)) 1 0) 0) (ne-eqb n (serviceNumber registerClient) d)
-    go (yes e) (no d) = refused-issues n h p k a q (λ i. d (ap numberOf i))
+    each-way (yes e) (no d) = refused-issues n h p k a q (λ i. d (ap numberOf i))
 unregistered (cardIn s k) none = refl
 unregistered (cardOut s k) none = refl
 unregistered (boot b k i) none = refl
@@ -110,11 +95,11 @@ framed e F G t x none =
 
 -- a table's life goes on, or a fresh table names everything
 on-or-fresh : (e : Event) → GoesOn e ⊎ ((x : Name) → Names e x)
-on-or-fresh (makeFresh n k) = go (ℕ-discrete (numberOf k) (numberOf Success))
+on-or-fresh (makeFresh n k) = same-or-not (ℕ-discrete (numberOf k) (numberOf Success))
   where
-    go : Dec (numberOf k ≡ numberOf Success) → GoesOn (makeFresh n k) ⊎ ((x : Name) → Names (makeFresh n k) x)
-    go (yes e) = inr (λ x. code-injective k Success e)
-    go (no d) = inl (λ e. d (ap numberOf e))
+    same-or-not : Dec (numberOf k ≡ numberOf Success) → GoesOn (makeFresh n k) ⊎ ((x : Name) → Names (makeFresh n k) x)
+    same-or-not (yes e) = inr (λ x. code-injective k Success e)
+    same-or-not (no d) = inl (λ e. d (ap numberOf e))
 on-or-fresh (call n h p k a q) = inl tt
 on-or-fresh (cardIn s k) = inl tt
 on-or-fresh (cardOut s k) = inl tt

@@ -1,33 +1,16 @@
 -- How an example of a code is told: what a rule permits on a well-formed table is given. Assumes nothing.
-use mathlib.Core.Path.{_≡_, refl}
-use mathlib.Core.Logic.{_⊎_, inl, inr}
-use mathlib.Core.List.{List, [], _∷_}
-use mathlib.Core.Bool.{Bool, true, false, cond}
-use Prim.Native.Nat.{ℕ, zero, suc, _≤_, _<_}
-use native.Mathlib.Omega.{arith}
-use lib.ListN.{length}
-use lib.Dec.{T, ltb}
-use borrow.Author.Tests.{ltb-true}
-use Rattle.facts.specs.declared.Code.{Code}
-use Rattle.facts.specs.declared.Code.the-variants.{GeneralFailure}
-use Rattle.facts.specs.Table.{Facts}
-use Rattle.facts.specs.WellFormed.{WellFormed}
-use Rattle.facts.specs.Packets.{Bytes}
-use Rattle.facts.specs.Checks.{Outcome, Passed, Kept}
-use Rattle.facts.specs.Resources.{adjustChecks}
-use Rattle.facts.specs.Services.{Service, serviceNumber, ruleOf, Call}
-use Rattle.facts.specs.Boot.{BootBytes, stopped}
-use Rattle.facts.proofs.Laws.{service-laws}
-use Rattle.layout.specs.Layout.{image}
-use Rattle.layout.specs.Sound.{Accepted}
-use Rattle.layout.specs.Served.{Served, TableRefused}
-use Rattle.layout.proofs.Accepts.{accepted-sound}
-use Rattle.answers.specs.Answers.{packed}
-use Rattle.promises.specs.Entries.{CallAnswers}
-use Rattle.cases.specs.Cases.{refused}
-use Rattle.cases.proofs.Permitted.{as-kept, _then_, _nor_}
-use Rattle.history.specs.Events.{Ours}
-use Rattle.history.specs.Codes.{service, boot-list, CanGive}
+use Rattle.facts.proofs.Words.{_≡_, refl, _⊎_, inl, inr, List, [], _∷_, Bool, true, false, cond, ℕ, zero, suc, _≤_, _<_, arith, length, T, ltb}
+use Rattle.facts.proofs.Words.{ltb-true, WellFormed}
+use Rattle.facts.specs.{Code, GeneralFailure, Facts, Bytes, Outcome, Passed, Kept, adjustChecks, Service, serviceNumber, ruleOf, Call, BootBytes}
+use Rattle.facts.specs.{stopped, packed}
+use Rattle.facts.proofs.{service-laws}
+use Rattle.layout.specs.{image, Accepted, TableRefused}
+use Rattle.layout.specs.Served.{Served}
+use Rattle.layout.proofs.{accepted-sound}
+use Rattle.promises.specs.{CallAnswers}
+use Rattle.facts_cases.specs.{refused}
+use Rattle.facts_cases.proofs.{as-kept, _then_, _nor_}
+use Rattle.history.specs.{Ours, service, boot-list, CanGive}
 
 -- a packet's numbers are bytes: a computed test
 abbrev pub allBytes : List ℕ → Bool
@@ -36,11 +19,11 @@ allBytes (x ∷ p) = cond (ltb x 256) (allBytes p) false
 
 pub bytes : (p : List ℕ) → T (allBytes p) → Bytes p
 bytes [] t at = omega arith
-bytes (x ∷ p) t at = go (ltb x 256) (ltb-true x 256) (bytes p) t at
+bytes (x ∷ p) t at = marked-or-not (ltb x 256) (ltb-true x 256) (bytes p) t at
   where
-    go : (below : Bool) → (below ≡ true → x < 256) → (T (allBytes p) → Bytes p) → T (cond below (allBytes p) false) → Bytes (x ∷ p)
-    go true e later t zero = e refl
-    go true e later t (suc at) = later t at
+    marked-or-not : (below : Bool) → (below ≡ true → x < 256) → (T (allBytes p) → Bytes p) → T (cond below (allBytes p) false) → Bytes (x ∷ p)
+    marked-or-not true e later t zero = e refl
+    marked-or-not true e later t (suc at) = later t at
 
 -- no bytes at all are no table
 pub no-table : TableRefused [] [] GeneralFailure

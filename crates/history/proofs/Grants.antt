@@ -1,33 +1,14 @@
 -- How cards, levels and grants turn: card in and out, Add and Remove of a level, RequestIO and ReleaseIO, RequestIRQ and ReleaseIRQ. Assumes nothing.
-use mathlib.Core.Path.{_≡_, refl, ap, sym, _∙_, subst}
-use mathlib.Core.Logic.{_⊎_, inl, inr, _≢_}
-use mathlib.Core.List.{List}
-use mathlib.Core.Bool.{Bool, true}
-use mathlib.Core.Option.{Option, none, some, Option·none-ne-some, Option·some-ne-none, Option·some-injective}
-use Prim.Native.Nat.{ℕ, _+_, _≤_, _<_}
-use native.Mathlib.Decide.{ℕ-discrete, decLe}
-use native.Mathlib.Omega.{arith}
-use lib.ListN.{length}
-use Rattle.facts.specs.declared.Manner.{Manner}
-use Rattle.facts.specs.declared.Manner.the-variants.{Exclusive, TimeMultiplexed, DynamicLevel, DynamicPulse}
-use Rattle.facts.specs.Table
-use Rattle.facts.specs.Table.{Facts, Level, IoGrant, IrqGrant}
-use Rattle.facts.specs.Packets.{withWord}
-use Rattle.facts.specs.Checks.{Outcome, Passed}
-use Rattle.facts.specs.Sockets.{socketOf, withCard}
-use Rattle.facts.specs.Resources.{withLevel}
-use Rattle.facts.specs.Levels.{typeOf}
-use Rattle.facts.specs.Irq.{GrantsIrq, IrqHeld, withIrq, irqGrant, irqRequestChecks, irqReleaseChecks, requestIrqLength, ownIrqChecks, levelChecks}
-use Rattle.facts.specs.Irq.{mannerAsked, typeAsked, withPulse, assignedIrq}
-use Rattle.facts.specs.Io.{GrantsIo, IoHeld, BaseTaken, withIo, ioGrant, ioRequestChecks, ioReleaseChecks, requestIoLength, ownIoChecks, baseChecks}
-use Rattle.facts.specs.Io.{baseAsked, countAsked}
-use Rattle.facts.specs.Services.{requestIrq, releaseIrq, requestIo, releaseIo}
-use Rattle.facts.proofs.Sets.{put-same}
-use Rattle.facts.proofs.Told.{told}
-use Rattle.facts.proofs.ClientsStay.{request-passed}
-use Rattle.layout.proofs.Written.{byte-same, word-length, word-low, word-high}
-use Rattle.history.specs.Stands.{Fact, card, level, io, irq, Made, GivenBack, io-made, irq-made, io-back, irq-back}
-use Rattle.history.specs.Tables.{Tells}
+use Rattle.facts.proofs.Words.{_≡_, refl, ap, sym, _∙_, subst, _⊎_, inl, inr, _≢_, List, Bool, true, Option, none, some, Option·none-ne-some}
+use Rattle.facts.proofs.Words.{Option·some-ne-none, Option·some-injective, ℕ, _+_, _≤_, _<_, ℕ-discrete, decLe, arith, length}
+use Rattle.facts.specs.{Manner, Exclusive, TimeMultiplexed, DynamicLevel, DynamicPulse, Facts, Level, IoGrant, IrqGrant, withWord, Outcome, Passed}
+use Rattle.facts.specs.{socketOf, withCard, withLevel, typeOf, GrantsIrq, IrqHeld, withIrq, irqGrant, irqRequestChecks, irqReleaseChecks}
+use Rattle.facts.specs.{requestIrqLength, ownIrqChecks, levelChecks, mannerAsked, typeAsked, withPulse, assignedIrq, GrantsIo, IoHeld, BaseTaken}
+use Rattle.facts.specs.{withIo, ioGrant, ioRequestChecks, ioReleaseChecks, requestIoLength, ownIoChecks, baseChecks, baseAsked, countAsked}
+use Rattle.facts.specs.{requestIrq, releaseIrq, requestIo, releaseIo, allPorts}
+use Rattle.facts.proofs.{put-same, told, request-passed}
+use Rattle.layout.proofs.{byte-same, word-length, word-low, word-high}
+use Rattle.history.specs.{Fact, card, level, io, irq, Made, GivenBack, io-made, irq-made, io-back, irq-back, Tells}
 use Rattle.history.proofs.Turns.{Turned, Turns, unissued, by-kind, put-turned}
 use Rattle.history.proofs.Inverse.{io-only, irq-only, release-io-makes-none, release-irq-makes-none, io-back-only, irq-back-only}
 use Rattle.history.proofs.Inverse.{request-io-keeps, request-irq-keeps}
@@ -101,9 +82,9 @@ module _ (F : Facts) (h : ℕ) (p : List ℕ) (o : Outcome) where
       port : 1 ≤ countAsked p
       port = told (decLe 1 (countAsked p)) (λ d. own .1 .0 (inl (omega arith)))
 
-      small : BaseTaken F p (granted .base) → granted .base < Table.allPorts
+      small : BaseTaken F p (granted .base) → granted .base < allPorts
       small (inl named) =
-          omega (arith, port, named .1, told (decLe (baseAsked p + countAsked p) Table.allPorts) (λ d. own .1 .1 .1 .0 (named .0, inl (omega arith))))
+          omega (arith, port, named .1, told (decLe (baseAsked p + countAsked p) allPorts) (λ d. own .1 .1 .1 .0 (named .0, inl (omega arith))))
       small (inr chosen) = omega (arith, port, chosen .1 .fits .within)
 
   pub request-io-turns : Passed (ioRequestChecks F h p) → GrantsIo F h p o

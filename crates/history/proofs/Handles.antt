@@ -1,27 +1,11 @@
 -- RegisterClient never answers a handle again, and never 0. Assumes nothing.
-use mathlib.Core.Path.{_≡_, refl, ap, sym, _∙_, subst}
-use mathlib.Core.Logic.{inl, inr}
-use mathlib.Core.List.{List, [], _∷_, _++_, append-assoc}
-use mathlib.Core.Bool.{Bool, cond}
-use Prim.Native.Nat.{ℕ, _+_}
-use native.Mathlib.Nat.{zero-add}
-use native.Mathlib.Omega.{arith}
-use lib.Dec.{eqb}
-use borrow.Author.Tests.{eq-eqb}
-use Rattle.facts.specs.declared.Code.{Code}
-use Rattle.facts.specs.declared.Code.the-variants.{Success}
-use Rattle.facts.specs.declared.Record.{Record}
-use Rattle.facts.specs.Codes.{numberOf}
-use Rattle.facts.specs.Table.{Facts}
-use Rattle.facts.specs.Sets.{_∈_}
-use Rattle.facts.specs.Checks.{Outcome}
-use Rattle.facts.specs.Clients.{registerChecks, nextHandle}
-use Rattle.facts.specs.Services.{Service, registerClient, serviceNumber, ruleOf}
-use Rattle.facts.proofs.Unique.{number-injective}
-use Rattle.facts.proofs.Refusals.{none-succeeds, first-not-success}
-use Rattle.history.specs.Events.{Event, makeFresh, call, cardIn, cardOut, boot, sharers, Ours, FromFresh}
-use Rattle.history.specs.Stands.{client, Made, Recorded, Registers, registration, registrations, client-made}
-use Rattle.history.specs.Demand.{NeverAgain}
+use Rattle.facts.proofs.Words.{_≡_, refl, ap, sym, _∙_, subst, inl, inr, List, [], _∷_, _++_, append-assoc, Bool, cond, ℕ, _+_, zero-add, arith, eqb}
+use Rattle.facts.proofs.Words.{eq-eqb}
+use Rattle.facts.specs.{Code, Success, Record, numberOf, Facts, _∈_, Outcome, registerChecks, nextHandle, Service, registerClient, serviceNumber}
+use Rattle.facts.specs.{ruleOf}
+use Rattle.facts.proofs.{number-injective, none-succeeds, first-not-success}
+use Rattle.history.specs.{Event, makeFresh, call, cardIn, cardOut, boot, sharers, Ours, FromFresh, client, Made, Recorded, Registers}
+use Rattle.history.specs.{registration, registrations, client-made, NeverAgain}
 use Rattle.history.proofs.Answered.{Rules, stepped}
 use Rattle.history.proofs.Turns.{kind}
 use Rattle.history.proofs.Runs.{exact, cut-short}

@@ -1,34 +1,15 @@
 -- No service and no call of the host gives another code than those listed for it. Assumes nothing.
-use mathlib.Core.Path.{_≡_, refl, sym, subst}
-use mathlib.Core.Logic.{inl, inr, ⊎-elim}
-use mathlib.Core.List.{List, [], _∷_}
-use mathlib.Core.Bool.{Bool, true, false, cond}
-use Prim.Native.Nat.{ℕ, _%_}
-use lib.ListN.{length}
-use lib.Dec.{T, eqb}
-use Rattle.facts.specs.declared.Code.{Code}
-use Rattle.facts.specs.declared.Code.the-variants.{Success, GeneralFailure, BadArgLength}
-use Rattle.facts.specs.declared.Record.{Record}
-use Rattle.facts.specs.declared.Width.{Width}
-use Rattle.facts.specs.Codes.{numberOf}
-use Rattle.facts.specs.Table
-use Rattle.facts.specs.Table.{Facts}
-use Rattle.facts.specs.Sets.{_∈_}
-use Rattle.facts.specs.Checks.{Check, Outcome, FirstGiven, DecidedThen, Decided}
-use Rattle.facts.specs.Clients.{registerChecks, deregisterChecks}
-use Rattle.facts.specs.Sockets.{cardChecks, requestMaskChecks, releaseMaskChecks}
-use Rattle.facts.specs.Resources.{AdjustIrq, AdjustIo, ByResource, ioRange, actionOf, levelGiven, levelAttributes, baseGiven, countGiven}
-use Rattle.facts.specs.Resources.{attributesGiven, linesGiven, adjustChecks, addLevelChecks, removeLevelChecks, showLevelChecks, addRangeChecks}
-use Rattle.facts.specs.Resources.{removeRangeChecks, showRangeChecks}
-use Rattle.facts.specs.Irq.{irqRequestChecks, irqReleaseChecks, sharersChecks}
-use Rattle.facts.specs.Io.{ioRequestChecks, ioReleaseChecks}
-use Rattle.facts.specs.Boot.{Boot, Booted, ended, refused, added, recordSize, recordsOf, endOf, recordChecks}
-use Rattle.facts.specs.Services.{Service, registerClient, deregisterClient, adjustResourceInfo, requestIrq, releaseIrq, requestIo, releaseIo}
-use Rattle.facts.specs.Services.{requestSocketMask, releaseSocketMask, ruleOf, serviceNumber, Call}
-use Rattle.facts.proofs.Codes.{code-injective}
-use Rattle.facts.proofs.Unique.{number-injective}
-use Rattle.history.specs.Events.{Ours}
-use Rattle.history.specs.Codes.{Asked, service, no-service, card-in, card-out, boot-list, sharers-of, fresh-table, codesOf, CanGive}
+use Rattle.facts.proofs.Words.{_≡_, refl, sym, subst, inl, inr, ⊎-elim, List, [], _∷_, Bool, true, false, cond, ℕ, _%_, length, T, eqb}
+use Rattle.facts.specs.{Code, Success, GeneralFailure, BadArgLength, Record, Width, numberOf, Facts, _∈_, Check, Outcome, FirstGiven, DecidedThen}
+use Rattle.facts.specs.{Decided, registerChecks, deregisterChecks, cardChecks, requestMaskChecks, releaseMaskChecks, AdjustIrq, AdjustIo, ByResource}
+use Rattle.facts.specs.{ioRange, actionOf, levelGiven, levelAttributes, baseGiven, countGiven, attributesGiven, linesGiven, adjustChecks}
+use Rattle.facts.specs.{addLevelChecks, removeLevelChecks, showLevelChecks, addRangeChecks, removeRangeChecks, showRangeChecks, irqRequestChecks}
+use Rattle.facts.specs.{irqReleaseChecks, sharersChecks, ioRequestChecks, ioReleaseChecks, Booted, ended, refused, added, recordSize, recordsOf}
+use Rattle.facts.specs.{endOf, recordChecks, Service, registerClient, deregisterClient, adjustResourceInfo, requestIrq, releaseIrq, requestIo}
+use Rattle.facts.specs.{releaseIo, requestSocketMask, releaseSocketMask, ruleOf, serviceNumber, Call, mostLines}
+use Rattle.facts.specs.Boot.{Boot}
+use Rattle.facts.proofs.{code-injective, number-injective}
+use Rattle.history.specs.{Ours, Asked, service, no-service, card-in, card-out, boot-list, sharers-of, fresh-table, codesOf, CanGive}
 use Rattle.history.proofs.Listed.{lists, listed}
 use Rattle.history.proofs.Answered.{called, carded, booted, counted}
 
@@ -44,11 +25,11 @@ listAll ks [] = listsCode ks Success
 listAll ks (c ∷ cs) = cond (listsCode ks (c .code)) (listAll ks cs) false
 
 all-listed : (ks : List Code) (c : Check) (cs : List Check) → T (listAll ks (c ∷ cs)) → (c .code ∈ ks) × T (listAll ks cs)
-all-listed ks c cs = go (listsCode ks (c .code)) (code-listed ks (c .code))
+all-listed ks c cs = marked-or-not (listsCode ks (c .code)) (code-listed ks (c .code))
   where
-    go : (t : Bool) → (T t → c .code ∈ ks) → T (cond t (listAll ks cs) false) → (c .code ∈ ks) × T (listAll ks cs)
-    go true e t = (e tt, t)
-    go false e t = absurd t
+    marked-or-not : (t : Bool) → (T t → c .code ∈ ks) → T (cond t (listAll ks cs) false) → (c .code ∈ ks) × T (listAll ks cs)
+    marked-or-not true e t = (e tt, t)
+    marked-or-not false e t = absurd t
 
 -- then what is decided by the checks has a code that is listed
 module _ (ks : List Code) (k : Code) where
@@ -62,7 +43,7 @@ module _ (ks : List Code) (k : Code) where
   first-listed (c ∷ cs) t (inr f) = first-listed cs (all-listed ks c cs t .1) (f .1)
 
   decided-then-listed : (cs : List Check) {kept rest : Type 0} → T (listAll ks cs) → (rest → k ∈ ks) → DecidedThen cs k kept rest → k ∈ ks
-  decided-then-listed cs t go = ⊎-elim (λ f. first-listed cs t (f .0)) (λ r. go (r .1))
+  decided-then-listed cs t marked-or-not = ⊎-elim (λ f. first-listed cs t (f .0)) (λ r. marked-or-not (r .1))
 
   decided-listed : (cs : List Check) {kept done : Type 0} → T (listAll ks cs) → Decided cs k kept done → k ∈ ks
   decided-listed cs t = decided-then-listed cs t (λ d. success-listed cs t (d .0))
@@ -105,20 +86,20 @@ module _ (F : Facts) (h : ℕ) (p : List ℕ) (o : Outcome) where
 
 -- the boot list
 record-listed : (F : Facts) (r : Record) → T (listAll (codesOf boot-list) (recordChecks F r))
-record-listed F r = go (eqb (r .resource) ioRange)
+record-listed F r = marked-or-not (eqb (r .resource) ioRange)
   where
-    go : (io : Bool)
+    marked-or-not : (io : Bool)
         → T (listAll (codesOf boot-list)
-        (cond io (addRangeChecks F (r .base) (r .count) (r .attributes) Table.mostLines) (addLevelChecks F (r .base) (r .attributes))))
-    go true = tt
-    go false = tt
+        (cond io (addRangeChecks F (r .base) (r .count) (r .attributes) mostLines) (addLevelChecks F (r .base) (r .attributes))))
+    marked-or-not true = tt
+    marked-or-not false = tt
 
 end-listed : (b : List ℕ) → endOf b ∈ codesOf boot-list
-end-listed b = go (eqb (length b % recordSize) 0)
+end-listed b = marked-or-not (eqb (length b % recordSize) 0)
   where
-    go : (none : Bool) → cond none Success BadArgLength ∈ codesOf boot-list
-    go true = code-listed (codesOf boot-list) Success tt
-    go false = code-listed (codesOf boot-list) BadArgLength tt
+    marked-or-not : (none : Bool) → cond none Success BadArgLength ∈ codesOf boot-list
+    marked-or-not true = code-listed (codesOf boot-list) Success tt
+    marked-or-not false = code-listed (codesOf boot-list) BadArgLength tt
 
 module _ (e : Code) (listed : e ∈ codesOf boot-list) where
   boot-listed : (F : Facts) (rs : List Record) (i : ℕ) (o : Booted) → Boot e F rs i o → o .code ∈ codesOf boot-list

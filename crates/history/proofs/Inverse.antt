@@ -1,24 +1,11 @@
 -- What a service makes and gives back, and that it is nothing else. Assumes nothing.
-use mathlib.Core.Path.{_≡_}
-use mathlib.Core.List.{List}
-use mathlib.Core.Bool.{Bool}
-use Prim.Native.Nat.{ℕ}
-use lib.ListN.{length}
-use Rattle.facts.specs.declared.Record.{Record}
-use Rattle.facts.specs.declared.Width.{Width}
-use Rattle.facts.specs.Table.{IoGrant, IrqGrant}
-use Rattle.facts.specs.Clients.{clientAttributes, clientEvents}
-use Rattle.facts.specs.Sockets.{socketOf, eventsAsked}
-use Rattle.facts.specs.Resources.{actionOf, resourceOf, add, remove, irqLevel, ioRange, levelGiven, levelAttributes, ioAdjustLength, reserves}
-use Rattle.facts.specs.Resources.{baseGiven, countGiven, attributesGiven}
-use Rattle.facts.specs.Levels.{typeOf}
-use Rattle.facts.specs.Irq.{assignedIrq, typeAsked, mannerAsked}
-use Rattle.facts.specs.Io.{baseAsked, countAsked, portsAt, sharedAsked}
-use Rattle.facts.specs.Services.{registerClient, deregisterClient, adjustResourceInfo, requestIrq, releaseIrq, requestIo, releaseIo}
-use Rattle.facts.specs.Services.{requestSocketMask, releaseSocketMask}
-use Rattle.history.specs.Stands.{Fact, client, mask, level, range, io, irq, Made, GivenBack, Recorded}
-use Rattle.history.specs.Stands.{client-made, mask-made, level-made, range-made, io-made, irq-made}
-use Rattle.history.specs.Stands.{client-back, mask-back, level-back, range-back, io-back, irq-back, level-recorded, range-recorded}
+use Rattle.facts.proofs.Words.{_≡_, List, Bool, ℕ, length}
+use Rattle.facts.specs.{Record, Width, IoGrant, IrqGrant, clientAttributes, clientEvents, socketOf, eventsAsked, actionOf, resourceOf, add, remove}
+use Rattle.facts.specs.{irqLevel, ioRange, levelGiven, levelAttributes, ioAdjustLength, reserves, baseGiven, countGiven, attributesGiven, typeOf}
+use Rattle.facts.specs.{assignedIrq, typeAsked, mannerAsked, baseAsked, countAsked, portsAt, sharedAsked, registerClient, deregisterClient}
+use Rattle.facts.specs.{adjustResourceInfo, requestIrq, releaseIrq, requestIo, releaseIo, requestSocketMask, releaseSocketMask}
+use Rattle.history.specs.{Fact, client, mask, level, range, io, irq, Made, GivenBack, Recorded, client-made, mask-made, level-made, range-made}
+use Rattle.history.specs.{io-made, irq-made, client-back, mask-back, level-back, range-back, io-back, irq-back, level-recorded, range-recorded}
 
 module _ {h : ℕ} {p : List ℕ} {a : ℕ} {q : List ℕ} (P : Fact → Type 0) where
   pub client-only : P (client a (clientAttributes p) (clientEvents p)) → (f : Fact) → Made h p a q registerClient f → P f

@@ -1,28 +1,15 @@
 -- Any two outcomes coincide, a refusal keeps every byte, other tables are refused, and the codes are the fifteen. Assumes nothing.
-use mathlib.Core.Path.{_≡_, refl, ap, sym, _∙_, subst}
-use mathlib.Core.Logic.{⊎-elim}
-use mathlib.Core.List.{List, []}
-use mathlib.Core.Bool.{true, false}
-use Prim.Native.Nat.{ℕ}
-use native.Mathlib.Nat.{add-zero}
-use native.Mathlib.Decide.{ℕ-discrete}
-use native.Mathlib.Omega.{arith}
-use lib.Dec.{T}
-use Rattle.facts.specs.declared.Code.{Code}
-use Rattle.facts.specs.declared.Code.the-variants.{Success, BadAttribute, BadBase, BadIrq, BadSize, BadSocket, NoCard, UnsupportedService}
-use Rattle.facts.specs.declared.Code.the-variants.{GeneralFailure, BadArgLength, BadArgs, InUse, NoMoreItems, OutOfResource, BadHandle}
-use Rattle.facts.specs.Codes.{numberOf}
-use Rattle.facts.specs.Sets.{_∈_}
-use Rattle.facts.specs.Boot.{recordsIn, recordsAdded}
-use Rattle.facts.proofs.Codes.{code-injective}
-use Rattle.layout.specs.Layout.{image}
-use Rattle.layout.specs.Sound.{Accepted}
-use Rattle.promises.proofs.Laws.{laws}
-use Rattle.cases.proofs.Permitted.{_then_}
+use Rattle.facts.proofs.Words.{_≡_, refl, ap, sym, _∙_, subst, ⊎-elim, List, [], true, false, ℕ, add-zero, ℕ-discrete, arith, T}
 use Rattle.history.specs.Given as entry
+use Rattle.facts.specs.{Code, Success, BadAttribute, BadBase, BadIrq, BadSize, BadSocket, NoCard, UnsupportedService, GeneralFailure, BadArgLength}
+use Rattle.facts.specs.{BadArgs, InUse, NoMoreItems, OutOfResource, BadHandle, numberOf, _∈_, recordsIn, recordsAdded}
+use Rattle.facts.proofs.{code-injective}
+use Rattle.layout.specs.{image, Accepted}
+use Rattle.promises.proofs.{laws}
+use Rattle.facts_cases.proofs.{_then_}
 use Rattle.history.specs.Given.{Given}
-use Rattle.history.specs.Events.{Event, given, codeIn, makeFresh, call, cardIn, cardOut, boot, sharers, Ours}
-use Rattle.history.specs.Laws.{OneOutcome, RefusalKeeps, UnformedRefused, Stays, BootPlaces, TheCodes, fifteen}
+use Rattle.history.specs.{Event, given, codeIn, makeFresh, call, cardIn, cardOut, boot, sharers, Ours, OneOutcome, RefusalKeeps}
+use Rattle.history.specs.{UnformedRefused, Stays, BootPlaces, TheCodes, fifteen}
 use Rattle.history.proofs.Listed.{Each, each-in, lists, listed}
 use Rattle.history.proofs.Answered.{packed-code, packed-number, placed-code, placed-number, call-parts, boot-parts, sharers-parts}
 use Rattle.history.proofs.Runs.{passes}
@@ -114,11 +101,11 @@ unformed-refused (boot r k i) b b′ x none =
 unformed-refused (sharers l k c) b b′ x none = sharers-parts l k c (x .0) .0 ∙ laws .sharers l b .unformed _ (x .0) none
 
 pub stays : Stays Ours
-stays (makeFresh n k) b b′ x a = go (ℕ-discrete (numberOf k) (numberOf Success))
+stays (makeFresh n k) b b′ x a = same-or-not (ℕ-discrete (numberOf k) (numberOf Success))
   where
-    go : Dec (numberOf k ≡ numberOf Success) → Accepted b′
-    go (yes e) = laws .fresh n b .accepted b′ (numberOf k) x e .0
-    go (no d) = subst Accepted (sym (laws .fresh n b .refusal b′ (numberOf k) x d)) a
+    same-or-not : Dec (numberOf k ≡ numberOf Success) → Accepted b′
+    same-or-not (yes e) = laws .fresh n b .accepted b′ (numberOf k) x e .0
+    same-or-not (no d) = subst Accepted (sym (laws .fresh n b .refusal b′ (numberOf k) x d)) a
 stays (call n h p k v q) b b′ x a = laws .call n h b p .stays b′ q _ a x
 stays (cardIn s k) b b′ x a = laws .card true s b .stays b′ _ a x
 stays (cardOut s k) b b′ x a = laws .card false s b .stays b′ _ a x

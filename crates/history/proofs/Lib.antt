@@ -28,3 +28,6 @@ pub mod WrongGrants
 pub mod WrongOnce
 pub mod WrongHistory
 pub mod WrongSamples
+pub use Answered.{entries}
+pub use Pinned.{said-once}
+pub use Demand.{demand-3, entry-laws}

@@ -1,12 +1,6 @@
 -- That something is listed: a computed test; and what holds of each of those listed. Assumes nothing.
-use mathlib.Core.Path.{_≡_, refl, sym, subst}
-use mathlib.Core.Logic.{inl, inr}
-use mathlib.Core.List.{List, [], _∷_}
-use mathlib.Core.Bool.{Bool, true, false, cond}
-use Prim.Native.Nat.{ℕ}
-use lib.Dec.{T, eqb}
-use borrow.Author.Tests.{eqb-true}
-use Rattle.facts.specs.Sets.{_∈_}
+use Rattle.facts.proofs.Words.{_≡_, refl, sym, subst, inl, inr, List, [], _∷_, Bool, true, false, cond, ℕ, T, eqb, eqb-true}
+use Rattle.facts.specs.{_∈_}
 
 -- things that are told apart by their numbers
 module _ {A : Type 0} (number : A → ℕ) (one : (x y : A) → number x ≡ number y → x ≡ y) where
@@ -16,11 +10,11 @@ module _ {A : Type 0} (number : A → ℕ) (one : (x y : A) → number x ≡ num
 
   pub listed : (ys : List A) (x : A) → T (lists ys x) → x ∈ ys
   listed [] x t = t
-  listed (y ∷ ys) x t = go (eqb (number x) (number y)) (eqb-true (number x) (number y)) (listed ys x) t
+  listed (y ∷ ys) x t = marked-or-not (eqb (number x) (number y)) (eqb-true (number x) (number y)) (listed ys x) t
     where
-      go : (same : Bool) → (same ≡ true → number x ≡ number y) → (T (lists ys x) → x ∈ ys) → T (cond same true (lists ys x)) → x ∈ (y ∷ ys)
-      go true e later t = inl (one x y (e refl))
-      go false e later t = inr (later t)
+      marked-or-not : (same : Bool) → (same ≡ true → number x ≡ number y) → (T (lists ys x) → x ∈ ys) → T (cond same true (lists ys x)) → x ∈ (y ∷ ys)
+      marked-or-not true e later t = inl (one x y (e refl))
+      marked-or-not false e later t = inr (later t)
 
 -- each of those listed
 module _ {A : Type 0} (P : A → Type 0) where

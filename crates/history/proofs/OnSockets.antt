@@ -1,27 +1,12 @@
 -- The services on a socket: what each begins with, and what is left to it. Assumes nothing.
-use mathlib.Core.Path.{_≡_, refl, ap}
-use mathlib.Core.Logic.{inl}
-use mathlib.Core.List.{List, [], _∷_}
-use Prim.Native.Nat.{ℕ, _+_}
-use native.Mathlib.Omega.{arith}
-use lib.ListN.{length, drop, replicate, length-replicate}
-use lib.Dec.{T}
-use Rattle.facts.specs.declared.Code.{Code}
-use Rattle.facts.specs.declared.Code.the-variants.{GeneralFailure, BadArgLength, BadHandle, BadSocket}
-use Rattle.facts.specs.Table.{Facts, Client, fresh}
-use Rattle.facts.specs.Sets.{_∈_}
-use Rattle.facts.specs.WellFormed.{WellFormed, Live}
-use Rattle.facts.specs.Checks.{Check, FirstGiven, Passed}
-use Rattle.facts.specs.Sockets.{releaseChecks, requestMaskChecks, releaseMaskChecks}
-use Rattle.facts.specs.Irq.{irqRequestChecks, irqReleaseChecks}
-use Rattle.facts.specs.Io.{ioRequestChecks, ioReleaseChecks}
-use Rattle.facts.specs.Services.{Service, registerClient, requestIrq, releaseIrq, requestIo, releaseIo, requestSocketMask, releaseSocketMask, ruleOf}
-use Rattle.facts.proofs.Formed.{fresh-formed}
-use Rattle.cases.specs.Cases.{done, refused, oneClient, clientPacket}
-use Rattle.cases.proofs.Cases.{cases}
-use Rattle.cases.proofs.Permitted.{_then_, _nor_, listed-alone}
-use Rattle.history.specs.Events.{Ours}
-use Rattle.history.specs.Codes.{service, CanGive}
+use Rattle.facts.proofs.Words.{_≡_, refl, ap, inl, List, [], _∷_, ℕ, _+_, arith, length, drop, replicate, length-replicate, T, WellFormed}
+use Rattle.facts.specs.{Code, GeneralFailure, BadArgLength, BadHandle, BadSocket, Facts, Client, fresh, _∈_, Live, Check, FirstGiven, Passed}
+use Rattle.facts.specs.{releaseChecks, requestMaskChecks, releaseMaskChecks, irqRequestChecks, irqReleaseChecks, ioRequestChecks, ioReleaseChecks}
+use Rattle.facts.specs.{Service, registerClient, requestIrq, releaseIrq, requestIo, releaseIo, requestSocketMask, releaseSocketMask, ruleOf}
+use Rattle.facts.proofs.{fresh-formed}
+use Rattle.facts_cases.specs.{done, refused, oneClient, clientPacket}
+use Rattle.facts_cases.proofs.{cases, _then_, _nor_, listed-alone}
+use Rattle.history.specs.{Ours, service, CanGive}
 use Rattle.history.proofs.Giving.{allBytes, left, general, refuses, first, here, _past_}
 
 -- a table for the examples: it is well formed, and the client 1 is live

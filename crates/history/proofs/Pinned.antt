@@ -1,18 +1,10 @@
 -- Two well-formed sets that say the same facts are one set, so what stands fixes every byte of the table. Assumes nothing.
-use mathlib.Core.Path.{_≡_, refl, ap, sym, _∙_, subst, fun-ext}
-use mathlib.Core.Logic.{inl, inr, ⊎-elim}
-use mathlib.Core.List.{List, [], _∷_}
-use mathlib.Core.Bool.{Bool, true, false, false≢true}
-use mathlib.Core.Option.{Option, none, some}
-use Prim.Native.Nat.{ℕ, _+_, _≤_}
-use native.Mathlib.Omega.{arith}
-use Rattle.facts.specs.Table.{Facts, Client, Level, Range}
-use Rattle.facts.specs.Sets.{_∈_}
-use Rattle.facts.specs.WellFormed.{WellFormed, Rising, Apart}
-use Rattle.facts.proofs.Sets.{rising-over}
-use Rattle.layout.specs.Layout.{image}
-use Rattle.history.specs.Stands.{Fact, client, mask, level, range, card, io, irq}
-use Rattle.history.specs.Tables.{Tells, SaidOnce}
+use Rattle.facts.proofs.Words.{_≡_, refl, ap, sym, _∙_, subst, fun-ext, inl, inr, ⊎-elim, List, [], _∷_, Bool, true, false, false≢true, Option, none}
+use Rattle.facts.proofs.Words.{some, ℕ, _+_, _≤_, arith, WellFormed}
+use Rattle.facts.specs.{Facts, Client, Level, Range, _∈_, Rising, Apart}
+use Rattle.facts.proofs.{rising-over}
+use Rattle.layout.specs.{image}
+use Rattle.history.specs.{Fact, client, mask, level, range, card, io, irq, Tells, SaidOnce}
 
 -- lists in order of a number, each over the one before it
 module _ {A : Type 0} (number : A → ℕ) where
@@ -123,12 +115,12 @@ same-clients F G w v f g =
     (rising-ordered 0 (G .clients) (v .handles)) (client-in F G w v f g) (client-in G F v w g f)
 
 same-level : (F G : Facts) → WellFormed F → WellFormed G → SaysAll F G → SaysAll G F → (l : ℕ) → F .level l ≡ G .level l
-same-level F G w v f g l = go (F .level l .managed) (G .level l .managed) refl refl
+same-level F G w v f g l = each-mark (F .level l .managed) (G .level l .managed) refl refl
   where
-    go : (x y : Bool) → F .level l .managed ≡ x → G .level l .managed ≡ y → F .level l ≡ G .level l
-    go true y e e′ = managed-in F G w v f g l e
-    go false true e e′ = sym (managed-in G F v w g f l e′)
-    go false false e e′ =
+    each-mark : (x y : Bool) → F .level l .managed ≡ x → G .level l .managed ≡ y → F .level l ≡ G .level l
+    each-mark true y e e′ = managed-in F G w v f g l e
+    each-mark false true e e′ = sym (managed-in G F v w g f l e′)
+    each-mark false false e e′ =
         λ i. record {
           managed = (e ∙ sym e′) i;
           reserved =

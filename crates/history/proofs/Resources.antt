@@ -1,33 +1,13 @@
 -- How managed levels and ranges turn: Add and Remove, and the records of a boot list. Assumes nothing.
-use mathlib.Core.Path.{_≡_, refl, ap, sym, _∙_, subst}
-use mathlib.Core.Logic.{_⊎_, inl, inr, ⊎-elim, _≢_}
-use mathlib.Core.List.{List, [], _∷_}
-use mathlib.Core.Bool.{Bool, cond, true, false, false≢true}
-use Prim.Native.Nat.{ℕ, zero, suc, _+_, _*_, _≤_}
-use native.Mathlib.Decide.{ℕ-discrete, decLe}
-use native.Mathlib.Omega.{arith}
-use lib.ListN.{length, take}
-use lib.Dec.{eqb}
-use borrow.Author.Tests.{eqb-true, eqb-false}
-use Rattle.facts.specs.declared.Code.{Code}
-use Rattle.facts.specs.declared.Record.{Record}
-use Rattle.facts.specs.Table
-use Rattle.facts.specs.Table.{Facts, Level, Range}
-use Rattle.facts.specs.Sets.{_∈_}
-use Rattle.facts.specs.WellFormed.{WellFormed}
-use Rattle.facts.specs.Checks.{Passed}
-use Rattle.facts.specs.Resources.{withoutRange, levelAdded, levelRemoved, rangeAdded, rangeRemoved, reserves, ioRange, irqLevel, NotBuilt}
-use Rattle.facts.specs.Resources.{addLevelChecks, addRangeChecks, removeRangeChecks}
-use Rattle.facts.specs.Boot.{Boot, BootBytes, Booted, ended, refused, added, recordSize, recordsIn, recordsOf, endOf, recordChecks, recordAdded}
-use Rattle.facts.proofs.Sets.{put-same, in-without, without-in, apart-left-out}
-use Rattle.facts.proofs.Told.{told}
-use Rattle.facts.proofs.Unique.{range-unique}
-use Rattle.facts.proofs.Resources.{three-or-four}
-use Rattle.facts.proofs.Refusals.{boot-place}
-use Rattle.facts.proofs.Laws.{host-laws, bytes-laws}
-use Rattle.facts.proofs.ResourcesStay.{inserted-in, in-inserted, new-inserted}
-use Rattle.history.specs.Stands.{Fact, level, range, Recorded, level-recorded, range-recorded}
-use Rattle.history.specs.Tables.{Tells}
+use Rattle.facts.proofs.Words.{_≡_, refl, ap, sym, _∙_, subst, _⊎_, inl, inr, ⊎-elim, _≢_, List, [], _∷_, Bool, cond, true, false, false≢true, ℕ}
+use Rattle.facts.proofs.Words.{zero, suc, _+_, _*_, _≤_, ℕ-discrete, decLe, arith, length, take, eqb, eqb-true, eqb-false, WellFormed}
+use Rattle.facts.specs.{Code, Record, Facts, Level, Range, _∈_, Passed, withoutRange, levelAdded, levelRemoved, rangeAdded, rangeRemoved, reserves}
+use Rattle.facts.specs.{ioRange, irqLevel, NotBuilt, addLevelChecks, addRangeChecks, removeRangeChecks, BootBytes, Booted, ended, refused, added}
+use Rattle.facts.specs.{recordSize, recordsIn, recordsOf, endOf, recordChecks, recordAdded, mostLines}
+use Rattle.facts.specs.Boot.{Boot}
+use Rattle.facts.proofs.{put-same, in-without, without-in, apart-left-out, told, range-unique, three-or-four, boot-place, host-laws, bytes-laws}
+use Rattle.facts.proofs.{inserted-in, in-inserted, new-inserted}
+use Rattle.history.specs.{Fact, level, range, Recorded, level-recorded, range-recorded, Tells}
 use Rattle.history.proofs.Turns.{Turned, Turns, unissued, by-kind, unturned}
 use Rattle.history.proofs.Grants.{level-turns}
 use Rattle.history.proofs.Inverse.{recorded-only}
@@ -100,7 +80,7 @@ module _ (F : Facts) (Back New : Fact → Type 0) (none : (f : Fact) → New f �
 -- one record of a boot list
 pub record-turns : (F : Facts) (r : Record) → Passed (recordChecks F r) → Turns (λ (f : Fact). ⊥) (Recorded r) 0 F (recordAdded F r)
 record-turns F r passed =
-    go (eqb (r .resource) ioRange) (eqb-true (r .resource) ioRange) (eqb-false (r .resource) ioRange) (passed .1 .1)
+    marked-or-not (eqb (r .resource) ioRange) (eqb-true (r .resource) ioRange) (eqb-false (r .resource) ioRange) (passed .1 .1)
   where
     -- a resource that is built and isn't I/O is a level
     is-level : r .resource ≢ ioRange → r .resource ≡ irqLevel
@@ -113,14 +93,14 @@ record-turns F r passed =
         other n (yes l) = three-or-four (r .resource) l most
         other n (no l) = inl (omega (arith, d, n, l))
 
-    go : (t : Bool) → (t ≡ true → r .resource ≡ ioRange) → (t ≡ false → r .resource ≡ ioRange → ⊥)
-        → Passed (cond t (addRangeChecks F (r .base) (r .count) (r .attributes) Table.mostLines) (addLevelChecks F (r .base) (r .attributes)))
+    marked-or-not : (t : Bool) → (t ≡ true → r .resource ≡ ioRange) → (t ≡ false → r .resource ≡ ioRange → ⊥)
+        → Passed (cond t (addRangeChecks F (r .base) (r .count) (r .attributes) mostLines) (addLevelChecks F (r .base) (r .attributes)))
         → Turns (λ (f : Fact). ⊥) (Recorded r) 0 F (cond t (rangeAdded F (r .base) (r .count) (r .attributes)) (levelAdded F (r .base) (r .attributes)))
-    go true io not passed =
+    marked-or-not true io not passed =
         range-added-turns F _ (Recorded r) (λ f b. b) (r .base) (r .count) (r .attributes) (range-recorded (io refl))
         (recorded-only (λ (f : Fact). f ≡ range (record { base = r .base; count = r .count; reserved = reserves (r .attributes) }))
         (λ e. absurd (omega (arith, e, io refl))) (λ e. refl))
-    go false io not passed =
+    marked-or-not false io not passed =
         level-added-turns F _ (Recorded r) (λ f b. b) (r .base) (r .attributes) passed (level-recorded (is-level (not refl)))
         (recorded-only (λ (f : Fact). f ≡ level (r .base) (reserves (r .attributes))) (λ e. refl) (λ e. absurd (not refl e)))
 

@@ -1,21 +1,10 @@
 -- After any run the table says exactly what stands. Assumes nothing.
-use mathlib.Core.Path.{_≡_, refl, ap, sym, _∙_, subst}
-use mathlib.Core.Logic.{inl, inr, ⊎-elim}
-use mathlib.Core.List.{List, [], _∷_, _++_}
-use mathlib.Core.Bool.{false≢true}
-use mathlib.Core.Option.{Option·none-ne-some}
-use Prim.Native.Nat.{ℕ}
-use native.Mathlib.Nat.{add-zero}
-use native.Mathlib.Omega.{arith}
-use Rattle.facts.specs.declared.Code.the-variants.{Success}
-use Rattle.facts.specs.Codes.{numberOf}
-use Rattle.facts.specs.Table.{Facts, Level, fresh}
-use Rattle.layout.specs.Sound.{Accepted}
-use Rattle.promises.proofs.Laws.{laws}
-use Rattle.history.specs.Events.{Event, makeFresh, Keeper, Ours, GoesOn, Runs, FromFresh}
-use Rattle.history.specs.Stands.{Fact}
-use Rattle.history.specs.Tables.{Tells}
-use Rattle.history.specs.Demand.{Exact, ExactSince}
+use Rattle.facts.proofs.Words.{_≡_, refl, ap, sym, _∙_, subst, inl, inr, ⊎-elim, List, [], _∷_, _++_, false≢true, Option·none-ne-some, ℕ, add-zero}
+use Rattle.facts.proofs.Words.{arith}
+use Rattle.facts.specs.{Success, numberOf, Facts, Level, fresh}
+use Rattle.layout.specs.{Accepted}
+use Rattle.promises.proofs.{laws}
+use Rattle.history.specs.{Event, makeFresh, Keeper, Ours, GoesOn, Runs, FromFresh, Fact, Tells, Exact, ExactSince}
 use Rattle.history.proofs.Answered.{stepped}
 use Rattle.history.proofs.Standing.{stands-never, since-first, first-since}
 use Rattle.history.proofs.Turns.{turned, by-kind}

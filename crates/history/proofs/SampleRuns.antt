@@ -1,31 +1,15 @@
 -- Runs for the wrong keepers: what happens before a first grant, on tables of the examples. Assumes nothing.
-use mathlib.Core.Path.{_≡_, refl}
-use mathlib.Core.Logic.{inl, inr}
-use mathlib.Core.List.{List, [], _∷_, _++_}
-use mathlib.Core.Bool.{true, false≢true}
-use mathlib.Core.Option.{some, Option·none-ne-some}
-use Prim.Native.Nat.{ℕ, _<_}
-use native.Mathlib.Omega.{arith}
-use lib.ListN.{length}
-use Rattle.facts.specs.declared.Code.{Code}
-use Rattle.facts.specs.declared.Code.the-variants.{Success}
-use Rattle.facts.specs.Table.{Facts, IrqGrant, fresh, mostClients, mostIssued}
-use Rattle.facts.specs.WellFormed.{WellFormed}
-use Rattle.facts.specs.Clients.{Register, nextHandle, registered as entered}
-use Rattle.facts.specs.Sockets.{withCard}
-use Rattle.facts.specs.Checks.{Passed}
-use Rattle.facts.specs.Resources.{levelAdded, addLevelChecks, addRangeChecks}
-use Rattle.facts.specs.Services.{registerClient, adjustResourceInfo, requestIrq, requestIo, serviceNumber}
-use Rattle.facts.specs.declared.Width.the-variants.{Wide}
-use Rattle.facts.proofs.Formed.{card-formed}
-use Rattle.facts.proofs.ResourcesStay.{level-added-formed}
-use Rattle.layout.specs.Layout.{image}
-use Rattle.layout.specs.Sound.{Accepted}
-use Rattle.layout.proofs.Image.{image-length}
-use Rattle.cases.specs.Cases.{done, oneClient, clientPacket}
-use Rattle.cases.proofs.Cases.{cases}
-use Rattle.cases.proofs.Permitted.{as-left, _then_, _nor_}
-use Rattle.history.specs.Events.{Event, makeFresh, call, cardIn, Keeper, Ours, Runs, FromFresh}
+use Rattle.facts.proofs.Words.{_≡_, refl, inl, inr, List, [], _∷_, _++_, true, false≢true, some, Option·none-ne-some, ℕ, _<_, arith, length}
+use Rattle.facts.proofs.Words.{WellFormed}
+use Rattle.facts.specs.{Code, Success, Facts, IrqGrant, fresh, mostClients, mostIssued, Register, nextHandle, registered as entered, withCard}
+use Rattle.facts.specs.{Passed, levelAdded, addLevelChecks, addRangeChecks, registerClient, adjustResourceInfo, requestIrq, requestIo, serviceNumber}
+use Rattle.facts.specs.{Wide}
+use Rattle.facts.proofs.{card-formed, level-added-formed}
+use Rattle.layout.specs.{image, Accepted}
+use Rattle.layout.proofs.{image-length}
+use Rattle.facts_cases.specs.{done, oneClient, clientPacket}
+use Rattle.facts_cases.proofs.{cases, as-left, _then_, _nor_}
+use Rattle.history.specs.{Event, makeFresh, call, cardIn, Keeper, Ours, Runs, FromFresh}
 use Rattle.history.proofs.Answered.{accepted-one}
 use Rattle.history.proofs.Giving.{accepted, serving, serves, left, level-named, range-named}
 use Rattle.history.proofs.OnSockets.{Ready, ready, two-sockets, one-client, for}

@@ -1,25 +1,12 @@
 -- Sharers are the standing grants, and standing grants meet only as both asked for it. Assumes nothing.
-use mathlib.Core.Path.{_≡_, refl, ap, sym, _∙_, subst}
-use mathlib.Core.Logic.{inl, inr, ⊎-elim, _↔_, _≢_}
-use mathlib.Core.List.{List, [], _∷_}
-use mathlib.Core.Bool.{Bool, cond}
-use mathlib.Core.Option.{Option, none, some, Option·none-ne-some, Option·some-injective}
-use Prim.Native.Nat.{ℕ, zero, suc, _+_, _<_}
-use native.Mathlib.Decide.{ℕ-discrete}
-use native.Mathlib.Omega.{arith}
-use lib.Dec.{eqb}
-use borrow.Author.Tests.{eq-eqb, ne-eqb}
-use Rattle.facts.specs.declared.Code.the-variants.{Success}
-use Rattle.facts.specs.Table.{Facts, IoGrant, IrqGrant}
-use Rattle.facts.specs.Sets.{_∈_}
-use Rattle.facts.specs.WellFormed.{WellFormed}
-use Rattle.facts.specs.Irq.{sharer, sharersBelow, sharersChecks, Sharers}
-use Rattle.facts.proofs.Refusals.{none-succeeds, first-not-success}
-use Rattle.answers.specs.Answers.{packed}
-use Rattle.promises.proofs.Laws.{laws}
-use Rattle.history.specs.Events.{Event, sharers, Ours, FromFresh}
-use Rattle.history.specs.Stands.{io, irq, Stands}
-use Rattle.history.specs.Demand.{Number, SharersCounted, OneGrant, PortsApart, LevelsApart}
+use Rattle.facts.proofs.Words.{_≡_, refl, ap, sym, _∙_, subst, inl, inr, ⊎-elim, _↔_, _≢_, List, [], _∷_, Bool, cond, Option, none, some}
+use Rattle.facts.proofs.Words.{Option·none-ne-some, Option·some-injective, ℕ, zero, suc, _+_, _<_, ℕ-discrete, arith, eqb, eq-eqb, ne-eqb}
+use Rattle.facts.proofs.Words.{WellFormed}
+use Rattle.facts.specs.{Success, Facts, IoGrant, IrqGrant, _∈_, sharer, sharersBelow, sharersChecks, Sharers, packed}
+use Rattle.facts.proofs.{none-succeeds, first-not-success}
+use Rattle.promises.proofs.{laws}
+use Rattle.history.specs.{Event, sharers, Ours, FromFresh, io, irq, Number, SharersCounted, OneGrant, PortsApart, LevelsApart}
+use Rattle.history.specs.Stands.{Stands}
 use Rattle.history.proofs.Answered.{stepped, sharers-parts}
 use Rattle.history.proofs.Runs.{exact}
 
@@ -46,39 +33,39 @@ module _ (F : Facts) (l : ℕ) where
         each = λ s. (
           ⊎-elim (λ e. subst (λ (x : ℕ). (x < suc n) × Shares x) (sym e) (omega arith, shares))
               (λ i. let y = c .each s .0 i in (omega (arith, y .0), y .1)),
-          (λ y. go s y (ℕ-discrete s n)),
+          (λ y. same-or-not s y (ℕ-discrete s n)),
         );
         once = ((λ i. let y = c .each n .0 i in omega (arith, y .0)), c .once);
         count = omega (arith, c .count);
       }
     where
-      go : (s : ℕ) → (s < suc n) × Shares s → Dec (s ≡ n) → s ∈ (n ∷ c .those)
-      go s y (yes e) = inl e
-      go s y (no d) = inr (c .each s .1 (omega (arith, y .0, d), y .1))
+      same-or-not : (s : ℕ) → (s < suc n) × Shares s → Dec (s ≡ n) → s ∈ (n ∷ c .those)
+      same-or-not s y (yes e) = inl e
+      same-or-not s y (no d) = inr (c .each s .1 (omega (arith, y .0, d), y .1))
 
   no-more : (n m : ℕ) → (Shares n → ⊥) → Number (λ (s : ℕ). (s < n) × Shares s) m → Number (λ (s : ℕ). (s < suc n) × Shares s) (m + 0)
   no-more n m alone c =
       record {
         those = c .those;
-        each = λ s. ((λ i. let y = c .each s .0 i in (omega (arith, y .0), y .1)), (λ y. go s y (ℕ-discrete s n)));
+        each = λ s. ((λ i. let y = c .each s .0 i in (omega (arith, y .0), y .1)), (λ y. same-or-not s y (ℕ-discrete s n)));
         once = c .once;
         count = omega (arith, c .count);
       }
     where
-      go : (s : ℕ) → (s < suc n) × Shares s → Dec (s ≡ n) → s ∈ c .those
-      go s y (yes e) = absurd (alone (subst Shares e (y .1)))
-      go s y (no d) = c .each s .1 (omega (arith, y .0, d), y .1)
+      same-or-not : (s : ℕ) → (s < suc n) × Shares s → Dec (s ≡ n) → s ∈ c .those
+      same-or-not s y (yes e) = absurd (alone (subst Shares e (y .1)))
+      same-or-not s y (no d) = c .each s .1 (omega (arith, y .0, d), y .1)
 
   -- the next socket
   next-counted : (n m : ℕ) (o : Option IrqGrant) → F .irq n ≡ o → Number (λ (s : ℕ). (s < n) × Shares s) m
       → Number (λ (s : ℕ). (s < suc n) × Shares s) (m + sharer l o)
   next-counted n m none e rest = no-more n m (λ y. Option·none-ne-some (y .0) (sym e ∙ y .1)) rest
-  next-counted n m (some g) e rest = go (ℕ-discrete (g .level) l)
+  next-counted n m (some g) e rest = same-or-not (ℕ-discrete (g .level) l)
     where
-      go : Dec (g .level ≡ l) → Number (λ (s : ℕ). (s < suc n) × Shares s) (m + cond (eqb (g .level) l) 1 0)
-      go (yes i) =
+      same-or-not : Dec (g .level ≡ l) → Number (λ (s : ℕ). (s < suc n) × Shares s) (m + cond (eqb (g .level) l) 1 0)
+      same-or-not (yes i) =
           subst (λ (t : Bool). Number (λ (s : ℕ). (s < suc n) × Shares s) (m + cond t 1 0)) (sym (eq-eqb (g .level) l i)) (one-more n m (g, e, i) rest)
-      go (no d) =
+      same-or-not (no d) =
           subst (λ (t : Bool). Number (λ (s : ℕ). (s < suc n) × Shares s) (m + cond t 1 0)) (sym (ne-eqb (g .level) l d))
           (no-more n m (λ y. d (ap (λ (x : IrqGrant). x .level) (Option·some-injective g (y .0) (sym e ∙ y .1)) ∙ y .2)) rest)
 

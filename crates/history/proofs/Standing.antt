@@ -1,10 +1,9 @@
 -- What stands, from the first event on and up to the last one. Assumes nothing.
-use mathlib.Core.Path.{_≡_, refl, ap, sym, _∙_, subst}
-use mathlib.Core.Logic.{_⊎_, inl, inr, ⊎-elim, _↔_}
-use mathlib.Core.List.{List, [], _∷_, _++_, nil≢cons, head-eq-of-cons-eq, tail-eq-of-cons-eq, append-assoc}
-use Rattle.facts.proofs.Sets.{in-left, in-right, in-either}
-use Rattle.history.specs.Events.{Event}
-use Rattle.history.specs.Stands.{Fact, Makes, GivesBack, Lasts, Stands, StandsSince}
+use Rattle.facts.proofs.Words.{_≡_, refl, ap, sym, _∙_, subst, _⊎_, inl, inr, ⊎-elim, _↔_, List, [], _∷_, _++_, nil≢cons, head-eq-of-cons-eq}
+use Rattle.facts.proofs.Words.{tail-eq-of-cons-eq, append-assoc}
+use Rattle.facts.proofs.{in-left, in-right, in-either}
+use Rattle.history.specs.{Event, Fact, Makes, GivesBack, Lasts, StandsSince}
+use Rattle.history.specs.Stands.{Stands}
 
 module _ (f : Fact) where
   lasts-more : (e : Event) (es : List Event) → (GivesBack e f → ⊥) → Lasts es f → Lasts (e ∷ es) f
@@ -18,22 +17,22 @@ module _ (f : Fact) where
       record { earlier = e ∷ s .earlier; maker = s .maker; later = s .later; are = ap (λ (x : List Event). e ∷ x) (s .are); made = s .made; lasts = s .lasts }
 
   pub stands-never : Stands [] f → ⊥
-  stands-never s = go (s .earlier) (s .are)
+  stands-never s = along (s .earlier) (s .are)
     where
-      go : (xs : List Event) → [] ≡ xs ++ (s .maker ∷ s .later) → ⊥
-      go [] e = nil≢cons e
-      go (x ∷ xs) e = nil≢cons e
+      along : (xs : List Event) → [] ≡ xs ++ (s .maker ∷ s .later) → ⊥
+      along [] e = nil≢cons e
+      along (x ∷ xs) e = nil≢cons e
 
   stands-first : (e : Event) (es : List Event) → Stands (e ∷ es) f → (Makes e f × Lasts es f) ⊎ Stands es f
-  stands-first e es s = go (s .earlier) (s .are)
+  stands-first e es s = along (s .earlier) (s .are)
     where
-      go : (xs : List Event) → (e ∷ es) ≡ xs ++ (s .maker ∷ s .later) → (Makes e f × Lasts es f) ⊎ Stands es f
-      go [] i =
+      along : (xs : List Event) → (e ∷ es) ≡ xs ++ (s .maker ∷ s .later) → (Makes e f × Lasts es f) ⊎ Stands es f
+      along [] i =
           inl (
             subst (λ (x : Event). Makes x f) (sym (head-eq-of-cons-eq i)) (s .made),
             subst (λ (xs : List Event). Lasts xs f) (sym (tail-eq-of-cons-eq i)) (s .lasts),
           )
-      go (x ∷ xs) i =
+      along (x ∷ xs) i =
           inr (record { earlier = xs; maker = s .maker; later = s .later; are = tail-eq-of-cons-eq i; made = s .made; lasts = s .lasts })
 
   -- the last event of a log made it, or it stood before that and wasn't given back by it

@@ -1,37 +1,16 @@
 -- How each event turns the facts. Assumes nothing.
-use mathlib.Core.Path.{_≡_, refl, ap, sym, _∙_, subst}
-use mathlib.Core.Logic.{_⊎_, inl, inr, ⊎-elim, _≢_}
-use mathlib.Core.List.{List}
-use mathlib.Core.Bool.{Bool, cond, true, false, false≢true}
-use Prim.Native.Nat.{ℕ}
-use native.Mathlib.Omega.{arith}
-use lib.ListN.{length}
-use lib.Dec.{T, eqb}
-use borrow.Author.Tests.{eq-eqb, ne-eqb}
-use Rattle.facts.specs.declared.Code.{Code}
-use Rattle.facts.specs.declared.Code.the-variants.{Success}
-use Rattle.facts.specs.declared.Width.{Width}
-use Rattle.facts.specs.Codes.{numberOf}
-use Rattle.facts.specs.Table.{Facts}
-use Rattle.facts.specs.WellFormed.{WellFormed}
-use Rattle.facts.specs.Checks.{Check, Outcome, FirstGiven, Passed, Kept}
-use Rattle.facts.specs.Clients.{registerChecks, deregisterChecks}
-use Rattle.facts.specs.Sockets.{CardTo, cardChecks, withCard, requestMaskChecks, releaseMaskChecks}
-use Rattle.facts.specs.Resources.{AdjustIrq, AdjustIo, AdjustResourceInfo, adjustChecks, actionOf, resourceOf, add, remove, first, next, irqLevel, ioRange}
-use Rattle.facts.specs.Resources.{levelGiven, levelAttributes, ioAdjustLength, baseGiven, countGiven, attributesGiven, linesGiven, reserves}
-use Rattle.facts.specs.Resources.{addLevelChecks, removeLevelChecks, showLevelChecks, addRangeChecks, removeRangeChecks, showRangeChecks}
-use Rattle.facts.specs.Irq.{irqRequestChecks, irqReleaseChecks}
-use Rattle.facts.specs.Io.{ioRequestChecks, ioReleaseChecks}
-use Rattle.facts.specs.Services.{Service, registerClient, deregisterClient, adjustResourceInfo, requestIrq, releaseIrq, requestIo, releaseIo}
-use Rattle.facts.specs.Services.{requestSocketMask, releaseSocketMask, serviceNumber, ruleOf, Call}
-use Rattle.facts.proofs.Codes.{code-injective}
-use Rattle.facts.proofs.Unique.{number-injective}
-use Rattle.facts.proofs.Resources.{width-one}
-use Rattle.facts.proofs.Refusals.{noSuccess, none-succeeds, first-not-success}
-use Rattle.facts.proofs.Sets.{put-same}
-use Rattle.history.specs.Events.{Event, makeFresh, call, cardIn, cardOut, boot, sharers}
-use Rattle.history.specs.Stands.{Fact, card, level, range, Made, GivenBack, Makes, GivesBack, registration, level-made, range-made, level-back, range-back}
-use Rattle.history.specs.Tables.{Tells}
+use Rattle.facts.proofs.Words.{_≡_, refl, ap, sym, _∙_, subst, _⊎_, inl, inr, ⊎-elim, _≢_, List, Bool, cond, true, false, false≢true, ℕ, arith}
+use Rattle.facts.proofs.Words.{length, T, eqb, eq-eqb, ne-eqb, WellFormed}
+use Rattle.facts.specs.{Code, Success, Width, numberOf, Facts, Check, Outcome, FirstGiven, Passed, Kept, registerChecks, deregisterChecks, CardTo}
+use Rattle.facts.specs.{cardChecks, withCard, requestMaskChecks, releaseMaskChecks, AdjustIrq, AdjustIo, AdjustResourceInfo, adjustChecks, actionOf}
+use Rattle.facts.specs.{resourceOf, add, remove, first, next, irqLevel, ioRange, levelGiven, levelAttributes, ioAdjustLength, baseGiven, countGiven}
+use Rattle.facts.specs.{attributesGiven, linesGiven, reserves, addLevelChecks, removeLevelChecks, showLevelChecks, addRangeChecks, removeRangeChecks}
+use Rattle.facts.specs.{showRangeChecks, irqRequestChecks, irqReleaseChecks, ioRequestChecks, ioReleaseChecks, Service, registerClient}
+use Rattle.facts.specs.{deregisterClient, adjustResourceInfo, requestIrq, releaseIrq, requestIo, releaseIo, requestSocketMask, releaseSocketMask}
+use Rattle.facts.specs.{serviceNumber, ruleOf, Call}
+use Rattle.facts.proofs.{code-injective, number-injective, width-one, noSuccess, none-succeeds, first-not-success, put-same}
+use Rattle.history.specs.{Event, makeFresh, call, cardIn, cardOut, boot, sharers, Fact, card, level, range, Made, GivenBack, Makes, GivesBack}
+use Rattle.history.specs.{registration, level-made, range-made, level-back, range-back, Tells}
 use Rattle.history.proofs.Answered.{Rules}
 use Rattle.history.proofs.Turns.{Turns, unturned, turns-as}
 use Rattle.history.proofs.Inverse.{adjusted-only, adjusted-back-only}

@@ -1,14 +1,8 @@
 -- How a change of facts turns them: what it gives back, what it makes, and what stays. Assumes nothing.
-use mathlib.Core.Path.{_≡_, refl, sym, _∙_, subst}
-use mathlib.Core.Logic.{_⊎_, inl, inr, ⊎-elim, _↔_}
-use mathlib.Core.Bool.{Bool}
-use Prim.Native.Nat.{ℕ, _+_}
-use native.Mathlib.Nat.{add-zero}
-use Rattle.facts.specs.Table.{Facts, Range, IoGrant, IrqGrant}
-use Rattle.facts.specs.Sets.{put}
-use Rattle.facts.proofs.Sets.{put-is}
-use Rattle.history.specs.Stands.{Fact, client, mask, level, range, card, io, irq}
-use Rattle.history.specs.Tables.{Tells}
+use Rattle.facts.proofs.Words.{_≡_, refl, sym, _∙_, subst, _⊎_, inl, inr, ⊎-elim, _↔_, Bool, ℕ, _+_, add-zero}
+use Rattle.facts.specs.{Facts, Range, IoGrant, IrqGrant, put}
+use Rattle.facts.proofs.{put-is}
+use Rattle.history.specs.{Fact, client, mask, level, range, card, io, irq, Tells}
 
 -- one fact: it stood and is given back or stays; it stands and is made or stood
 abbrev pub Turned : Facts → Facts → (Fact → Type 0) → (Fact → Type 0) → Fact → Type 0
@@ -90,10 +84,10 @@ clientIn (irq s g) = g .client
 -- x is put in the place k: B and N say what is given back there and what is made, where y stands
 pub put-turned : {A : Type 0} (f : ℕ → A) (k : ℕ) (x y : A) (B N : ℕ → Type 0) → (f k ≡ y → B k ⊎ (x ≡ y)) → (x ≡ y → N k ⊎ (f k ≡ y)) → (j : ℕ)
     → (f j ≡ y → B j ⊎ (put f k x j ≡ y)) × (put f k x j ≡ y → N j ⊎ (f j ≡ y))
-put-turned {A} f k x y B N back new j = go (put-is f k x j)
+put-turned {A} f k x y B N back new j = either-way (put-is f k x j)
   where
-    go : ((j ≡ k) × (put f k x j ≡ x)) ⊎ ((j ≡ k → ⊥) × (put f k x j ≡ f j)) → (f j ≡ y → B j ⊎ (put f k x j ≡ y)) × (put f k x j ≡ y → N j ⊎ (f j ≡ y))
-    go (inl (here, is)) =
+    either-way : ((j ≡ k) × (put f k x j ≡ x)) ⊎ ((j ≡ k → ⊥) × (put f k x j ≡ f j)) → (f j ≡ y → B j ⊎ (put f k x j ≡ y)) × (put f k x j ≡ y → N j ⊎ (f j ≡ y))
+    either-way (inl (here, is)) =
         subst (λ (i : ℕ). (f i ≡ y → B i ⊎ (put f k x j ≡ y)) × (put f k x j ≡ y → N i ⊎ (f i ≡ y))) (sym here)
         ((λ e. ⊎-elim inl (λ q. inr (is ∙ q)) (back e)), (λ e. new (sym is ∙ e)))
-    go (inr (other, is)) = ((λ e. inr (is ∙ e)), (λ e. inr (sym is ∙ e)))
+    either-way (inr (other, is)) = ((λ e. inr (is ∙ e)), (λ e. inr (sym is ∙ e)))

@@ -1,47 +1,25 @@
 -- Wrong keepers, and of each the clause that it breaks; those whose grants meet are in WrongGrants. Assumes nothing.
-use mathlib.Core.Path.{_≡_, refl, ap, sym, _∙_, subst}
-use mathlib.Core.Logic.{_⊎_, inl, inr, ⊎-elim, _≢_}
-use mathlib.Core.List.{List, [], _∷_, _++_}
-use mathlib.Core.Bool.{true, false, false≢true}
-use mathlib.Core.Option.{none, some, Option·none-ne-some, Option·some-injective}
-use Prim.Native.Nat.{ℕ, _+_}
-use native.Mathlib.Omega.{arith}
-use lib.ListN.{length}
-use Rattle.facts.specs.declared.Code.{Code}
-use Rattle.facts.specs.declared.Code.the-variants.{Success, GeneralFailure, BadSocket, BadHandle, InUse}
-use Rattle.facts.specs.Codes.{numberOf}
-use Rattle.facts.specs.Table.{Facts, Client, Level, IrqGrant, fresh}
-use Rattle.facts.specs.Sets.{_∈_}
-use Rattle.facts.specs.WellFormed.{WellFormed}
-use Rattle.facts.specs.Packets.{byte}
-use Rattle.facts.specs.Clients.{withClients, registered as entered}
-use Rattle.facts.specs.Sockets.{withCard, withMask}
-use Rattle.facts.specs.Irq.{withIrq, irqGrant, levelAsked, assigning}
-use Rattle.facts.specs.Io.{ioGrant}
-use Rattle.facts.specs.Services.{Service, registerClient, deregisterClient, requestIrq, requestIo, serviceNumber}
-use Rattle.facts.proofs.Sets.{put-is}
-use Rattle.facts.proofs.Formed.{card-formed, irq-formed}
-use Rattle.facts.proofs.ClientsStay.{mask-formed}
-use Rattle.layout.specs.Layout.{image}
-use Rattle.layout.specs.Sound.{Accepted}
-use Rattle.cases.specs.Cases.{done, refused, oneClient, noClient, clientPacket}
-use Rattle.cases.proofs.Cases.{cases}
-use Rattle.cases.proofs.Permitted.{as-kept, _then_, listed-alone}
-use Rattle.history.specs.Events.{Event, makeFresh, call, cardIn, cardOut, boot, sharers, codeIn, numberIn, Keeper, Ours}
-use Rattle.history.specs.Stands.{card, level, mask, io, irq, Stands, client-made, io-made}
-use Rattle.history.specs.Tables.{Tells}
-use Rattle.history.specs.Names.{the-card, the-mask}
-use Rattle.history.specs.Demand.{Exact, Frame, CardOutKeeps, NeverAgain, Number, SharersCounted}
-use Rattle.history.specs.Codes.{service}
-use Rattle.history.specs.Laws.{OneOutcome, RefusalKeeps, ExactCodes}
+use Rattle.facts.proofs.Words.{_≡_, refl, ap, sym, _∙_, subst, _⊎_, inl, inr, ⊎-elim, _≢_, List, [], _∷_, _++_, true, false, false≢true, none, some}
+use Rattle.facts.proofs.Words.{Option·none-ne-some, Option·some-injective, ℕ, _+_, arith, length, WellFormed}
+use Rattle.facts.specs.{Code, Success, GeneralFailure, BadSocket, BadHandle, InUse, numberOf, Facts, Client, Level, IrqGrant, fresh, _∈_, byte}
+use Rattle.facts.specs.{withClients, registered as entered, withCard, withMask, withIrq, irqGrant, levelAsked, assigning, ioGrant, Service}
+use Rattle.facts.specs.{registerClient, deregisterClient, requestIrq, requestIo, serviceNumber}
+use Rattle.facts.proofs.{put-is, card-formed, irq-formed, mask-formed}
+use Rattle.layout.specs.{image, Accepted}
+use Rattle.facts_cases.specs.{done, refused, oneClient, noClient, clientPacket}
+use Rattle.facts_cases.proofs.{cases, as-kept, _then_, listed-alone}
+use Rattle.history.specs.{Event, makeFresh, call, cardIn, cardOut, boot, sharers, codeIn, numberIn, Keeper, Ours, card, level, mask, io, irq}
+use Rattle.history.specs.{client-made, io-made, Tells, the-card, the-mask, Exact, Frame, CardOutKeeps, NeverAgain, Number, SharersCounted}
+use Rattle.history.specs.{service, OneOutcome, RefusalKeeps, ExactCodes}
+use Rattle.history.specs.Stands.{Stands}
 use Rattle.history.proofs.Turns.{kind}
 use Rattle.history.proofs.Standing.{stands-never}
 use Rattle.history.proofs.Runs.{exact}
 use Rattle.history.proofs.Giving.{serving, serves, accepted, left, here, _past_}
 use Rattle.history.proofs.OnSockets.{two-sockets, one-client, for}
 use Rattle.history.proofs.ExampleTables.{idle, irqHeld, ioHeld, busy, idle-ready, irq-ready, busy-ready, irqAsked, ioAsked, irqNaming}
-use Rattle.history.proofs.SampleRuns.{made-two, from-two, says, registers, before, Ungranted, registered, BeginsAlike, set-up, ours-begins, asksIrq, asksIo, irq-step}
-use Rattle.history.proofs.SampleRuns.{io-step}
+use Rattle.history.proofs.SampleRuns.{made-two, from-two, says, registers, before, Ungranted, registered, BeginsAlike, set-up, ours-begins}
+use Rattle.history.proofs.SampleRuns.{asksIrq, asksIo, irq-step, io-step}
 
 -- wrong at the calls of one service, at card out, or at the question for sharers; else as this keeper
 abbrev pub At : Service → (ℕ → List ℕ → Code → ℕ → List ℕ → List ℕ → List ℕ → Type 0) → Keeper
@@ -261,11 +239,11 @@ MadeUp = AtSharers λ l k c b b′. (k ≡ Success) × (c ≡ 1) × (b′ ≡ b)
 
 -- where one is counted, there is one
 one-there : {P : ℕ → Type 0} → Number P 1 → (s : ℕ) × P s
-one-there {P} n = go (n .those) (λ s i. n .each s .0 i) (n .count)
+one-there {P} n = along (n .those) (λ s i. n .each s .0 i) (n .count)
   where
-    go : (xs : List ℕ) → ((s : ℕ) → s ∈ xs → P s) → length xs ≡ 1 → (s : ℕ) × P s
-    go [] each e = absurd (omega (arith, e))
-    go (x ∷ xs) each e = (x, each x (inl refl))
+    along : (xs : List ℕ) → ((s : ℕ) → s ∈ xs → P s) → length xs ≡ 1 → (s : ℕ) × P s
+    along [] each e = absurd (omega (arith, e))
+    along (x ∷ xs) each e = (x, each x (inl refl))
 
 pub made-up-wrong : SharersCounted MadeUp → ⊥
 made-up-wrong x =

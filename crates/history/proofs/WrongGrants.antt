@@ -1,38 +1,17 @@
 -- Wrong keepers whose grants meet: they make every check but one, as they should. Assumes nothing.
-use mathlib.Core.Path.{_≡_, refl, ap, sym, _∙_, subst}
-use mathlib.Core.Logic.{_⊎_, inl, inr, ⊎-elim, _≢_}
-use mathlib.Core.List.{List, [], _∷_, _++_, append-assoc}
-use mathlib.Core.Bool.{true, true≢false, false≢true}
-use mathlib.Core.Option.{some, Option·none-ne-some, Option·some-injective}
-use Prim.Native.Nat.{ℕ, _+_, _*_, _^_, _≤_, _<_}
-use native.Mathlib.Decide.{ℕ-discrete}
-use native.Mathlib.Omega.{arith}
-use lib.ListN.{length}
-use lib.Dec.{T}
-use Rattle.facts.specs.declared.Code.{Code}
-use Rattle.facts.specs.declared.Code.the-variants.{Success, BadBase}
-use Rattle.facts.specs.declared.Manner.the-variants.{Exclusive}
-use Rattle.facts.specs.Table.{Facts, Range, IoGrant, IrqGrant}
-use Rattle.facts.specs.Sets.{_∈_}
-use Rattle.facts.specs.Packets.{withWord}
-use Rattle.facts.specs.Ports.{Meet, Overlap, Managed}
-use Rattle.facts.specs.Levels.{Together, Holds, typeOf}
-use Rattle.facts.specs.Checks.{Check, _gives_, Passed}
-use Rattle.facts.specs.Sockets.{socketOf}
-use Rattle.facts.specs.Irq.{RequestIrq, IrqAttributesBad, IrqInfoBad, Fits, Mask, irqAheadChecks, withIrq, irqGrant, levelAsked, mannerAsked, assigning, assignedIrq}
-use Rattle.facts.specs.Io.{RequestIo, IoAttributesBad, IoSizeBad, NotAllManaged, ioAheadChecks, withIo, ioGrant, baseAsked, countAsked}
-use Rattle.facts.specs.Io.{portsAt, sharedAsked}
-use Rattle.facts.specs.Services.{Service, requestIrq, requestIo, serviceNumber}
-use Rattle.facts.proofs.Sets.{put-is}
-use Rattle.facts.proofs.Unique.{number-injective}
-use Rattle.layout.specs.Layout.{image}
-use Rattle.cases.specs.Cases.{done, range, irqPacket}
-use Rattle.cases.proofs.Cases.{cases}
-use Rattle.cases.proofs.Levels.{bits-A3, alone-taken}
-use Rattle.cases.proofs.Permitted.{as-left, _then_, _nor_}
-use Rattle.history.specs.Events.{Event, call, Keeper, Ours}
-use Rattle.history.specs.Stands.{Fact, Makes, GivenBack, GivesBack, Stands, io-made, irq-made}
-use Rattle.history.specs.Demand.{PortsApart, LevelsApart}
+use Rattle.facts.proofs.Words.{_≡_, refl, ap, sym, _∙_, subst, _⊎_, inl, inr, ⊎-elim, _≢_, List, [], _∷_, _++_, append-assoc, true, true≢false}
+use Rattle.facts.proofs.Words.{false≢true, some, Option·none-ne-some, Option·some-injective, ℕ, _+_, _*_, _^_, _≤_, _<_, ℕ-discrete, arith, length}
+use Rattle.facts.proofs.Words.{T}
+use Rattle.facts.specs.{Code, Success, BadBase, Exclusive, Facts, Range, IoGrant, IrqGrant, _∈_, withWord, Meet, Overlap, Managed, Together, Holds}
+use Rattle.facts.specs.{typeOf, Check, _gives_, Passed, socketOf, RequestIrq, IrqAttributesBad, IrqInfoBad, Fits, Mask, irqAheadChecks, withIrq}
+use Rattle.facts.specs.{irqGrant, levelAsked, mannerAsked, assigning, assignedIrq, RequestIo, IoAttributesBad, IoSizeBad, NotAllManaged}
+use Rattle.facts.specs.{ioAheadChecks, withIo, ioGrant, baseAsked, countAsked, portsAt, sharedAsked, Service, requestIrq, requestIo, serviceNumber}
+use Rattle.facts.proofs.{put-is, number-injective}
+use Rattle.layout.specs.{image}
+use Rattle.facts_cases.specs.{done, range, irqPacket}
+use Rattle.facts_cases.proofs.{cases, bits-A3, alone-taken, as-left, _then_, _nor_}
+use Rattle.history.specs.{Event, call, Keeper, Ours, Fact, Makes, GivenBack, GivesBack, io-made, irq-made, PortsApart, LevelsApart}
+use Rattle.history.specs.Stands.{Stands}
 use Rattle.history.proofs.Turns.{clientIn}
 use Rattle.history.proofs.Inverse.{request-io-keeps, request-irq-keeps}
 use Rattle.history.proofs.Giving.{allBytes, serves}
@@ -46,11 +25,11 @@ Also v W = At v λ h p k a q b b′. Ours (call (serviceNumber v) h p k a q) b b
 
 as-ours : (v : Service) (W : ℕ → List ℕ → Code → ℕ → List ℕ → List ℕ → List ℕ → Type 0) {b b′ : List ℕ} (n h : ℕ) (p : List ℕ) (k : Code) (a : ℕ) (q : List ℕ)
     → Ours (call n h p k a q) b b′ → Also v W (call n h p k a q) b b′
-as-ours v W {b} {b′} n h p k a q s = go (ℕ-discrete n (serviceNumber v))
+as-ours v W {b} {b′} n h p k a q s = same-or-not (ℕ-discrete n (serviceNumber v))
   where
-    go : Dec (n ≡ serviceNumber v) → Also v W (call n h p k a q) b b′
-    go (yes e) = inl (e, inl (subst (λ (m : ℕ). Ours (call m h p k a q) b b′) e s))
-    go (no d) = inr (d, s)
+    same-or-not : Dec (n ≡ serviceNumber v) → Also v W (call n h p k a q) b b′
+    same-or-not (yes e) = inl (e, inl (subst (λ (m : ℕ). Ours (call m h p k a q) b b′) e s))
+    same-or-not (no d) = inr (d, s)
 
 also-begins : (v : Service) (W : ℕ → List ℕ → Code → ℕ → List ℕ → List ℕ → List ℕ → Type 0) → BeginsAlike (Also v W)
 also-begins v W =

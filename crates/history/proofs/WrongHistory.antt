@@ -1,44 +1,23 @@
 -- Keepers that are wrong once, held against demand 3: each does as this keeper, and permits one event more. Assumes nothing.
-use mathlib.Core.Path.{_≡_, refl, ap, sym, _∙_, subst}
-use mathlib.Core.Logic.{_⊎_, inl, inr, ⊎-elim, _↔_, _≢_}
-use mathlib.Core.List.{List, [], _∷_, _++_, append-assoc}
-use mathlib.Core.Bool.{Bool, true}
-use Prim.Native.Nat.{ℕ, _+_, _<_}
-use native.Mathlib.Nat.{add-zero}
-use native.Mathlib.Omega.{arith}
-use lib.ListN.{length}
-use Rattle.facts.specs.declared.Code.{Code}
-use Rattle.facts.specs.declared.Code.the-variants.{Success}
-use Rattle.facts.specs.declared.Record.{Record}
-use Rattle.facts.specs.declared.Width.{Width}
-use Rattle.facts.specs.Table
-use Rattle.facts.specs.Table.{Facts, IoGrant, IrqGrant}
-use Rattle.facts.specs.Sets.{_∈_}
-use Rattle.facts.specs.WellFormed.{WellFormed}
-use Rattle.facts.specs.Ports.{Meet}
-use Rattle.facts.specs.Levels.{Together, typeOf}
-use Rattle.facts.specs.Clients.{clientAttributes, clientEvents}
-use Rattle.facts.specs.Sockets.{socketOf, eventsAsked}
-use Rattle.facts.specs.Resources.{actionOf, resourceOf, add, remove, first, next, irqLevel, ioRange, levelGiven, ioAdjustLength, baseGiven, countGiven}
-use Rattle.facts.specs.Resources.{levelAttributes, attributesGiven, reserves}
-use Rattle.facts.specs.Irq.{assignedIrq, typeAsked, mannerAsked}
-use Rattle.facts.specs.Io.{baseAsked, countAsked, portsAt, sharedAsked}
-use Rattle.facts.specs.Boot.{recordsIn}
-use Rattle.facts.specs.Services.{Service, registerClient, deregisterClient, adjustResourceInfo, requestIrq, releaseIrq, requestIo, releaseIo}
-use Rattle.facts.specs.Services.{requestSocketMask, releaseSocketMask, serviceNumber}
-use Rattle.facts.proofs.Sets.{in-right}
-use Rattle.facts.proofs.Unique.{number-injective}
-use Rattle.layout.specs.Layout.{image}
-use Rattle.layout.specs.Sound.{Accepted}
-use Rattle.history.specs.Events.{Event, makeFresh, call, cardIn, cardOut, boot, sharers, Keeper, Ours, GoesOn, Runs, FromFresh}
-use Rattle.history.specs.Stands.{Fact, client, mask, level, range, card, io, irq, Made, GivenBack, Recorded, Makes, GivesBack, Stands, StandsSince, Registers, registration, registrations}
-use Rattle.history.specs.Stands.{client-made, mask-made, level-made, range-made, io-made, irq-made, level-recorded, range-recorded}
-use Rattle.history.specs.Stands.{client-back, mask-back, level-back, range-back, io-back, irq-back}
-use Rattle.history.specs.Tables.{Tells, TellsExactly}
-use Rattle.history.specs.Names.{Name, the-client, the-mask, the-level, the-range, the-card, the-io, the-irq, the-issued, the-sockets, nameOf, NamedBy, Names}
-use Rattle.history.specs.Names.{Framed, register-client, register-issued, deregister, request-mask, release-mask, adjust-level, adjust-range}
-use Rattle.history.specs.Names.{request-io, release-io, request-irq, release-irq}
-use Rattle.history.specs.Demand.{Exact, ExactSince, Frame, CardOutKeeps, NeverAgain, OneGrant, PortsApart, LevelsApart, Once, Number, SharersCounted}
+use Rattle.facts.proofs.Words.{_≡_, refl, ap, sym, _∙_, subst, _⊎_, inl, inr, ⊎-elim, _↔_, _≢_, List, [], _∷_, _++_, append-assoc, Bool, true, ℕ}
+use Rattle.facts.proofs.Words.{_+_, _<_, add-zero, arith, length, WellFormed}
+use Rattle.facts.specs.{Code, Success, Record, Width, Facts, IoGrant, IrqGrant, _∈_, Meet, Together, typeOf, clientAttributes, clientEvents}
+use Rattle.facts.specs.{socketOf, eventsAsked, actionOf, resourceOf, add, remove, first, next, irqLevel, ioRange, levelGiven, ioAdjustLength}
+use Rattle.facts.specs.{baseGiven, countGiven, levelAttributes, attributesGiven, reserves, assignedIrq, typeAsked, mannerAsked, baseAsked}
+use Rattle.facts.specs.{countAsked, portsAt, sharedAsked, recordsIn, Service, registerClient, deregisterClient, adjustResourceInfo, requestIrq}
+use Rattle.facts.specs.{releaseIrq, requestIo, releaseIo, requestSocketMask, releaseSocketMask, serviceNumber, mostSockets}
+use Rattle.facts.proofs.{in-right, number-injective}
+use Rattle.layout.specs.{image, Accepted}
+use Rattle.history.specs.{Event, makeFresh, call, cardIn, cardOut, boot, sharers, Keeper, Ours, GoesOn, Runs, FromFresh, Fact, client, mask}
+use Rattle.history.specs.{level, range, card, io, irq, Made, GivenBack, Recorded, Makes, GivesBack, StandsSince, Registers, registration}
+use Rattle.history.specs.{registrations, client-made, mask-made, level-made, range-made, io-made, irq-made, level-recorded, range-recorded}
+use Rattle.history.specs.{client-back, mask-back, level-back, range-back, io-back, irq-back, Tells, TellsExactly, Name, the-client, the-mask}
+use Rattle.history.specs.{the-level, the-range, the-card, the-io, the-irq, the-issued, the-sockets, nameOf, NamedBy, Framed, register-client}
+use Rattle.history.specs.{register-issued, deregister, request-mask, release-mask, adjust-level, adjust-range, request-io, release-io}
+use Rattle.history.specs.{request-irq, release-irq, Exact, ExactSince, Frame, CardOutKeeps, NeverAgain, OneGrant, PortsApart, LevelsApart}
+use Rattle.history.specs.{Once, Number, SharersCounted}
+use Rattle.history.specs.Stands.{Stands}
+use Rattle.history.specs.Names.{Names}
 use Rattle.history.proofs.Standing.{stands-never, stands-last, last-stands}
 use Rattle.history.proofs.Frame.{showing-names-none}
 use Rattle.history.proofs.Giving.{accepted}
@@ -463,7 +442,7 @@ module _ (n : ℕ) (es : List Event) (b : List ℕ) (from : FromFresh Ours n es 
   abbrev Sharer : ℕ → Type 0
   Sharer s = (g : IrqGrant) × Stands es (irq s g) × (g .level ≡ l)
 
-  asked : (c : ℕ) → SharersCounted (Besides (sharers l Success c) b b) → Number Sharer c × (c < Table.mostSockets + 1)
+  asked : (c : ℕ) → SharersCounted (Besides (sharers l Success c) b b) → Number Sharer c × (c < mostSockets + 1)
   asked c x =
       let y = x n es b b l c
       (record { old = from .old; start = from .start; made = inl (from .made); runs = runs-too (sharers l Success c) b b (from .start) es b (from .runs) })
@@ -485,5 +464,5 @@ module _ (n : ℕ) (es : List Event) (b : List ℕ) (from : FromFresh Ours n es 
       twice (t ∷ []) all once e = omega (arith, e)
       twice (t ∷ u ∷ xs) all once e = once .0 (inl (all t (inl refl) ∙ sym (all u (inr (inl refl)))))
 
-  pub too-many-wrong : (c : ℕ) → Table.mostSockets < c → SharersCounted (Besides (sharers l Success c) b b) → ⊥
+  pub too-many-wrong : (c : ℕ) → mostSockets < c → SharersCounted (Besides (sharers l Success c) b b) → ⊥
   too-many-wrong c most x = omega (arith, most, asked c x .1)

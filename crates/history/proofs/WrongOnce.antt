@@ -1,32 +1,15 @@
 -- Keepers that are wrong once: each does as this keeper, and permits one event more. What that event breaks is one part of a law over all entries.
 -- Assumes nothing.
-use mathlib.Core.Path.{_≡_, refl, subst}
-use mathlib.Core.Logic.{_⊎_, inl, inr, _≢_}
-use mathlib.Core.List.{List, [], _∷_}
-use Prim.Native.Nat.{ℕ, _+_, _*_, _<_}
-use native.Mathlib.Omega.{arith}
-use lib.ListN.{length}
-use Rattle.facts.specs.declared.Code.{Code}
-use Rattle.facts.specs.declared.Code.the-variants.{Success, BadBase, BadIrq, GeneralFailure, InUse}
-use Rattle.facts.specs.Codes.{numberOf}
-use Rattle.facts.specs.Table
-use Rattle.facts.specs.Table.{Facts}
-use Rattle.facts.specs.Sets.{_∈_}
-use Rattle.facts.specs.WellFormed.{WellFormed}
-use Rattle.facts.specs.Checks.{Passed}
-use Rattle.facts.specs.Irq.{Fits, NoLevelFits, assignedIrq, irqAheadChecks}
-use Rattle.facts.specs.Io.{NotAllManaged, InTheWay, Candidate, NoCandidate, baseAsked, ioAheadChecks}
-use Rattle.facts.specs.Boot.{recordSize, recordsIn, recordsAdded}
-use Rattle.facts.specs.Services.{Service, requestIrq, requestIo, serviceNumber, Serves}
-use Rattle.facts.proofs.Codes.{code-byte}
-use Rattle.layout.specs.Layout.{image}
-use Rattle.layout.specs.Sound.{Accepted}
-use Rattle.history.specs.Events.{Event, given, codeIn, makeFresh, call, cardIn, cardOut, boot, sharers, Keeper, Ours}
-use Rattle.history.specs.Stands.{Fact, Makes}
-use Rattle.history.specs.Tables.{Tells, Between}
-use Rattle.history.specs.Codes.{Asked, service, no-service, card-in, card-out, boot-list, sharers-of, fresh-table, codesOf, CanGive}
-use Rattle.history.specs.Laws.{OneOutcome, AddsRecords, RefusalKeeps, Unformed, UnformedRefused, Stays, BootPlaces, RefusedExactly, ExactCodes}
-use Rattle.history.specs.Laws.{TheCodes, fifteen}
+use Rattle.facts.proofs.Words.{_≡_, refl, subst, _⊎_, inl, inr, _≢_, List, [], _∷_, ℕ, _+_, _*_, _<_, arith, length, WellFormed}
+use Rattle.facts.specs.{Code, Success, BadBase, BadIrq, GeneralFailure, InUse, numberOf, Facts, _∈_, Passed, Fits, NoLevelFits, assignedIrq}
+use Rattle.facts.specs.{irqAheadChecks, NotAllManaged, InTheWay, Candidate, NoCandidate, baseAsked, ioAheadChecks, recordSize, recordsIn}
+use Rattle.facts.specs.{recordsAdded, Service, requestIrq, requestIo, serviceNumber, Serves, allLevels, mostRanges}
+use Rattle.facts.proofs.{code-byte}
+use Rattle.layout.specs.{image, Accepted}
+use Rattle.history.specs.{Event, given, codeIn, makeFresh, call, cardIn, cardOut, boot, sharers, Keeper, Ours, Fact, Makes, Tells, Between}
+use Rattle.history.specs.{Asked, service, no-service, card-in, card-out, boot-list, sharers-of, fresh-table, codesOf, CanGive, OneOutcome}
+use Rattle.history.specs.{AddsRecords, RefusalKeeps, Unformed, UnformedRefused, Stays, BootPlaces, RefusedExactly, ExactCodes, TheCodes}
+use Rattle.history.specs.{fifteen}
 use Rattle.history.proofs.Giving.{accepted}
 use Rattle.history.proofs.Examples.{none-serves}
 use Rattle.history.proofs.SampleRuns.{says}
@@ -153,7 +136,7 @@ module _ (r : List ℕ) (i : ℕ) (b b′ : List ℕ) where
   pub place-past-end-wrong : (k : Code) → length r < i * recordSize → BootPlaces (Besides (boot r k i) b b′) → ⊥
   place-past-end-wrong k l x = omega (arith, l, x .within r k i b b′ (besides (boot r k i) b b′))
 
-  pub place-past-all-wrong : (k : Code) → Table.allLevels + Table.mostRanges < i → BootPlaces (Besides (boot r k i) b b′) → ⊥
+  pub place-past-all-wrong : (k : Code) → allLevels + mostRanges < i → BootPlaces (Besides (boot r k i) b b′) → ⊥
   place-past-all-wrong k l x = omega (arith, l, x .most r k i b b′ (besides (boot r k i) b b′))
 
   pub other-records-wrong : (k : Code) (a : Accepted b) → b′ ≢ image (recordsAdded (a .facts) (recordsIn i r)) → BootPlaces (Besides (boot r k i) b b′) → ⊥

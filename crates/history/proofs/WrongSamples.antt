@@ -1,46 +1,31 @@
 -- Keepers that are wrong once, on the tables of the examples: each name says what the keeper does. Assumes nothing.
-use mathlib.Core.Path.{_≡_, refl, ap, sym, _∙_, subst}
-use mathlib.Core.Logic.{inl, inr, ⊎-elim}
-use mathlib.Core.List.{List, [], _∷_, _++_}
-use mathlib.Core.Bool.{true, false, true≢false}
-use mathlib.Core.Option.{none, some, Option·none-ne-some}
-use Prim.Native.Nat.{ℕ}
-use native.Mathlib.Omega.{arith}
-use Rattle.facts.specs.declared.Code.{Code}
-use Rattle.facts.specs.declared.Code.the-variants.{Success}
-use Rattle.facts.specs.Table.{Facts, Client, Level, IoGrant, IrqGrant, fresh}
-use Rattle.facts.specs.WellFormed.{WellFormed}
-use Rattle.facts.specs.Clients.{withClients, registered as entered}
-use Rattle.facts.specs.Sockets.{withMask}
-use Rattle.facts.specs.Resources.{levelAdded, withLevel}
-use Rattle.facts.specs.Irq.{withIrq, irqGrant}
-use Rattle.facts.specs.Io.{RequestIo, withIo, ioGrant}
-use Rattle.facts.specs.Services.{Service, registerClient, adjustResourceInfo, requestIrq, requestIo, releaseIo, serviceNumber}
-use Rattle.facts.proofs.Sets.{put-is}
-use Rattle.facts.proofs.Unique.{number-injective}
-use Rattle.facts.proofs.Formed.{fresh-formed, level-formed, io-formed, irq-formed}
-use Rattle.facts.proofs.ClientsStay.{mask-formed}
-use Rattle.facts.proofs.ResourcesStay.{level-added-formed}
-use Rattle.layout.specs.Layout.{image}
-use Rattle.cases.specs.Cases.{done, oneClient, clientPacket}
-use Rattle.cases.proofs.Permitted.{_then_}
-use Rattle.history.specs.Events.{Event, call, sharers, Ours, FromFresh}
-use Rattle.history.specs.Stands.{Fact, mask, level, io, irq, Made, Makes, Stands, io-made, io-back, irq-made}
-use Rattle.history.specs.Tables.{Tells}
-use Rattle.history.specs.Names.{Name, the-client, the-mask, the-level, the-range, the-card, the-io, the-irq, the-issued, the-sockets, nameOf}
-use Rattle.history.specs.Demand.{Exact, ExactSince, Frame, OneGrant, PortsApart, LevelsApart, SharersCounted}
+use Rattle.facts.proofs.Words.{_≡_, refl, ap, sym, _∙_, subst, inl, inr, ⊎-elim, List, [], _∷_, _++_, true, false, true≢false, none, some}
+use Rattle.facts.proofs.Words.{Option·none-ne-some, ℕ, arith, WellFormed}
+use Rattle.facts.specs.{Code, Success, Facts, Client, Level, IoGrant, IrqGrant, fresh, withClients, registered as entered, withMask, levelAdded}
+use Rattle.facts.specs.{withLevel, withIrq, irqGrant, RequestIo, withIo, ioGrant, Service, registerClient, adjustResourceInfo, requestIrq, requestIo}
+use Rattle.facts.specs.{releaseIo, serviceNumber}
+use Rattle.facts.proofs.{put-is, number-injective, fresh-formed, level-formed, io-formed, irq-formed, mask-formed, level-added-formed}
+use Rattle.layout.specs.{image}
+use Rattle.facts_cases.specs.{done, oneClient, clientPacket}
+use Rattle.facts_cases.proofs.{_then_}
+use Rattle.history.specs.{Event, call, sharers, Ours, FromFresh, Fact, mask, level, io, irq, Made, Makes, io-made, io-back, irq-made, Tells}
+use Rattle.history.specs.{Name, the-client, the-mask, the-level, the-range, the-card, the-io, the-irq, the-issued, the-sockets, nameOf, Exact}
+use Rattle.history.specs.{ExactSince, Frame, OneGrant, PortsApart, LevelsApart, SharersCounted}
+use Rattle.history.specs.Stands.{Stands}
 use Rattle.history.proofs.Inverse.{release-io-makes-none, request-io-keeps, request-irq-keeps}
 use Rattle.history.proofs.Runs.{exact}
 use Rattle.history.proofs.Standing.{last-stands}
 use Rattle.history.proofs.Giving.{left, serves}
 use Rattle.history.proofs.OnSockets.{for, one-client}
-use Rattle.history.proofs.ExampleTables.{idle, irqHeld, ioHeld, busy, idle-ready, irq-ready, io-ready, busy-ready, irqAsked, ioAsked, ioAt, irqNaming}
-use Rattle.history.proofs.SampleRuns.{made-two, from-two, says, registers, before, ours-begins, set-up, set-up-two, register-permitted, pair, pair-formed}
-use Rattle.history.proofs.SampleRuns.{asksIrq, asksIo, irq-step, io-step}
+use Rattle.history.proofs.ExampleTables.{idle, irqHeld, ioHeld, busy, idle-ready, irq-ready, io-ready, busy-ready, irqAsked, ioAsked, ioAt}
+use Rattle.history.proofs.ExampleTables.{irqNaming}
+use Rattle.history.proofs.SampleRuns.{made-two, from-two, says, registers, before, ours-begins, set-up, set-up-two, register-permitted, pair}
+use Rattle.history.proofs.SampleRuns.{pair-formed, asksIrq, asksIo, irq-step, io-step}
 use Rattle.history.proofs.WrongGrants.{ioAlso, eight-names, first-granted, keeps-all}
 use Rattle.history.proofs.WrongOnce.{Besides}
 use Rattle.history.proofs.WrongHistory.{exact-stays-wrong, exact-sockets-wrong, io-strange-wrong, since-issued-wrong, success-takes-wrong}
-use Rattle.history.proofs.WrongHistory.{two-ios-wrong, two-irqs-wrong, ports-unshared-wrong, level-unshared-wrong, none-counted-wrong, counted-twice-wrong}
+use Rattle.history.proofs.WrongHistory.{two-ios-wrong, two-irqs-wrong, ports-unshared-wrong, level-unshared-wrong, none-counted-wrong}
+use Rattle.history.proofs.WrongHistory.{counted-twice-wrong}
 
 -- names of different kinds differ, and names with different numbers
 abbrev nameKind : Name → ℕ

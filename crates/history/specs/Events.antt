@@ -7,8 +7,8 @@ use Prim.Native.Nat.{ℕ}
 use Rattle.facts.specs.declared.Code.{Code}
 use Rattle.facts.specs.declared.Code.the-variants.{Success}
 use Rattle.facts.specs.Codes.{numberOf}
-use Rattle.answers.specs.Answers.{packed}
-use Rattle.boot.specs.Booting.{placed}
+use Rattle.facts.specs.Codes.{packed}
+use Rattle.facts.specs.Codes.{placed}
 use Rattle.promises.specs.Entries.{CallAnswers, CardAnswers, SharersAnswers, FreshAnswers, BootAnswers}
 use Rattle.history.specs.Given as entry
 use Rattle.history.specs.Given.{Given}

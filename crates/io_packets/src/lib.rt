@@ -36,28 +36,28 @@ pub fn base_asked(p: &[u8]) -> usize
     requires { ⌜ length (now p) ≡ requestIoLength ⌝ }
     ensures { λ r. ⌜ (r ≡ baseAsked (now (p .entry))) × (r < 65536) ⌝ }
 {
-    reading::word(p, BASE_AT)
+    table_read::word(p, BASE_AT)
 }
 
 pub fn count_asked(p: &[u8]) -> usize
     requires { ⌜ length (now p) ≡ requestIoLength ⌝ }
     ensures { λ r. ⌜ (r ≡ countAsked (now (p .entry))) × (r < 256) ⌝ }
 {
-    reading::byte(p, COUNT_AT)
+    table_read::byte(p, COUNT_AT)
 }
 
 pub fn lines_asked(p: &[u8]) -> usize
     requires { ⌜ length (now p) ≡ requestIoLength ⌝ }
     ensures { λ r. ⌜ (r ≡ linesAsked (now (p .entry))) × (r < 256) ⌝ }
 {
-    reading::byte(p, LINES_AT)
+    table_read::byte(p, LINES_AT)
 }
 
 fn attribute_set(p: &[u8], place: usize) -> bool
     requires { ⌜ (length (now p) ≡ requestIoLength) × (place < 16) ⌝ }
     ensures { λ r. ⌜ Says r (bit (ioAttributes (now (p .entry))) place ≡ 1) ⌝ }
 {
-    reading::is_set(reading::byte(p, ATTRIBUTES_AT), place)
+    table_read::is_set(table_read::byte(p, ATTRIBUTES_AT), place)
 }
 
 pub fn shared(p: &[u8]) -> bool
@@ -79,7 +79,7 @@ pub fn shared_mark(p: &[u8]) -> usize
     requires { ⌜ length (now p) ≡ requestIoLength ⌝ }
     ensures { λ r. ⌜ (r ≡ mark (eqb (bit (ioAttributes (now (p .entry))) 0) 1)) × (r < 256) ⌝ }
 {
-    reading::byte(p, ATTRIBUTES_AT) % 2
+    table_read::byte(p, ATTRIBUTES_AT) % 2
 }
 
 // "First Shared without Shared"
@@ -104,7 +104,7 @@ pub fn attributes_asked(p: &[u8]) -> Attributes
     requires { ⌜ length (now p) ≡ requestIoLength ⌝ }
     ensures { λ r. ⌜ AttributesAre (now (p .entry)) r ⌝ }
 {
-    if ALL_ATTRIBUTES <= reading::byte(p, ATTRIBUTES_AT) {
+    if ALL_ATTRIBUTES <= table_read::byte(p, ATTRIBUTES_AT) {
         return Attributes::Bad;
     }
     if first_alone(p) {
@@ -130,7 +130,7 @@ pub fn second_asked(p: &[u8]) -> Second
     requires { ⌜ length (now p) ≡ requestIoLength ⌝ }
     ensures { λ r. ⌜ SecondIs (now (p .entry)) r ⌝ }
 {
-    if reading::byte(p, SECOND_COUNT_AT) == 0 {
+    if table_read::byte(p, SECOND_COUNT_AT) == 0 {
         Second::Absent
     } else {
         Second::Asked
@@ -151,7 +151,7 @@ pub fn sizes_asked(p: &[u8]) -> Sizes
     if count == 0 {
         return Sizes::Bad;
     }
-    if ports::power(lines_asked(p)) < count {
+    if io_ranges::power(lines_asked(p)) < count {
         return Sizes::Bad;
     }
     let Second::Absent = second_asked(p) else {

@@ -1,14 +1,9 @@
 -- What a packet names, and that none of the clauses of its checks applies. Assumes nothing.
-use mathlib.Core.Path.{_≡_, refl, sym}
-use mathlib.Core.Logic.{inl, inr, _≢_}
-use mathlib.Core.List.{List}
-use Prim.Native.Nat.{ℕ, _^_, _≤_}
-use Rattle.facts.specs.Packets.{bit}
-use Rattle.facts.specs.Levels.{exclusiveType, dynamicType}
-use Rattle.facts.specs.Irq.{attributesOf, info2, typeAsked, levelAsked, ForcePulse, IrqFirstShared, Mask, LevelBit, PulseBit, ShareBit}
-use Rattle.facts.specs.Irq.{IrqAttributesBad, IrqInfoBad, Named}
-use Rattle.reading.specs.Sets.{Exactly}
-use Rattle.reading.proofs.Sets.{exactly-one}
+use Rattle.facts.proofs.Words.{_≡_, refl, sym, inl, inr, _≢_, List, ℕ, _^_, _≤_}
+use Rattle.facts.specs.{bit, exclusiveType, dynamicType, attributesOf, info2, typeAsked, levelAsked, ForcePulse, IrqFirstShared, Mask, LevelBit}
+use Rattle.facts.specs.{PulseBit, ShareBit, IrqAttributesBad, IrqInfoBad, Named}
+use Rattle.table_read.specs.{HasJust}
+use Rattle.table_read.proofs.{exactly-one}
 
 module _ (p : List ℕ) where
   -- of the attributes
@@ -29,16 +24,16 @@ module _ (p : List ℕ) where
   info-good neither level none (inr (inr x)) = none x
 
   -- the levels named: those of IRQInfo2, or the one of the low four bits
-  pub named-by-mask : Mask p → (set : ℕ) → set ≡ info2 p → Exactly set (Named p)
-  named-by-mask m set e = rw e (record { has = go; only = λ l b. inl (m, b) })
+  pub named-by-mask : Mask p → (set : ℕ) → set ≡ info2 p → HasJust set (Named p)
+  named-by-mask m set e = rw e (record { has = of-each; only = λ l b. inl (m, b) })
     where
-      go : (l : ℕ) → Named p l → bit (info2 p) l ≡ 1
-      go l (inl x) = x .1
-      go l (inr x) = absurd (x .0 m)
+      of-each : (l : ℕ) → Named p l → bit (info2 p) l ≡ 1
+      of-each l (inl x) = x .1
+      of-each l (inr x) = absurd (x .0 m)
 
-  pub named-by-level : (Mask p → ⊥) → (set : ℕ) → set ≡ 2 ^ levelAsked p → Exactly set (Named p)
-  named-by-level n set e = rw e (exactly-one (levelAsked p) (inr (n, refl)) go)
+  pub named-by-level : (Mask p → ⊥) → (set : ℕ) → set ≡ 2 ^ levelAsked p → HasJust set (Named p)
+  named-by-level n set e = rw e (exactly-one (levelAsked p) (inr (n, refl)) of-each)
     where
-      go : (l : ℕ) → Named p l → levelAsked p ≡ l
-      go l (inl x) = absurd (n (x .0))
-      go l (inr x) = sym (x .1)
+      of-each : (l : ℕ) → Named p l → levelAsked p ≡ l
+      of-each l (inl x) = absurd (n (x .0))
+      of-each l (inr x) = sym (x .1)

@@ -1,17 +1,7 @@
 -- The manner that a packet asks for, by its type and its bits; and what it writes. Assumes nothing.
-use mathlib.Core.Path.{_≡_, refl, ap, sym, _∙_, subst}
-use mathlib.Core.Logic.{_≢_}
-use mathlib.Core.List.{List}
-use mathlib.Core.Bool.{Bool, cond}
-use Prim.Native.Nat.{ℕ, _+_, _^_}
-use native.Mathlib.Omega.{arith}
-use lib.Dec.{eqb}
-use borrow.Author.Tests.{eq-eqb, ne-eqb}
-use Rattle.facts.specs.declared.Manner.{Manner}
-use Rattle.facts.specs.declared.Manner.the-variants.{Exclusive, TimeMultiplexed, DynamicLevel, DynamicPulse}
-use Rattle.facts.specs.Packets.{withWord}
-use Rattle.facts.specs.Levels.{exclusiveType, timeMultiplexedType}
-use Rattle.facts.specs.Irq.{attributesOf, dynamicOf, withPulse}
+use Rattle.facts.proofs.Words.{_≡_, refl, ap, sym, _∙_, subst, _≢_, List, Bool, cond, ℕ, _+_, _^_, arith, eqb, eq-eqb, ne-eqb}
+use Rattle.facts.specs.{Manner, Exclusive, TimeMultiplexed, DynamicLevel, DynamicPulse, withWord, exclusiveType, timeMultiplexedType, attributesOf}
+use Rattle.facts.specs.{dynamicOf, withPulse}
 
 -- dynamic: by Force Pulse, and by the card's Level bit
 module _ (force level : ℕ) where

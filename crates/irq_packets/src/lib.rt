@@ -1,9 +1,9 @@
 // The packets of RequestIRQ and ReleaseIRQ: what they ask for, and what a grant writes.
 use facts::Manner;
+use irq_levels::DYNAMIC_TYPE;
+use irq_levels::EXCLUSIVE_TYPE;
+use irq_levels::TIME_MULTIPLEXED_TYPE;
 use layout::ALL_LEVELS;
-use levels::DYNAMIC_TYPE;
-use levels::EXCLUSIVE_TYPE;
-use levels::TIME_MULTIPLEXED_TYPE;
 ghost use mathlib.Core.Path.{_≡_};
 ghost use mathlib.Core.Logic.{_≢_};
 ghost use Prim.Native.Nat.{_<_};
@@ -16,7 +16,7 @@ ghost use Rattle.facts.specs.declared.Manner.the-variants.{DynamicPulse};
 ghost use Rattle.facts.specs.Irq.{requestIrqLength, attributesOf, info1, info2, typeAsked, levelAsked, mannerAsked, dynamicOf};
 ghost use Rattle.facts.specs.Irq.{withPulse, assigning};
 ghost use Rattle.facts.specs.Irq.{ForcePulse, IrqFirstShared, Mask, LevelBit, PulseBit, ShareBit, Named};
-ghost use Rattle.reading.specs.Sets.{Exactly};
+ghost use Rattle.table_read.specs.Sets.{HasJust};
 ghost use Rattle.irq_packets.specs.Asking.{AttributesAre, InfoIs};
 
 // RequestIRQ's packet (5.53), and up to AssignedIRQ ReleaseIRQ's (5.45): where its fields stand.
@@ -54,21 +54,21 @@ fn attribute_set(p: &[u8], place: usize) -> bool
     requires { ⌜ (3 < length (now p)) × (place < 16) ⌝ }
     ensures { λ r. ⌜ Says r (bit (attributesOf (now (p .entry))) place ≡ 1) ⌝ }
 {
-    reading::is_set(reading::word(p, ATTRIBUTES_AT), place)
+    table_read::is_set(table_read::word(p, ATTRIBUTES_AT), place)
 }
 
 fn info_set(p: &[u8], place: usize) -> bool
     requires { ⌜ (length (now p) ≡ requestIrqLength) × (place < 16) ⌝ }
     ensures { λ r. ⌜ Says r (bit (info1 (now (p .entry))) place ≡ 1) ⌝ }
 {
-    reading::is_set(reading::byte(p, INFO_1_AT), place)
+    table_read::is_set(table_read::byte(p, INFO_1_AT), place)
 }
 
 pub fn type_asked(p: &[u8]) -> u8
     requires { ⌜ 3 < length (now p) ⌝ }
     ensures { λ r. ⌜ r ≡ typeAsked (now (p .entry)) ⌝ }
 {
-    (reading::word(p, ATTRIBUTES_AT) % ALL_TYPES) as u8
+    (table_read::word(p, ATTRIBUTES_AT) % ALL_TYPES) as u8
 }
 
 pub fn first_shared(p: &[u8]) -> bool
@@ -124,7 +124,7 @@ pub fn attributes_asked(p: &[u8]) -> Attributes
     if type_asked(p) == RESERVED_TYPE {
         return Attributes::Bad;
     }
-    if ALL_ATTRIBUTES <= reading::word(p, ATTRIBUTES_AT) {
+    if ALL_ATTRIBUTES <= table_read::word(p, ATTRIBUTES_AT) {
         return Attributes::Bad;
     }
     if first_exclusive(p) {
@@ -154,7 +154,7 @@ fn level_asked(p: &[u8]) -> usize
     requires { ⌜ length (now p) ≡ requestIrqLength ⌝ }
     ensures { λ r. ⌜ r ≡ levelAsked (now (p .entry)) ⌝ }
 {
-    reading::byte(p, INFO_1_AT) % ALL_LEVELS
+    table_read::byte(p, INFO_1_AT) % ALL_LEVELS
 }
 
 // "Mask set with any of IRQInfo1's bits 0 to 3"
@@ -176,7 +176,7 @@ fn mask_of_none(p: &[u8]) -> bool
     if !info_set(p, MASK) {
         return false;
     }
-    reading::word(p, INFO_2_AT) == 0
+    table_read::word(p, INFO_2_AT) == 0
 }
 
 // Whether IRQInfo1 and IRQInfo2 are ones that a request may have.
@@ -231,10 +231,10 @@ pub fn manner_asked(p: &[u8]) -> Manner
 // "With Mask clear, the low four bits name one level and IRQInfo2 is ignored.": a bit for each level that is named.
 pub fn named(p: &[u8]) -> usize
     requires { ⌜ length (now p) ≡ requestIrqLength ⌝ }
-    ensures { λ r. ⌜ Exactly r (Named (now (p .entry))) ⌝ }
+    ensures { λ r. ⌜ HasJust r (Named (now (p .entry))) ⌝ }
 {
     if info_set(p, MASK) {
-        return reading::word(p, INFO_2_AT);
+        return table_read::word(p, INFO_2_AT);
     }
     1 << level_asked(p)
 }
@@ -258,8 +258,8 @@ fn show_pulse(p: &mut [u8], m: Manner)
     if !is_pulse(m) {
         return;
     }
-    let attributes = reading::word(p, ATTRIBUTES_AT);
-    image::put_word(p, ATTRIBUTES_AT, attributes + PULSE_ALLOCATED);
+    let attributes = table_read::word(p, ATTRIBUTES_AT);
+    table_write::put_word(p, ATTRIBUTES_AT, attributes + PULSE_ALLOCATED);
 }
 
 // "Success writes AssignedIRQ and, for dynamic pulse only, attribute bit 8."

@@ -1,27 +1,17 @@
 -- The ways in which an entry ends, each with its permitted answer. Assumes nothing.
-use mathlib.Core.Path.{_≡_, refl, sym}
-use mathlib.Core.Logic.{inl, inr, _≢_}
-use mathlib.Core.List.{List}
-use mathlib.Core.Bool.{Bool}
-use Prim.Native.Nat.{ℕ, _+_, _≤_}
-use Rattle.facts.specs.declared.Code.the-variants.{UnsupportedService, GeneralFailure}
-use Rattle.facts.specs.Codes.{numberOf}
-use Rattle.facts.specs.Table
-use Rattle.facts.specs.Table.{Facts}
-use Rattle.facts.specs.Packets.{Bytes}
-use Rattle.facts.specs.Services.{Service, registerClient, deregisterClient, adjustResourceInfo, requestIrq, releaseIrq, requestIo, releaseIo}
-use Rattle.facts.specs.Services.{requestSocketMask, releaseSocketMask, Serves, serviceNumber, ruleOf, Call}
-use Rattle.facts.proofs.Laws.{host-laws}
-use Rattle.layout.specs.Sound.{Accepted}
-use Rattle.layout.specs.Served.{ServedBy, TableRefused}
-use Rattle.answers.specs.declared.Answer.{Answer}
-use Rattle.answers.specs.Answers.{packed, codeOf, handleOf}
-use Rattle.answers.proofs.Serve.{kept, stays}
-use Rattle.facts.specs.Boot.{recordsOf, endOf}
-use Rattle.boot.specs.declared.Booted.{Booted}
-use Rattle.boot.specs.Booting.{placed, placeOf, Boots}
-use Rattle.boot.specs.Booting as boot
-use Rattle.promises.specs.Entries.{CallAnswers, CardAnswers, SharersAnswers, BootAnswers}
+use Rattle.facts.proofs.Words.{_≡_, refl, sym, inl, inr, _≢_, List, Bool, ℕ, _+_, _≤_}
+use Rattle.managed_boot.specs.Booting as boot
+use Rattle.facts.specs.{UnsupportedService, GeneralFailure, numberOf, Facts, Bytes, Service, registerClient, deregisterClient, adjustResourceInfo}
+use Rattle.facts.specs.{requestIrq, releaseIrq, requestIo, releaseIo, requestSocketMask, releaseSocketMask, Serves, serviceNumber, ruleOf, Call}
+use Rattle.facts.specs.{packed, recordsOf, endOf, placed, allLevels, mostRanges}
+use Rattle.facts.proofs.{host-laws}
+use Rattle.layout.specs.{Accepted, ServedBy, TableRefused}
+use Rattle.service_answers.specs.declared.Answer.{Answer}
+use Rattle.service_answers.specs.{codeOf, handleOf}
+use Rattle.layout.proofs.{kept, stays}
+use Rattle.managed_boot.specs.declared.Booted.{Booted}
+use Rattle.managed_boot.specs.{placeOf, Boots}
+use Rattle.promises.specs.{CallAnswers, CardAnswers, SharersAnswers, BootAnswers}
 
 -- no well-formed set has these bytes
 module _ (b : List ℕ) (none : Accepted b → ⊥) where
@@ -53,18 +43,18 @@ pub record NoService (n : ℕ) : Type 0 where
   pub no-adjust : n ≢ serviceNumber adjustResourceInfo
 
 serves-none : (n : ℕ) → NoService n → Serves n → ⊥
-serves-none n x s = go (s .service) (s .number-is)
+serves-none n x s = each-service (s .service) (s .number-is)
   where
-    go : (v : Service) → serviceNumber v ≡ n → ⊥
-    go registerClient e = x .no-register (sym e)
-    go deregisterClient e = x .no-deregister (sym e)
-    go adjustResourceInfo e = x .no-adjust (sym e)
-    go requestIrq e = x .no-irq-request (sym e)
-    go releaseIrq e = x .no-irq-release (sym e)
-    go requestIo e = x .no-io-request (sym e)
-    go releaseIo e = x .no-io-release (sym e)
-    go requestSocketMask e = x .no-mask-request (sym e)
-    go releaseSocketMask e = x .no-mask-release (sym e)
+    each-service : (v : Service) → serviceNumber v ≡ n → ⊥
+    each-service registerClient e = x .no-register (sym e)
+    each-service deregisterClient e = x .no-deregister (sym e)
+    each-service adjustResourceInfo e = x .no-adjust (sym e)
+    each-service requestIrq e = x .no-irq-request (sym e)
+    each-service releaseIrq e = x .no-irq-release (sym e)
+    each-service requestIo e = x .no-io-request (sym e)
+    each-service releaseIo e = x .no-io-release (sym e)
+    each-service requestSocketMask e = x .no-mask-request (sym e)
+    each-service releaseSocketMask e = x .no-mask-release (sym e)
 
 pub unsupported : (b p : List ℕ) (n h r : ℕ) → Bytes p → Accepted b → NoService n → r ≡ packed UnsupportedService 0 → CallAnswers n h b b p p r
 unsupported b p n h r bytes a x e =
@@ -105,6 +95,6 @@ pub boots : (records b b′ : List ℕ) (x : Booted) (r : ℕ) → Boots records
 boots records b b′ x r s e = record { code = boot.codeOf x; place = placeOf x; packs = e; permitted = inl (s .0) }
 
 -- its place is low
-pub low-place : (records b b′ : List ℕ) (x : Booted) → Boots records b b′ x → placeOf x ≤ Table.allLevels + Table.mostRanges
+pub low-place : (records b b′ : List ℕ) (x : Booted) → Boots records b b′ x → placeOf x ≤ allLevels + mostRanges
 low-place records b b′ x s =
     host-laws .boot-most (endOf records) (s .0 .accepted .facts) (recordsOf records) _ (s .0 .accepted .formed) (s .0 .rule)

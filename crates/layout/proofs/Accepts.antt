@@ -1,12 +1,8 @@
 -- Accepted bytes are exactly the images of well-formed sets, each of one set. Assumes nothing.
-use mathlib.Core.Path.{_≡_, sym, _∙_, subst}
-use mathlib.Core.List.{List}
-use Prim.Native.Nat.{ℕ}
-use Rattle.facts.specs.Table.{Facts}
-use Rattle.facts.specs.WellFormed.{WellFormed}
-use Rattle.layout.specs.Layout.{image}
-use Rattle.layout.specs.Reading.{factsIn}
-use Rattle.layout.specs.Sound.{Sound, Accepted}
+use Rattle.facts.proofs.Words.{_≡_, sym, _∙_, subst, List, ℕ, WellFormed}
+use Rattle.facts.specs.{Facts}
+use Rattle.layout.specs.{image, factsIn, Accepted}
+use Rattle.layout.specs.Sound.{Sound}
 use Rattle.layout.proofs.RoundTrip.{image-injective}
 use Rattle.layout.proofs.Whole.{Bytes, whole}
 use Rattle.layout.proofs.Formed.{formed}

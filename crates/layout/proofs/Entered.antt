@@ -1,23 +1,11 @@
 -- A record written byte by byte; and a table with another grant's record shows the facts with that grant: what holds of I/O and of IRQ grants
 -- alike. Assumes nothing.
-use mathlib.Core.Path.{_≡_, ap, sym, _∙_, subst}
-use mathlib.Core.Logic.{_⊎_, inl, inr, _≢_}
-use mathlib.Core.List.{List, [], _∷_, _++_}
-use mathlib.Core.Option.{Option}
-use Prim.Native.Nat.{ℕ, _+_, _/_, _%_, _≤_, _<_}
-use native.Mathlib.Nat.{eq-or-lt-of-le}
-use native.Mathlib.Decide.{ℕ-discrete}
-use native.Mathlib.Omega.{arith}
-use lib.ListN.{length, getD, set, length-set, length-append, List·getD-append}
-use lib.Seq.{getD-append-seam}
-use Rattle.facts.specs.Table
-use Rattle.facts.specs.Table.{Facts, IoGrant, IrqGrant}
-use Rattle.facts.specs.Sets.{put}
-use Rattle.facts.specs.Packets.{byte, withWord}
-use Rattle.facts.proofs.Sets.{put-same, put-other}
-use Rattle.layout.specs.Layout
-use Rattle.layout.specs.Layout.{ioBytes, irqBytes, head}
-use Rattle.layout.specs.Reading.{clientPlace, rangePlace, levelPlace, ioPlace, irqPlace}
+use Rattle.facts.proofs.Words.{_≡_, ap, sym, _∙_, subst, _⊎_, inl, inr, _≢_, List, [], _∷_, _++_, Option, ℕ, _+_, _/_, _%_, _≤_, _<_, eq-or-lt-of-le}
+use Rattle.facts.proofs.Words.{ℕ-discrete, arith, length, getD, set, length-set, length-append, List·getD-append, getD-append-seam}
+use Rattle.facts.specs.{Facts, IoGrant, IrqGrant, put, byte, withWord, mostSockets}
+use Rattle.facts.proofs.{put-same, put-other}
+use Rattle.layout.specs.{ioBytes, irqBytes, head, clientPlace, rangePlace, levelPlace, ioPlace, irqPlace, cardsAt, clientsAt, ioSize, iosAt}
+use Rattle.layout.specs.{irqSize}
 use Rattle.layout.proofs.Shows.{Shows}
 use Rattle.layout.proofs.Written.{byte-same, byte-other}
 
@@ -78,16 +66,16 @@ granting F io irq =
 
 -- a table that differs in the grants' records alone, and shows other grants there
 pub granting-shown : (F : Facts) (io : ℕ → Option IoGrant) (irq : ℕ → Option IrqGrant) (b b′ : List ℕ) → Shows F b → length b′ ≡ length b
-    → ((q : ℕ) → (q < Layout.iosAt) ⊎ (Layout.clientsAt ≤ q) → byte b′ q ≡ byte b q)
-    → ((s j : ℕ) → s < Table.mostSockets → j < Layout.ioSize → getD (ioBytes (io s)) j 0 ≡ byte b′ (ioPlace s + j))
-    → ((s j : ℕ) → s < Table.mostSockets → j < Layout.irqSize → getD (irqBytes (irq s)) j 0 ≡ byte b′ (irqPlace s + j))
+    → ((q : ℕ) → (q < iosAt) ⊎ (clientsAt ≤ q) → byte b′ q ≡ byte b q)
+    → ((s j : ℕ) → s < mostSockets → j < ioSize → getD (ioBytes (io s)) j 0 ≡ byte b′ (ioPlace s + j))
+    → ((s j : ℕ) → s < mostSockets → j < irqSize → getD (irqBytes (irq s)) j 0 ≡ byte b′ (irqPlace s + j))
     → Shows (granting F io irq) b′
 unfolding head
 granting-shown F io irq b b′ w size other ios irqs =
     record {
       size = size ∙ w .size;
       head-is = λ j m. w .head-is j m ∙ sym (other j (inl (omega arith)));
-      cards-are = λ t m. w .cards-are t m ∙ sym (other (Layout.cardsAt + t) (inl (omega arith)));
+      cards-are = λ t m. w .cards-are t m ∙ sym (other (cardsAt + t) (inl (omega arith)));
       levels-are = λ i j m n. w .levels-are i j m n ∙ sym (other (levelPlace i + j) (inl (omega arith)));
       ios-are = ios;
       irqs-are = irqs;
@@ -99,15 +87,15 @@ granting-shown F io irq b b′ w size other ios irqs =
 -- one socket's record of a kind is written, and those of the others stay
 module _ {G : Type 0} (bytes : Option G → List ℕ) (place : ℕ → ℕ) (size : ℕ) (grants : ℕ → Option G) (b b′ : List ℕ) where
   pub put-shown : (s : ℕ) (o : Option G)
-      → ((i j : ℕ) → i < Table.mostSockets → j < size → getD (bytes (grants i)) j 0 ≡ byte b (place i + j))
+      → ((i j : ℕ) → i < mostSockets → j < size → getD (bytes (grants i)) j 0 ≡ byte b (place i + j))
       → ((j : ℕ) → j < size → byte b′ (place s + j) ≡ getD (bytes o) j 0)
       → ((i j : ℕ) → j < size → i ≢ s → byte b′ (place i + j) ≡ byte b (place i + j))
-      → (i j : ℕ) → i < Table.mostSockets → j < size → getD (bytes (put grants s o i)) j 0 ≡ byte b′ (place i + j)
-  put-shown s o before here other i j m n = go (ℕ-discrete i s)
+      → (i j : ℕ) → i < mostSockets → j < size → getD (bytes (put grants s o i)) j 0 ≡ byte b′ (place i + j)
+  put-shown s o before here other i j m n = same-or-not (ℕ-discrete i s)
     where
-      go : Dec (i ≡ s) → getD (bytes (put grants s o i)) j 0 ≡ byte b′ (place i + j)
-      go (yes e) =
+      same-or-not : Dec (i ≡ s) → getD (bytes (put grants s o i)) j 0 ≡ byte b′ (place i + j)
+      same-or-not (yes e) =
           ap (λ (x : Option G). getD (bytes x) j 0) (ap (put grants s o) e ∙ put-same grants s o) ∙ sym (here j n)
           ∙ ap (λ (k : ℕ). byte b′ (place k + j)) (sym e)
-      go (no d) =
+      same-or-not (no d) =
           ap (λ (x : Option G). getD (bytes x) j 0) (put-other grants s o i d) ∙ before i j m n ∙ sym (other i j n d)

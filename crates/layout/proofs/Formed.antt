@@ -1,34 +1,24 @@
 -- The facts read off sound bytes are well formed. Assumes nothing.
-use mathlib.Core.Path.{_≡_, ap, sym, _∙_, subst, subst⁻¹, subst₂}
-use mathlib.Core.Logic.{inl, inr, _≢_}
-use mathlib.Core.List.{List}
-use mathlib.Core.Bool.{true, false, false≢true}
-use mathlib.Core.Option.{Option, none, some, Option·none-ne-some}
-use Prim.Native.Nat.{ℕ, suc, _+_, _-_, _≤_, _<_}
-use native.Mathlib.Decide.{decLt}
-use native.Mathlib.Omega.{arith}
-use borrow.Author.Tests.{eqb-true, eq-eqb}
-use Rattle.facts.specs.Table
-use Rattle.facts.specs.Table.{Facts, Level, Range, IoGrant, IrqGrant}
-use Rattle.facts.specs.Ports.{Managed}
-use Rattle.facts.specs.Packets.{byte, word}
-use Rattle.facts.specs.WellFormed.{WellFormed, ClientFits, IoFits, IrqFits, Live, EventsAllowed, IoCompany, IrqCompany}
-use Rattle.facts.proofs.Company.{meet-symmetric, together-symmetric}
-use Rattle.layout.specs.Layout
-use Rattle.layout.specs.Reading.{socketsIn, clientsIn, rangesIn, below, marked, maskOf, maskPlace, levelPlace, ioPlace, irqPlace, clientIn}
-use Rattle.layout.specs.Reading.{rangeIn, levelIn, ioIn, irqIn, ioHere, irqHere, factsIn}
-use Rattle.layout.specs.Sound.{Sound, MaskSound, LiveIn, ManagedIn, IoUsed, IrqUsed, IoSound, IrqSound}
+use Rattle.facts.proofs.Words.{_≡_, ap, sym, _∙_, subst, subst⁻¹, subst₂, inl, inr, _≢_, List, true, false, false≢true, Option, none, some}
+use Rattle.facts.proofs.Words.{Option·none-ne-some, ℕ, suc, _+_, _-_, _≤_, _<_, decLt, arith, eqb-true, eq-eqb, WellFormed}
+use Rattle.facts.specs.{Facts, Level, Range, IoGrant, IrqGrant, Managed, byte, word, ClientFits, IoFits, IrqFits, Live, EventsAllowed, IoCompany}
+use Rattle.facts.specs.{IrqCompany, allEvents, allLevels, allPorts, mostSockets}
+use Rattle.facts.proofs.{meet-symmetric, together-symmetric}
+use Rattle.layout.specs.{socketsIn, clientsIn, rangesIn, below, marked, maskOf, maskPlace, levelPlace, ioPlace, irqPlace, clientIn, rangeIn}
+use Rattle.layout.specs.{levelIn, ioIn, irqIn, ioHere, irqHere, factsIn, MaskSound, LiveIn, ManagedIn, IoUsed, IrqUsed, IoSound, IrqSound}
+use Rattle.layout.specs.{cardsAt, ioCountAt, ioSize, irqLevelAt, irqSize, levelReservedAt}
+use Rattle.layout.specs.Sound.{Sound}
 use Rattle.layout.proofs.Lists.{below-in, below-past, upTo-in, in-upTo, upTo-length, rising-upTo, apart-upTo}
 use Rattle.layout.proofs.Grants.{nonzero, read}
 use Rattle.layout.proofs.Whole.{Bytes}
 
 -- what stands below a bound and is not the other is there
 found : {A : Type 0} (n : ℕ) (f : ℕ → Option A) (i : ℕ) (x : A) → below n none f i ≡ some x → (i < n) × (f i ≡ some x)
-found n f i x e = go (decLt i n)
+found n f i x e = below-or-not (decLt i n)
   where
-    go : Dec (i < n) → (i < n) × (f i ≡ some x)
-    go (yes l) = (l, sym (below-in n none f i l) ∙ e)
-    go (no l) = absurd (Option·none-ne-some x (sym (below-past n none f i (omega arith)) ∙ e))
+    below-or-not : Dec (i < n) → (i < n) × (f i ≡ some x)
+    below-or-not (yes l) = (l, sym (below-in n none f i l) ∙ e)
+    below-or-not (no l) = absurd (Option·none-ne-some x (sym (below-past n none f i (omega arith)) ∙ e))
 
 marked-is : (n : ℕ) → marked n ≡ true → n ≡ 1
 marked-is n e = eqb-true n 1 e
@@ -50,24 +40,24 @@ module _ (b : List ℕ) (bytes : Bytes b) (s : Sound b) where
 
   card-formed : (t : ℕ) → factsIn b .card t ≡ true → t < socketsIn b
   unfolding factsIn
-  card-formed t e = go (decLt t Table.mostSockets)
+  card-formed t e = below-or-not (decLt t mostSockets)
     where
-      go : Dec (t < Table.mostSockets) → t < socketsIn b
-      go (yes l) =
-          s .cards t l .socket (marked-is (byte b (Layout.cardsAt + t))
-          (sym (below-in Table.mostSockets false (λ t. marked (byte b (Layout.cardsAt + t))) t l) ∙ e))
-      go (no l) = absurd (false≢true (sym (below-past Table.mostSockets false (λ t. marked (byte b (Layout.cardsAt + t))) t (omega arith)) ∙ e))
+      below-or-not : Dec (t < mostSockets) → t < socketsIn b
+      below-or-not (yes l) =
+          s .cards t l .socket (marked-is (byte b (cardsAt + t))
+          (sym (below-in mostSockets false (λ t. marked (byte b (cardsAt + t))) t l) ∙ e))
+      below-or-not (no l) = absurd (false≢true (sym (below-past mostSockets false (λ t. marked (byte b (cardsAt + t))) t (omega arith)) ∙ e))
 
   mask-formed : (i t m : ℕ) → i < clientsIn b → clientIn b i .mask t ≡ some m → (t < socketsIn b) × EventsAllowed m
   unfolding clientIn
   mask-formed i t m l e =
-      let f = found Table.mostSockets (λ t. maskOf (word b (maskPlace i t))) t m e in
-      let n = nonzero (word b (maskPlace i t)) (word b (maskPlace i t) - Table.allEvents) m (f .1) in
-      go (s .clients i l .masks t (f .0)) n
+      let f = found mostSockets (λ t. maskOf (word b (maskPlace i t))) t m e in
+      let n = nonzero (word b (maskPlace i t)) (word b (maskPlace i t) - allEvents) m (f .1) in
+      in-each-case (s .clients i l .masks t (f .0)) n
     where
-      go : MaskSound b i t → (0 < word b (maskPlace i t)) × (word b (maskPlace i t) - Table.allEvents ≡ m) → (t < socketsIn b) × EventsAllowed m
-      go (inl z) n = absurd (omega (arith, z, n .0))
-      go (inr u) n = (u .2, omega (arith, u .0, u .1, n .1))
+      in-each-case : MaskSound b i t → (0 < word b (maskPlace i t)) × (word b (maskPlace i t) - allEvents ≡ m) → (t < socketsIn b) × EventsAllowed m
+      in-each-case (inl z) n = absurd (omega (arith, z, n .0))
+      in-each-case (inr u) n = (u .2, omega (arith, u .0, u .1, n .1))
 
   client-formed : (i : ℕ) → i < clientsIn b → ClientFits (factsIn b) (clientIn b i)
   unfolding factsIn clientIn
@@ -95,48 +85,48 @@ module _ (b : List ℕ) (bytes : Bytes b) (s : Sound b) where
   unfolding rangeIn
   lies-apart i l = s .ranges (suc i) l .from
 
-  range-formed : (i : ℕ) → i < rangesIn b → rangeIn b i .base + rangeIn b i .count ≤ Table.allPorts
+  range-formed : (i : ℕ) → i < rangesIn b → rangeIn b i .base + rangeIn b i .count ≤ allPorts
   unfolding rangeIn
   range-formed i l = s .ranges i l .within
 
-  level-there : (l : ℕ) → factsIn b .level l .managed ≡ true → (l < Table.allLevels) × (byte b (levelPlace l) ≡ 1)
+  level-there : (l : ℕ) → factsIn b .level l .managed ≡ true → (l < allLevels) × (byte b (levelPlace l) ≡ 1)
   unfolding factsIn levelIn
-  level-there l e = go (decLt l Table.allLevels)
+  level-there l e = below-or-not (decLt l allLevels)
     where
       none-managed : Level
       none-managed = record { managed = false; reserved = false }
 
-      go : Dec (l < Table.allLevels) → (l < Table.allLevels) × (byte b (levelPlace l) ≡ 1)
-      go (yes h) =
-          (h, marked-is (byte b (levelPlace l)) (sym (ap (λ (v : Level). v .managed) (below-in Table.allLevels none-managed (levelIn b) l h)) ∙ e))
-      go (no h) = absurd (false≢true (sym (ap (λ (v : Level). v .managed) (below-past Table.allLevels none-managed (levelIn b) l (omega arith))) ∙ e))
+      below-or-not : Dec (l < allLevels) → (l < allLevels) × (byte b (levelPlace l) ≡ 1)
+      below-or-not (yes h) =
+          (h, marked-is (byte b (levelPlace l)) (sym (ap (λ (v : Level). v .managed) (below-in allLevels none-managed (levelIn b) l h)) ∙ e))
+      below-or-not (no h) = absurd (false≢true (sym (ap (λ (v : Level). v .managed) (below-past allLevels none-managed (levelIn b) l (omega arith))) ∙ e))
 
-  level-managed : (l : ℕ) → l < Table.allLevels → byte b (levelPlace l) ≡ 1 → factsIn b .level l .managed ≡ true
+  level-managed : (l : ℕ) → l < allLevels → byte b (levelPlace l) ≡ 1 → factsIn b .level l .managed ≡ true
   unfolding factsIn levelIn
-  level-managed l h e = ap (λ (v : Level). v .managed) (below-in Table.allLevels (record { managed = false; reserved = false }) (levelIn b) l h)
+  level-managed l h e = ap (λ (v : Level). v .managed) (below-in allLevels (record { managed = false; reserved = false }) (levelIn b) l h)
       ∙ marked-one (byte b (levelPlace l)) e
 
   level-reserved : (l : ℕ) → factsIn b .level l .reserved ≡ true → factsIn b .level l .managed ≡ true
   unfolding factsIn levelIn
-  level-reserved l e = go (decLt l Table.allLevels)
+  level-reserved l e = below-or-not (decLt l allLevels)
     where
       none-managed : Level
       none-managed = record { managed = false; reserved = false }
 
-      go : Dec (l < Table.allLevels) → below Table.allLevels none-managed (levelIn b) l .managed ≡ true
-      go (yes h) =
-          let here = below-in Table.allLevels none-managed (levelIn b) l h in
-          let r = marked-is (byte b (levelPlace l + 1)) (sym (ap (λ (v : Level). v .reserved) here) ∙ e) in
+      below-or-not : Dec (l < allLevels) → below allLevels none-managed (levelIn b) l .managed ≡ true
+      below-or-not (yes h) =
+          let here = below-in allLevels none-managed (levelIn b) l h in
+          let r = marked-is (byte b (levelPlace l + levelReservedAt)) (sym (ap (λ (v : Level). v .reserved) here) ∙ e) in
           ap (λ (v : Level). v .managed) here ∙ marked-one (byte b (levelPlace l)) (omega (arith, r, s .levels l h .managed, s .levels l h .reserved))
-      go (no h) =
-          absurd (false≢true (sym (ap (λ (v : Level). v .reserved) (below-past Table.allLevels none-managed (levelIn b) l (omega arith))) ∙ e))
+      below-or-not (no h) =
+          absurd (false≢true (sym (ap (λ (v : Level). v .reserved) (below-past allLevels none-managed (levelIn b) l (omega arith))) ∙ e))
 
   -- a grant that is read is the record of a socket that is used
-  io-there : (t : ℕ) (g : IoGrant) → factsIn b .io t ≡ some g → (t < Table.mostSockets) × IoUsed b t × IoSound b t × (ioIn b t ≡ g)
+  io-there : (t : ℕ) (g : IoGrant) → factsIn b .io t ≡ some g → (t < mostSockets) × IoUsed b t × IoSound b t × (ioIn b t ≡ g)
   unfolding factsIn ioHere
   io-there t g e =
-      let f = found Table.mostSockets (ioHere b) t g e in
-      let r = read b (ioPlace t) Layout.ioSize (omega arith) (ioIn b t) g (f .1) (s .ios t (f .0)) in
+      let f = found mostSockets (ioHere b) t g e in
+      let r = read b (ioPlace t) ioSize (omega arith) (ioIn b t) g (f .1) (s .ios t (f .0)) in
       (f .0, r .0, r .1, r .2)
 
   io-fits : (t : ℕ) → IoSound b t → IoFits (factsIn b) t (ioIn b t)
@@ -149,17 +139,17 @@ module _ (b : List ℕ) (bytes : Bytes b) (s : Sound b) where
         line = u .line;
         lines = u .lines;
         port = u .port;
-        asked = omega (arith, bytes (ioPlace t + 4));
+        asked = omega (arith, bytes (ioPlace t + ioCountAt));
         decoded = u .decoded;
         managed = λ p h. managed-of p (u .managed p h);
         answers = λ p h. managed-of p (u .answers p h);
       }
 
-  irq-there : (t : ℕ) (g : IrqGrant) → factsIn b .irq t ≡ some g → (t < Table.mostSockets) × IrqUsed b t × IrqSound b t × (irqIn b t ≡ g)
+  irq-there : (t : ℕ) (g : IrqGrant) → factsIn b .irq t ≡ some g → (t < mostSockets) × IrqUsed b t × IrqSound b t × (irqIn b t ≡ g)
   unfolding factsIn irqHere
   irq-there t g e =
-      let f = found Table.mostSockets (irqHere b) t g e in
-      let r = read b (irqPlace t) Layout.irqSize (omega arith) (irqIn b t) g (f .1) (s .irqs t (f .0)) in
+      let f = found mostSockets (irqHere b) t g e in
+      let r = read b (irqPlace t) irqSize (omega arith) (irqIn b t) g (f .1) (s .irqs t (f .0)) in
       (f .0, r .0, r .1, r .2)
 
   irq-fits : (t : ℕ) → IrqSound b t → IrqFits (factsIn b) t (irqIn b t)
@@ -168,22 +158,22 @@ module _ (b : List ℕ) (bytes : Bytes b) (s : Sound b) where
       record {
         client = live-of (word b (irqPlace t)) (u .client);
         socket = u .socket;
-        managed = level-managed (byte b (irqPlace t + 2)) (u .level) (u .managed);
+        managed = level-managed (byte b (irqPlace t + irqLevelAt)) (u .level) (u .managed);
       }
 
-  io-keeps : (t u : ℕ) → t < Table.mostSockets → u < Table.mostSockets → t ≢ u → IoUsed b t → IoUsed b u → IoCompany (ioIn b t) (ioIn b u)
-  io-keeps t u l m d x y = go (decLt u t)
+  io-keeps : (t u : ℕ) → t < mostSockets → u < mostSockets → t ≢ u → IoUsed b t → IoUsed b u → IoCompany (ioIn b t) (ioIn b u)
+  io-keeps t u l m d x y = below-or-not (decLt u t)
     where
-      go : Dec (u < t) → IoCompany (ioIn b t) (ioIn b u)
-      go (yes h) = s .io-company t u l h x y
-      go (no h) = λ meets. let r = s .io-company u t m (omega arith) y x (meet-symmetric (ioIn b t .ports) (ioIn b u .ports) meets) in (r .1, r .0)
+      below-or-not : Dec (u < t) → IoCompany (ioIn b t) (ioIn b u)
+      below-or-not (yes h) = s .io-company t u l h x y
+      below-or-not (no h) = λ meets. let r = s .io-company u t m (omega arith) y x (meet-symmetric (ioIn b t .ports) (ioIn b u .ports) meets) in (r .1, r .0)
 
-  irq-keeps : (t u : ℕ) → t < Table.mostSockets → u < Table.mostSockets → t ≢ u → IrqUsed b t → IrqUsed b u → IrqCompany (irqIn b t) (irqIn b u)
-  irq-keeps t u l m d x y = go (decLt u t)
+  irq-keeps : (t u : ℕ) → t < mostSockets → u < mostSockets → t ≢ u → IrqUsed b t → IrqUsed b u → IrqCompany (irqIn b t) (irqIn b u)
+  irq-keeps t u l m d x y = below-or-not (decLt u t)
     where
-      go : Dec (u < t) → IrqCompany (irqIn b t) (irqIn b u)
-      go (yes h) = s .irq-company t u l h x y
-      go (no h) = λ same. together-symmetric (irqIn b u .manner) (irqIn b t .manner) (s .irq-company u t m (omega arith) y x (sym same))
+      below-or-not : Dec (u < t) → IrqCompany (irqIn b t) (irqIn b u)
+      below-or-not (yes h) = s .irq-company t u l h x y
+      below-or-not (no h) = λ same. together-symmetric (irqIn b u .manner) (irqIn b t .manner) (s .irq-company u t m (omega arith) y x (sym same))
 
   pub formed : WellFormed (factsIn b)
   unfolding factsIn
@@ -201,7 +191,7 @@ module _ (b : List ℕ) (bytes : Bytes b) (s : Sound b) where
         ranges-most = omega (arith, upTo-length (rangesIn b) (rangeIn b), s .ranges-most);
         apart = apart-upTo (rangesIn b) (rangeIn b) has-port lies-apart;
         ranges = λ r m. let i = in-upTo r (rangesIn b) (rangeIn b) m in
-            subst⁻¹ (λ (x : Range). x .base + x .count ≤ Table.allPorts) (i .2) (range-formed (i .0) (i .1));
+            subst⁻¹ (λ (x : Range). x .base + x .count ≤ allPorts) (i .2) (range-formed (i .0) (i .1));
         ios = λ t g e. let i = io-there t g e in subst (IoFits (factsIn b) t) (i .3) (io-fits t (i .2));
         irqs = λ t g e. let i = irq-there t g e in subst (IrqFits (factsIn b) t) (i .3) (irq-fits t (i .2));
         io-company = λ t u g g′ d e e′. let i = io-there t g e in let j = io-there u g′ e′ in

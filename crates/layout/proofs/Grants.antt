@@ -1,15 +1,8 @@
 -- A socket's grant and its record: what holds of I/O and of IRQ grants alike. Assumes nothing.
-use mathlib.Core.Path.{_≡_, refl, ap, sym, _∙_}
-use mathlib.Core.Logic.{_⊎_, inl, inr, ⊎-elim, _≢_}
-use mathlib.Core.List.{List}
-use mathlib.Core.Bool.{cond}
-use mathlib.Core.Option.{Option, none, some, Option·some-injective, Option·none-ne-some}
-use Prim.Native.Nat.{ℕ, zero, suc, _+_, _-_, _≤_, _<_}
-use native.Mathlib.Omega.{arith}
-use lib.ListN.{getD, replicate, getD-replicate}
-use lib.Dec.{eqb}
-use Rattle.facts.specs.Packets.{byte, word}
-use Rattle.layout.specs.Sound.{Zero}
+use Rattle.facts.proofs.Words.{_≡_, refl, ap, sym, _∙_, _⊎_, inl, inr, ⊎-elim, _≢_, List, cond, Option, none, some, Option·some-injective}
+use Rattle.facts.proofs.Words.{Option·none-ne-some, ℕ, zero, suc, _+_, _-_, _≤_, _<_, arith, getD, replicate, getD-replicate, eqb}
+use Rattle.facts.specs.{byte, word}
+use Rattle.layout.specs.{Zero}
 use Rattle.layout.proofs.RoundTrip.{zero-test, positive-test}
 
 -- a record that is not used is zero
@@ -37,28 +30,28 @@ module _ (b : List ℕ) (place k : ℕ) (big : 2 ≤ k) where
   module _ {G S : Type 0} where
     -- the record of a grant, or of none
     pub placed : (o : Option G) → (o ≡ none → Zero b place (place + k)) → ((g : G) → o ≡ some g → (0 < word b place) × S) → Placed S
-    placed o z s = go o refl
+    placed o z s = there-or-not o refl
       where
-        go : (x : Option G) → o ≡ x → Placed S
-        go none e = inl (z e)
-        go (some g) e = let r = s g e in inr (λ n. omega (arith, n, r .0), r .1)
+        there-or-not : (x : Option G) → o ≡ x → Placed S
+        there-or-not none e = inl (z e)
+        there-or-not (some g) e = let r = s g e in inr (λ n. omega (arith, n, r .0), r .1)
 
     -- a grant that is read has a record that is used
     pub read : (x g : G) → cond (eqb (word b place) 0) none (some x) ≡ some g → Placed S → (word b place ≢ 0) × S × (x ≡ g)
-    read x g e p = go (nonzero (word b place) x g e) p
+    read x g e p = in-each-case (nonzero (word b place) x g e) p
       where
-        go : (0 < word b place) × (x ≡ g) → Placed S → (word b place ≢ 0) × S × (x ≡ g)
-        go n (inl z) = absurd (omega (arith, n .0, no-client z))
-        go n (inr u) = (u .0, u .1, n .1)
+        in-each-case : (0 < word b place) × (x ≡ g) → Placed S → (word b place ≢ 0) × S × (x ≡ g)
+        in-each-case n (inl z) = absurd (omega (arith, n .0, no-client z))
+        in-each-case n (inr u) = (u .0, u .1, n .1)
 
   module _ {G : Type 0} where
     -- a record that is used is a grant's
     pub used : (o : Option G) → (o ≡ none → Zero b place (place + k)) → word b place ≢ 0 → (g : G) × (o ≡ some g)
-    used o z u = go o refl
+    used o z u = there-or-not o refl
       where
-        go : (x : Option G) → o ≡ x → (g : G) × (o ≡ some g)
-        go none e = absurd (u (no-client (z e)))
-        go (some g) e = (g, e)
+        there-or-not : (x : Option G) → o ≡ x → (g : G) × (o ≡ some g)
+        there-or-not none e = absurd (u (no-client (z e)))
+        there-or-not (some g) e = (g, e)
 
     module _ (bytes : Option G → List ℕ) (empty : bytes none ≡ replicate k 0) where
       none-bytes : (o : Option G) → o ≡ none → (j : ℕ) → j < k → getD (bytes o) j 0 ≡ 0

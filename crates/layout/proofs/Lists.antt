@@ -1,22 +1,10 @@
 -- Laws of listed facts: members, places, order, and facts that stand below a bound. Assumes nothing.
-use mathlib.Core.Path.{_≡_, refl, ap, ap₂, sym, _∙_, subst, subst₂}
-use mathlib.Core.Logic.{_⊎_, inl, inr, _≢_}
-use mathlib.Core.List.{List, [], _∷_, _++_, map}
-use mathlib.Core.Bool.{Bool, cond}
-use mathlib.Core.Option.{Option, none, some, Option·some-injective, Option·none-ne-some}
-use Prim.Native.Nat.{ℕ, zero, suc, _+_, _≤_, _<_, zero-le}
-use native.Mathlib.Nat.{not-suc-le-zero, le-of-suc-le-suc}
-use native.Mathlib.Decide.{decLt}
-use native.Mathlib.Omega.{arith}
-use lib.ListN.{length, getElem?, length-append}
-use borrow.Author.Tests.{lt-ltb, le-ltb}
-use Rattle.facts.specs.Table.{Client, Range}
-use Rattle.facts.specs.Sets.{_∈_, without}
-use Rattle.facts.specs.WellFormed.{Rising, Apart}
-use Rattle.facts.specs.Resources.{inserted}
-use Rattle.facts.proofs.Sets.{in-left, in-right, in-either, by-number, rising-over, rising-more}
-use Rattle.facts.proofs.ResourcesStay.{inserted-cases}
-use Rattle.layout.specs.Reading.{upTo, below}
+use Rattle.facts.proofs.Words.{_≡_, refl, ap, ap₂, sym, _∙_, subst, subst₂, _⊎_, inl, inr, _≢_, List, [], _∷_, _++_, map, Bool, cond, Option, none}
+use Rattle.facts.proofs.Words.{some, Option·some-injective, Option·none-ne-some, ℕ, zero, suc, _+_, _≤_, _<_, zero-le, not-suc-le-zero}
+use Rattle.facts.proofs.Words.{le-of-suc-le-suc, decLt, arith, length, getElem?, length-append, lt-ltb, le-ltb}
+use Rattle.facts.specs.{Client, Range, _∈_, without, Rising, Apart, inserted}
+use Rattle.facts.proofs.{in-left, in-right, in-either, by-number, rising-over, rising-more, inserted-cases}
+use Rattle.layout.specs.{upTo, below}
 use Rattle.layout.proofs.Parts.{last-or-below}
 
 module _ {A : Type 0} where
@@ -36,24 +24,24 @@ module _ {A : Type 0} where
   pub upTo-in : (n : ℕ) (f : ℕ → A) (i : ℕ) → i < n → f i ∈ upTo n f
   unfolding upTo
   upTo-in zero f i l = absurd (not-suc-le-zero l)
-  upTo-in (suc n) f i l = go (last-or-below l) (λ (h : i < n). upTo-in n f i h)
+  upTo-in (suc n) f i l = either-way (last-or-below l) (λ (h : i < n). upTo-in n f i h)
     where
-      go : (i < n) ⊎ (i ≡ n) → (i < n → f i ∈ upTo n f) → f i ∈ (upTo n f ++ (f n ∷ []))
-      go (inl h) ih = in-left (f i) (upTo n f) (f n ∷ []) (ih h)
-      go (inr e) ih = in-right (f i) (upTo n f) (f n ∷ []) (inl (ap f e))
+      either-way : (i < n) ⊎ (i ≡ n) → (i < n → f i ∈ upTo n f) → f i ∈ (upTo n f ++ (f n ∷ []))
+      either-way (inl h) ih = in-left (f i) (upTo n f) (f n ∷ []) (ih h)
+      either-way (inr e) ih = in-right (f i) (upTo n f) (f n ∷ []) (inl (ap f e))
 
   pub in-upTo : (x : A) (n : ℕ) (f : ℕ → A) → x ∈ upTo n f → (i : ℕ) × (i < n) × (x ≡ f i)
   unfolding upTo
   in-upTo x zero f m = absurd m
-  in-upTo x (suc n) f m = go (in-either x (upTo n f) (f n ∷ []) m) (λ (h : x ∈ upTo n f). in-upTo x n f h)
+  in-upTo x (suc n) f m = either-way (in-either x (upTo n f) (f n ∷ []) m) (λ (h : x ∈ upTo n f). in-upTo x n f h)
     where
       last : x ∈ (f n ∷ []) → (i : ℕ) × (i < suc n) × (x ≡ f i)
       last (inl e) = (n, omega arith, e)
       last (inr m) = absurd m
 
-      go : (x ∈ upTo n f) ⊎ (x ∈ (f n ∷ [])) → (x ∈ upTo n f → (i : ℕ) × (i < n) × (x ≡ f i)) → (i : ℕ) × (i < suc n) × (x ≡ f i)
-      go (inl h) ih = let r = ih h in (r .0, omega (arith, r .1), r .2)
-      go (inr h) ih = last h
+      either-way : (x ∈ upTo n f) ⊎ (x ∈ (f n ∷ [])) → (x ∈ upTo n f → (i : ℕ) × (i < n) × (x ≡ f i)) → (i : ℕ) × (i < suc n) × (x ≡ f i)
+      either-way (inl h) ih = let r = ih h in (r .0, omega (arith, r .1), r .2)
+      either-way (inr h) ih = last h
 
   -- the ith of a list
   pub at-in : (l : List A) (i : ℕ) {x : A} → getElem? l i ≡ some x → x ∈ l
@@ -83,11 +71,11 @@ module _ {A : Type 0} where
   pub at-upTo : (n : ℕ) (f : ℕ → A) (i : ℕ) → i < n → getElem? (upTo n f) i ≡ some (f i)
   unfolding upTo
   at-upTo zero f i l = absurd (not-suc-le-zero l)
-  at-upTo (suc n) f i l = go (last-or-below l) (λ (h : i < n). at-upTo n f i h)
+  at-upTo (suc n) f i l = either-way (last-or-below l) (λ (h : i < n). at-upTo n f i h)
     where
-      go : (i < n) ⊎ (i ≡ n) → (i < n → getElem? (upTo n f) i ≡ some (f i)) → getElem? (upTo n f ++ (f n ∷ [])) i ≡ some (f i)
-      go (inl h) ih = at-left (upTo n f) (f n ∷ []) i (subst (λ (m : ℕ). i < m) (sym (upTo-length n f)) h) ∙ ih h
-      go (inr e) ih =
+      either-way : (i < n) ⊎ (i ≡ n) → (i < n → getElem? (upTo n f) i ≡ some (f i)) → getElem? (upTo n f ++ (f n ∷ [])) i ≡ some (f i)
+      either-way (inl h) ih = at-left (upTo n f) (f n ∷ []) i (subst (λ (m : ℕ). i < m) (sym (upTo-length n f)) h) ∙ ih h
+      either-way (inr e) ih =
           ap (getElem? (upTo n f ++ (f n ∷ []))) (e ∙ sym (upTo-length n f)) ∙ at-end (upTo n f) (f n)
           ∙ ap {B = Option A} (λ (m : ℕ). some (f m)) (sym e)
 
@@ -100,13 +88,13 @@ module _ {A : Type 0} where
 
   -- a list is what f gives, where f gives what stands at each place
   pub listed : (l : List A) (f : ℕ → A) → ((i : ℕ) (x : A) → getElem? l i ≡ some x → i < length l → f i ≡ x) → upTo (length l) f ≡ l
-  listed l f h = same-places (upTo (length l) f) l (λ i. go i (decLt i (length l)))
+  listed l f h = same-places (upTo (length l) f) l (λ i. below-or-not i (decLt i (length l)))
     where
-      go : (i : ℕ) → Dec (i < length l) → getElem? (upTo (length l) f) i ≡ getElem? l i
-      go i (yes b) =
+      below-or-not : (i : ℕ) → Dec (i < length l) → getElem? (upTo (length l) f) i ≡ getElem? l i
+      below-or-not i (yes b) =
           let x = at-below l i b in
           at-upTo (length l) f i b ∙ ap {B = Option A} some (h i (x .0) (x .1) b) ∙ sym (x .1)
-      go i (no b) = at-past (upTo (length l) f) i (omega (arith, upTo-length (length l) f)) ∙ sym (at-past l i (omega arith))
+      below-or-not i (no b) = at-past (upTo (length l) f) i (omega (arith, upTo-length (length l) f)) ∙ sym (at-past l i (omega arith))
 
   pub in-at : (x : A) (l : List A) → x ∈ l → (i : ℕ) × (i < length l) × (getElem? l i ≡ some x)
   in-at x [] m = absurd m
@@ -186,11 +174,11 @@ apart-more lo (x ∷ rs) r a l p h = (a .0, a .1, apart-more (x .base + x .count
 -- numbers that rise from place to place
 climb : (f : ℕ → ℕ) (n i : ℕ) → ((k : ℕ) → k < n → f k < f (suc k)) → i < n → f i < f n
 climb f zero i h l = absurd (not-suc-le-zero l)
-climb f (suc n) i h l = go (last-or-below l) (λ (b : i < n). climb f n i (λ k m. h k (omega arith)) b)
+climb f (suc n) i h l = either-way (last-or-below l) (λ (b : i < n). climb f n i (λ k m. h k (omega arith)) b)
   where
-    go : (i < n) ⊎ (i ≡ n) → (i < n → f i < f n) → f i < f (suc n)
-    go (inl b) ih = omega (arith, ih b, h n (omega arith))
-    go (inr e) ih = subst (λ (k : ℕ). f k < f (suc n)) (sym e) (h n (omega arith))
+    either-way : (i < n) ⊎ (i ≡ n) → (i < n → f i < f n) → f i < f (suc n)
+    either-way (inl b) ih = omega (arith, ih b, h n (omega arith))
+    either-way (inr e) ih = subst (λ (k : ℕ). f k < f (suc n)) (sym e) (h n (omega arith))
 
 -- clients whose handles rise from place to place are in order; so are ranges that lie apart from place to place
 pub rising-upTo : (n : ℕ) (f : ℕ → Client) → (0 < n → 0 < f 0 .handle) → ((i : ℕ) → suc i < n → f i .handle < f (suc i) .handle) → Rising 0 (upTo n f)
@@ -203,11 +191,11 @@ rising-upTo (suc n) f s h =
     above x m = subst (λ (y : Client). y .handle < f n .handle) (sym (m .2)) (climb (λ k. f k .handle) n (m .0) (λ k l. h k (omega arith)) (m .1))
 
     over : 0 < f n .handle
-    over = go n refl
+    over = of-each n refl
       where
-        go : (k : ℕ) → n ≡ k → 0 < f n .handle
-        go zero e = subst (λ (k : ℕ). 0 < f k .handle) (sym e) (s (omega arith))
-        go (suc k) e = omega (arith, climb (λ k. f k .handle) n 0 (λ k l. h k (omega arith)) (omega (arith, e)))
+        of-each : (k : ℕ) → n ≡ k → 0 < f n .handle
+        of-each zero e = subst (λ (k : ℕ). 0 < f k .handle) (sym e) (s (omega arith))
+        of-each (suc k) e = omega (arith, climb (λ k. f k .handle) n 0 (λ k l. h k (omega arith)) (omega (arith, e)))
 
 pub apart-upTo : (n : ℕ) (f : ℕ → Range) → ((i : ℕ) → i < n → 1 ≤ f i .count)
     → ((i : ℕ) → suc i < n → f i .base + f i .count ≤ f (suc i) .base)
@@ -220,11 +208,11 @@ apart-upTo (suc n) f p h =
   where
     before : (k : ℕ) → k ≤ n → (i : ℕ) → i < k → f i .base + f i .count ≤ f k .base
     before zero l i b = absurd (not-suc-le-zero b)
-    before (suc k) l i b = go (last-or-below b) (λ (c : i < k). before k (omega arith) i c)
+    before (suc k) l i b = either-way (last-or-below b) (λ (c : i < k). before k (omega arith) i c)
       where
-        go : (i < k) ⊎ (i ≡ k) → (i < k → f i .base + f i .count ≤ f k .base) → f i .base + f i .count ≤ f (suc k) .base
-        go (inl c) ih = omega (arith, ih c, h k (omega arith))
-        go (inr e) ih = subst (λ (j : ℕ). f j .base + f j .count ≤ f (suc k) .base) (sym e) (h k (omega arith))
+        either-way : (i < k) ⊎ (i ≡ k) → (i < k → f i .base + f i .count ≤ f k .base) → f i .base + f i .count ≤ f (suc k) .base
+        either-way (inl c) ih = omega (arith, ih c, h k (omega arith))
+        either-way (inr e) ih = subst (λ (j : ℕ). f j .base + f j .count ≤ f (suc k) .base) (sym e) (h k (omega arith))
 
     above : (x : Range) → (i : ℕ) × (i < n) × (x ≡ f i) → x .base + x .count ≤ f n .base
     above x m = subst (λ (y : Range). y .base + y .count ≤ f n .base) (sym (m .2)) (before n (omega arith) (m .0) (m .1))

@@ -1,26 +1,12 @@
 -- A table's ranges stand in order, and no two have a port in common; and a table with a range more, a range less, or a level changed is the image
 -- of the facts with that change. Assumes nothing.
-use mathlib.Core.Path.{_≡_, refl, ap, sym, _∙_}
-use mathlib.Core.Logic.{_⊎_, inl, inr, _≢_}
-use mathlib.Core.List.{List}
-use mathlib.Core.Option.{some, Option·some-injective, Option·none-ne-some}
-use Prim.Native.Nat.{ℕ, zero, suc, _+_, _-_, _≤_, _<_}
-use native.Mathlib.Nat.{eq-or-lt-of-le, add-zero}
-use native.Mathlib.Decide.{decLt}
-use native.Mathlib.Omega.{arith}
-use lib.ListN.{length, getD, getElem?, set, length-set}
-use Rattle.facts.specs.Table
-use Rattle.facts.specs.Table.{Level, Range}
-use Rattle.facts.specs.Packets.{byte}
-use Rattle.facts.specs.Ports.{Within}
-use Rattle.facts.specs.Resources.{withLevel, withRanges, inserted, withoutRange, rangeRemoved}
-use Rattle.facts.proofs.ResourcesStay.{inserted-more}
-use Rattle.layout.specs.Layout
-use Rattle.layout.specs.Layout.{image, mark, rangeBytes, levelBytes}
-use Rattle.layout.specs.Reading.{rangesIn, rangePlace, levelPlace, rangeIn}
-use Rattle.layout.specs.Sound.{Accepted, RangesSound, rangeBase, rangeCount, endBefore}
-use Rattle.layout.specs.Changed.{TakenOut, PutIn}
+use Rattle.facts.proofs.Words.{_≡_, refl, ap, sym, _∙_, _⊎_, inl, inr, _≢_, List, some, Option·some-injective, Option·none-ne-some, ℕ, zero, suc}
+use Rattle.facts.proofs.Words.{_+_, _-_, _≤_, _<_, eq-or-lt-of-le, add-zero, decLt, arith, length, getD, getElem?, set, length-set}
 use Rattle.layout.proofs.Of
+use Rattle.facts.specs.{Level, Range, byte, Within, withLevel, withRanges, inserted, withoutRange, rangeRemoved, allLevels, mostRanges}
+use Rattle.facts.proofs.{inserted-more}
+use Rattle.layout.specs.{image, mark, rangeBytes, levelBytes, rangesIn, rangePlace, levelPlace, rangeIn, Accepted, RangesSound, rangeBase}
+use Rattle.layout.specs.{rangeCount, endBefore, TakenOut, PutIn, levelReservedAt, rangeSize, rangesAt, restAt}
 use Rattle.layout.proofs.Parts.{below-at}
 use Rattle.layout.proofs.Lists.{Fewer, without-at, More, inserted-at, at-past}
 use Rattle.layout.proofs.Records.{records-fewer, records-more}
@@ -44,14 +30,14 @@ end-next b i = let e : i + 1 ≡ suc i = omega arith in ap (endBefore b) e
 -- each range ends at or before the start of every later one
 pub ends-before : (b : List ℕ) → RangesSound b → (j i : ℕ) → j < i → i < rangesIn b → rangeEnd b j ≤ rangeBase b i
 ends-before b s j zero l h = absurd (omega arith)
-ends-before b s j (suc k) l h = go (eq-or-lt-of-le (omega arith)) (ends-before b s j k)
+ends-before b s j (suc k) l h = either-way (eq-or-lt-of-le (omega arith)) (ends-before b s j k)
   where
     next : rangeEnd b k ≤ rangeBase b (suc k)
     next = s (suc k) h .from
 
-    go : (j ≡ k) ⊎ (j < k) → (j < k → k < rangesIn b → rangeEnd b j ≤ rangeBase b k) → rangeEnd b j ≤ rangeBase b (suc k)
-    go (inl q) f = rw q next
-    go (inr q) f = omega (arith, f q (omega arith), next)
+    either-way : (j ≡ k) ⊎ (j < k) → (j < k → k < rangesIn b → rangeEnd b j ≤ rangeBase b k) → rangeEnd b j ≤ rangeBase b (suc k)
+    either-way (inl q) f = rw q next
+    either-way (inr q) f = omega (arith, f q (omega arith), next)
 
 -- so the later of two has the greater base
 pub bases-rise : (b : List ℕ) → RangesSound b → (j i : ℕ) → j < i → i < rangesIn b → rangeBase b j < rangeBase b i
@@ -63,15 +49,15 @@ HasPort b i p = Within p (rangeBase b i) (rangeCount b i)
 
 -- a port lies in one range
 pub same-range : (b : List ℕ) → RangesSound b → (p i j : ℕ) → i < rangesIn b → j < rangesIn b → HasPort b i p → HasPort b j p → i ≡ j
-same-range b s p i j l m v w = go (decLt i j) (decLt j i)
+same-range b s p i j l m v w = below-or-above (decLt i j) (decLt j i)
   where
-    go : Dec (i < j) → Dec (j < i) → i ≡ j
-    go (yes k) d = absurd (omega (arith, ends-before b s i j k m, v .below, w .from))
-    go (no n) (yes k) = absurd (omega (arith, ends-before b s j i k l, w .below, v .from))
-    go (no n) (no k) = omega arith
+    below-or-above : Dec (i < j) → Dec (j < i) → i ≡ j
+    below-or-above (yes k) d = absurd (omega (arith, ends-before b s i j k m, v .below, w .from))
+    below-or-above (no n) (yes k) = absurd (omega (arith, ends-before b s j i k l, w .below, v .from))
+    below-or-above (no n) (no k) = omega arith
 
 -- a range that is listed has one of the table's places
-pub range-placed : (b : List ℕ) → Accepted b → (i : ℕ) → i < rangesIn b → i < Table.mostRanges
+pub range-placed : (b : List ℕ) → Accepted b → (i : ℕ) → i < rangesIn b → i < mostRanges
 range-placed b a i l = omega (arith, Of.sound-in b a .ranges-most)
 
 module _ (b b′ : List ℕ) (a : Accepted b) where
@@ -84,18 +70,18 @@ module _ (b b′ : List ℕ) (a : Accepted b) where
       ap (λ (r : Range). r .base) (sym (Option·some-injective (rangeIn b i) y (sym (Of.range-of b a i l) ∙ e))) ∙ Of.range-base b a i
 
   -- outside the ranges nothing changes
-  outside : (i p : ℕ) → (p < Layout.rangesAt) ⊎ (Layout.restAt ≤ p) → (p < rangePlace i) ⊎ (Layout.restAt ≤ p)
+  outside : (i p : ℕ) → (p < rangesAt) ⊎ (restAt ≤ p) → (p < rangePlace i) ⊎ (restAt ≤ p)
   outside i p (inl m) = inl (omega arith)
   outside i p (inr m) = inr m
 
   -- the range in the place i taken out
-  pub range-taken-out : (i : ℕ) → i < rangesIn b → TakenOut b b′ 2 (rangePlace i) Layout.rangeSize Layout.restAt
+  pub range-taken-out : (i : ℕ) → i < rangesIn b → TakenOut b b′ 2 (rangePlace i) rangeSize restAt
       → image (rangeRemoved (a .facts) (rangeBase b i)) ≡ b′
   range-taken-out i l d =
       shows-image (rangeRemoved (a .facts) (rangeBase b i)) b′
       (ranges-shown (a .facts) (withoutRange (rangeBase b i) ranges) b b′ (Of.shows-in b a) (d .size)
       (omega (arith, d .fewer, Of.ranges-in b a, fewer .one-less))
-      (records-fewer rangeBytes Layout.rangesAt Layout.rangeSize Table.mostRanges (zeros Layout.rangeSize) ranges
+      (records-fewer rangeBytes rangesAt rangeSize mostRanges (zeros rangeSize) ranges
       (withoutRange (rangeBase b i) ranges) b b′ i (Of.shows-in b a .ranges-are)
       (λ p m n. d .other p (λ q. omega (arith, q)) (inl n)) fewer (a .formed .ranges-most) (d .moved) (d .last))
       (λ p n o. d .other p n (outside i p o)))
@@ -108,13 +94,13 @@ module _ (b b′ : List ℕ) (a : Accepted b) where
   -- the range r put in at the place i, after those whose base is not over its own
   pub range-put-in : (r : Range) (i : ℕ) → i ≤ rangesIn b → ((j : ℕ) → j < i → rangeBase b j ≤ r .base)
       → ((j : ℕ) → i ≤ j → j < rangesIn b → r .base < rangeBase b j)
-      → PutIn b b′ 2 (rangePlace i) Layout.restAt (rangeBytes (some r))
+      → PutIn b b′ 2 (rangePlace i) restAt (rangeBytes (some r))
       → image (withRanges (a .facts) (inserted r (a .facts .ranges))) ≡ b′
   range-put-in r i l low high d =
       shows-image (withRanges (a .facts) (inserted r ranges)) b′
       (ranges-shown (a .facts) (inserted r ranges) b b′ (Of.shows-in b a) (d .size)
       (omega (arith, d .more, Of.ranges-in b a, inserted-more r ranges))
-      (records-more rangeBytes Layout.rangesAt Layout.rangeSize Table.mostRanges (zeros Layout.rangeSize) ranges (inserted r ranges) b b′ i
+      (records-more rangeBytes rangesAt rangeSize mostRanges (zeros rangeSize) ranges (inserted r ranges) b b′ i
       (Of.shows-in b a .ranges-are) (λ p m n. d .other p (λ q. omega (arith, q)) (inl n)) r more (d .new) (d .moved))
       (λ p n o. d .other p n (outside i p o)))
     where
@@ -123,36 +109,36 @@ module _ (b b′ : List ℕ) (a : Accepted b) where
           inserted-at r ranges i (omega (arith, Of.ranges-in b a)) (λ j y m e. omega (arith, said j y e (omega arith), low j m)) over
         where
           over : (j : ℕ) (y : Range) → i ≤ j → getElem? ranges j ≡ some y → r .base < y .base
-          over j y m e = go (decLt j (rangesIn b))
+          over j y m e = below-or-not (decLt j (rangesIn b))
             where
-              go : Dec (j < rangesIn b) → r .base < y .base
-              go (yes n) = omega (arith, said j y e n, high j m n)
-              go (no n) = absurd (Option·none-ne-some y (sym (at-past ranges j (omega (arith, Of.ranges-in b a))) ∙ e))
+              below-or-not : Dec (j < rangesIn b) → r .base < y .base
+              below-or-not (yes n) = omega (arith, said j y e n, high j m n)
+              below-or-not (no n) = absurd (Option·none-ne-some y (sym (at-past ranges j (omega (arith, Of.ranges-in b a))) ∙ e))
 
   -- a level's marks
-  pub level-written : (l : ℕ) (v : Level) → l < Table.allLevels
-      → b′ ≡ set (set b (levelPlace l) (mark (v .managed))) (levelPlace l + 1) (mark (v .reserved))
+  pub level-written : (l : ℕ) (v : Level) → l < allLevels
+      → b′ ≡ set (set b (levelPlace l) (mark (v .managed))) (levelPlace l + levelReservedAt) (mark (v .reserved))
       → image (withLevel (a .facts) l v) ≡ b′
   level-written l v h e =
       shows-image (withLevel (a .facts) l v) b′
       (level-shown (a .facts) b b′ l v (Of.shows-in b a) h (ap length e ∙ size)
       (below-at 2 (λ j. byte b′ (levelPlace l + j) ≡ getD (levelBytes v) j 0) ((tt, first), second))
-      (λ p x y. ap (λ (t : List ℕ). byte t p) e ∙ byte-other one (levelPlace l + 1) (mark (v .reserved)) p y
+      (λ p x y. ap (λ (t : List ℕ). byte t p) e ∙ byte-other one (levelPlace l + levelReservedAt) (mark (v .reserved)) p y
       ∙ byte-other b (levelPlace l) (mark (v .managed)) p x))
     where
       one : List ℕ
       one = set b (levelPlace l) (mark (v .managed))
 
-      size : length (set one (levelPlace l + 1) (mark (v .reserved))) ≡ length b
-      size = length-set one (levelPlace l + 1) (mark (v .reserved)) ∙ length-set b (levelPlace l) (mark (v .managed))
+      size : length (set one (levelPlace l + levelReservedAt) (mark (v .reserved))) ≡ length b
+      size = length-set one (levelPlace l + levelReservedAt) (mark (v .reserved)) ∙ length-set b (levelPlace l) (mark (v .managed))
 
       first : byte b′ (levelPlace l + 0) ≡ mark (v .managed)
       first =
           ap (λ (t : List ℕ). byte t (levelPlace l + 0)) e
-          ∙ byte-other one (levelPlace l + 1) (mark (v .reserved)) (levelPlace l + 0) (λ q. omega (arith, q))
+          ∙ byte-other one (levelPlace l + levelReservedAt) (mark (v .reserved)) (levelPlace l + 0) (λ q. omega (arith, q))
           ∙ ap (byte one) (add-zero (levelPlace l)) ∙ byte-same b (levelPlace l) (mark (v .managed)) (omega (arith, Of.size-in b a))
 
-      second : byte b′ (levelPlace l + 1) ≡ mark (v .reserved)
+      second : byte b′ (levelPlace l + levelReservedAt) ≡ mark (v .reserved)
       second =
-          ap (λ (t : List ℕ). byte t (levelPlace l + 1)) e
-          ∙ byte-same one (levelPlace l + 1) (mark (v .reserved)) (omega (arith, Of.size-in b a, length-set b (levelPlace l) (mark (v .managed))))
+          ap (λ (t : List ℕ). byte t (levelPlace l + levelReservedAt)) e
+          ∙ byte-same one (levelPlace l + levelReservedAt) (mark (v .reserved)) (omega (arith, Of.size-in b a, length-set b (levelPlace l) (mark (v .managed))))

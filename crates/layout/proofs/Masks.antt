@@ -1,27 +1,11 @@
 -- A client's mask and its word: what the word says, and the table with another word there. Assumes nothing.
-use mathlib.Core.Path.{_≡_, refl, ap, sym, _∙_, subst}
-use mathlib.Core.Logic.{_⊎_, inl, inr, _≢_}
-use mathlib.Core.List.{List}
-use mathlib.Core.Bool.{Bool, cond}
-use mathlib.Core.Option.{Option, none, some, Option·none-ne-some}
-use Prim.Native.Nat.{ℕ, _+_, _*_, _-_, _/_, _%_, _≤_, _<_}
-use native.Mathlib.Nat.{add-zero}
-use native.Mathlib.Decide.{decLt, ℕ-discrete}
-use native.Mathlib.Omega.{arith}
-use lib.ListN.{length, getD, getElem?}
-use lib.Dec.{eqb}
-use borrow.Author.Tests.{eq-eqb, ne-eqb}
-use Rattle.facts.specs.Table
-use Rattle.facts.specs.Table.{Client}
-use Rattle.facts.specs.Packets.{byte, word, withWord}
-use Rattle.facts.specs.Clients.{Masks, MaskHeld, withClients}
-use Rattle.facts.specs.Sockets.{masking, withMask}
-use Rattle.facts.proofs.Sets.{put-same, put-other, length-map}
-use Rattle.layout.specs.Layout
-use Rattle.layout.specs.Layout.{image, two, maskBytes, clientBytes}
-use Rattle.layout.specs.Reading.{clientsIn, handleIn, clientPlace, maskPlace}
-use Rattle.layout.specs.Sound.{Accepted, MaskUsed}
+use Rattle.facts.proofs.Words.{_≡_, refl, ap, sym, _∙_, subst, _⊎_, inl, inr, _≢_, List, Bool, cond, Option, none, some, Option·none-ne-some, ℕ, _+_}
+use Rattle.facts.proofs.Words.{_*_, _-_, _/_, _%_, _≤_, _<_, add-zero, decLt, ℕ-discrete, arith, length, getD, getElem?, eqb, eq-eqb, ne-eqb}
 use Rattle.layout.proofs.Of
+use Rattle.facts.specs.{Client, byte, word, withWord, Masks, MaskHeld, withClients, masking, withMask, allEvents, mostClients, mostSockets}
+use Rattle.facts.proofs.{put-same, put-other, length-map}
+use Rattle.layout.specs.{image, two, maskBytes, clientBytes, clientsIn, handleIn, clientPlace, maskPlace, Accepted, MaskUsed, clientSize}
+use Rattle.layout.specs.{clientsAt, maskSize, rangesAt}
 use Rattle.layout.proofs.Parts.{below-at}
 use Rattle.layout.proofs.Lists.{at-in, in-at, at-below, at-past, at-map}
 use Rattle.layout.proofs.RoundTrip.{zero-test, positive-test, mask-bytes}
@@ -34,7 +18,7 @@ module _ (b : List ℕ) (a : Accepted b) (i h : ℕ) (l : i < clientsIn b) (e : 
   here : (c : Client) × (getElem? (a .facts .clients) i ≡ some c)
   here = Of.client-of b a i l
 
-  listed : i < Table.mostClients
+  listed : i < mostClients
   listed = omega (arith, Of.clients-in b a, a .formed .clients-most)
 
   its-handle : here .0 .handle ≡ h
@@ -45,26 +29,26 @@ module _ (b : List ℕ) (a : Accepted b) (i h : ℕ) (l : i < clientsIn b) (e : 
   only k c at q = Of.same-client b a i k (here .0) c (here .1) at (its-handle ∙ sym q)
 
   -- a mask's socket is one of a table's
-  pub mask-socket : (s m : ℕ) → Masks (a .facts) h s m → s < Table.mostSockets
+  pub mask-socket : (s m : ℕ) → Masks (a .facts) h s m → s < mostSockets
   mask-socket s m x = omega (arith, a .formed .clients (x .client) (x .listed) .mask s m (x .mask) .0, a .formed .sockets-most)
 
   -- its word says a mask exactly if the facts do
-  pub mask-said : (s : ℕ) → s < Table.mostSockets → MaskUsed b i s → MaskHeld (a .facts) h s
+  pub mask-said : (s : ℕ) → s < mostSockets → MaskUsed b i s → MaskHeld (a .facts) h s
   mask-said s n used = (
-    word b (maskPlace i s) - Table.allEvents,
+    word b (maskPlace i s) - allEvents,
     record {
       client = here .0;
       listed = at-in (a .facts .clients) i (here .1);
       handle = its-handle;
       mask = sym (Of.mask-of b a i s (here .0) (here .1) l n)
-          ∙ positive-test (word b (maskPlace i s)) none (some (word b (maskPlace i s) - Table.allEvents)) (omega (arith, used));
+          ∙ positive-test (word b (maskPlace i s)) none (some (word b (maskPlace i s) - allEvents)) (omega (arith, used));
     },
   )
 
   pub said-mask : (s m : ℕ) → Masks (a .facts) h s m → MaskUsed b i s
   said-mask s m x z =
       Option·none-ne-some m
-      (sym (zero-test (word b (maskPlace i s)) none (some (word b (maskPlace i s) - Table.allEvents)) z)
+      (sym (zero-test (word b (maskPlace i s)) none (some (word b (maskPlace i s) - allEvents)) z)
       ∙ Of.mask-of b a i s (x .client) at l (mask-socket s m x) ∙ x .mask)
     where
       there : (k : ℕ) × (k < length (a .facts .clients)) × (getElem? (a .facts .clients) k ≡ some (x .client))
@@ -74,7 +58,7 @@ module _ (b : List ℕ) (a : Accepted b) (i h : ℕ) (l : i < clientsIn b) (e : 
       at = ap (getElem? (a .facts .clients)) (only (there .0) (x .client) (there .2) (x .handle)) ∙ there .2
 
   -- the mask o for the socket s, and its word w
-  module _ (s : ℕ) (o : Option ℕ) (w : ℕ) (n : s < Table.mostSockets) (is : maskBytes o ≡ two w) (low : w < 65536) where
+  module _ (s : ℕ) (o : Option ℕ) (w : ℕ) (n : s < mostSockets) (is : maskBytes o ≡ two w) (low : w < 65536) where
     abbrev changed : List ℕ
     changed = withWord b (maskPlace i s) w
 
@@ -93,7 +77,7 @@ module _ (b : List ℕ) (a : Accepted b) (i h : ℕ) (l : i < clientsIn b) (e : 
           omega arith ∙ sym (word-high b (maskPlace i s) w fits),
         )
 
-    kept : (k j : ℕ) → k < Table.mostClients → j < Layout.clientSize → clientPlace k + j ≢ maskPlace i s → clientPlace k + j ≢ maskPlace i s + 1
+    kept : (k j : ℕ) → k < mostClients → j < clientSize → clientPlace k + j ≢ maskPlace i s → clientPlace k + j ≢ maskPlace i s + 1
         → getD (clientBytes (getElem? (a .facts .clients) k)) j 0 ≡ byte changed (clientPlace k + j)
     kept k j m q x y = Of.shows-in b a .clients-are k j m q ∙ sym (word-other b (maskPlace i s) w (clientPlace k + j) x y)
 
@@ -107,20 +91,20 @@ module _ (b : List ℕ) (a : Accepted b) (i h : ℕ) (l : i < clientsIn b) (e : 
         ∙ ap {B = Option Client} (λ (t : Bool). some (cond t new (here .0))) (eq-eqb (here .0 .handle) h its-handle)
 
     others : (k : ℕ) → k ≢ i → getElem? masked k ≡ getElem? (a .facts .clients) k
-    others k d = go (decLt k (length (a .facts .clients)))
+    others k d = below-or-not (decLt k (length (a .facts .clients)))
       where
-        go : Dec (k < length (a .facts .clients)) → getElem? masked k ≡ getElem? (a .facts .clients) k
-        go (yes m) =
+        below-or-not : Dec (k < length (a .facts .clients)) → getElem? masked k ≡ getElem? (a .facts .clients) k
+        below-or-not (yes m) =
             let x = at-below (a .facts .clients) k m in
             at-map as-masked (a .facts .clients) k (x .0) (x .1)
             ∙ ap {B = Option Client} (λ (t : Bool). some (cond t (masking s o (x .0)) (x .0)))
             (ne-eqb (x .0 .handle) h (λ q. d (sym (only k (x .0) (x .1) q))))
             ∙ sym (x .1)
-        go (no m) =
+        below-or-not (no m) =
             at-past masked k (omega (arith, length-map as-masked (a .facts .clients))) ∙ sym (at-past (a .facts .clients) k (omega arith))
 
     -- its record: the first six bytes, and those of its masks
-    as-before : (j : ℕ) → j < Layout.clientSize → clientPlace i + j ≢ maskPlace i s → clientPlace i + j ≢ maskPlace i s + 1
+    as-before : (j : ℕ) → j < clientSize → clientPlace i + j ≢ maskPlace i s → clientPlace i + j ≢ maskPlace i s + 1
         → getD (clientBytes (some (here .0))) j 0 ≡ byte changed (clientPlace i + j)
     as-before j q x y = ap (λ (c : Option Client). getD (clientBytes c) j 0) (sym (here .1)) ∙ kept i j listed q x y
 
@@ -130,39 +114,39 @@ module _ (b : List ℕ) (a : Accepted b) (i h : ℕ) (l : i < clientsIn b) (e : 
         ((((((tt, refl), refl), refl), refl), refl), refl) j q
         ∙ as-before j (omega arith) (λ x. omega (arith, x)) (λ x. omega (arith, x))
 
-    its-masks : (t r : ℕ) → t < Table.mostSockets → r < 2 → getD (clientBytes (some new)) (6 + (t * Layout.maskSize + r)) 0 ≡ byte changed
-        (clientPlace i + (6 + (t * Layout.maskSize + r)))
-    its-masks t r m q = mask-bytes new t r m q ∙ go (ℕ-discrete t s)
+    its-masks : (t r : ℕ) → t < mostSockets → r < 2 → getD (clientBytes (some new)) (6 + (t * maskSize + r)) 0 ≡ byte changed
+        (clientPlace i + (6 + (t * maskSize + r)))
+    its-masks t r m q = mask-bytes new t r m q ∙ same-or-not (ℕ-discrete t s)
       where
-        go : Dec (t ≡ s) → getD (maskBytes (new .mask t)) r 0 ≡ byte changed (clientPlace i + (6 + (t * Layout.maskSize + r)))
-        go (yes d) =
+        same-or-not : Dec (t ≡ s) → getD (maskBytes (new .mask t)) r 0 ≡ byte changed (clientPlace i + (6 + (t * maskSize + r)))
+        same-or-not (yes d) =
             ap (λ (x : Option ℕ). getD (maskBytes x) r 0) (ap (new .mask) d ∙ put-same (here .0 .mask) s o)
             ∙ ap (λ (x : List ℕ). getD x r 0) is ∙ written r q ∙ ap (byte changed) (omega (arith, d))
-        go (no d) =
+        same-or-not (no d) =
             ap (λ (x : Option ℕ). getD (maskBytes x) r 0) (put-other (here .0 .mask) s o t d) ∙ sym (mask-bytes (here .0) t r m q)
-            ∙ as-before (6 + (t * Layout.maskSize + r)) (omega arith) (λ x. d (omega (arith, x))) (λ x. d (omega (arith, x)))
+            ∙ as-before (6 + (t * maskSize + r)) (omega arith) (λ x. d (omega (arith, x))) (λ x. d (omega (arith, x)))
 
-    its-record : (j : ℕ) → j < Layout.clientSize → getD (clientBytes (some new)) j 0 ≡ byte changed (clientPlace i + j)
-    its-record j q = go (decLt j 6)
+    its-record : (j : ℕ) → j < clientSize → getD (clientBytes (some new)) j 0 ≡ byte changed (clientPlace i + j)
+    its-record j q = below-or-not (decLt j 6)
       where
-        go : Dec (j < 6) → getD (clientBytes (some new)) j 0 ≡ byte changed (clientPlace i + j)
-        go (yes m) = first-six j m
-        go (no m) =
+        below-or-not : Dec (j < 6) → getD (clientBytes (some new)) j 0 ≡ byte changed (clientPlace i + j)
+        below-or-not (yes m) = first-six j m
+        below-or-not (no m) =
             subst (λ (k : ℕ). getD (clientBytes (some new)) k 0 ≡ byte changed (clientPlace i + k)) place
             (its-masks ((j - 6) / 2) ((j - 6) % 2) (omega arith) (omega arith))
           where
             place : 6 + ((j - 6) / 2 * 2 + (j - 6) % 2) ≡ j
             place = omega arith
 
-    records : (k j : ℕ) → k < Table.mostClients → j < Layout.clientSize
+    records : (k j : ℕ) → k < mostClients → j < clientSize
         → getD (clientBytes (getElem? masked k)) j 0 ≡ byte changed (clientPlace k + j)
-    records k j m q = go (ℕ-discrete k i)
+    records k j m q = same-or-not (ℕ-discrete k i)
       where
-        go : Dec (k ≡ i) → getD (clientBytes (getElem? masked k)) j 0 ≡ byte changed (clientPlace k + j)
-        go (yes d) =
+        same-or-not : Dec (k ≡ i) → getD (clientBytes (getElem? masked k)) j 0 ≡ byte changed (clientPlace k + j)
+        same-or-not (yes d) =
             ap (λ (c : Option Client). getD (clientBytes c) j 0) (ap (getElem? masked) d ∙ has-mask) ∙ its-record j q
             ∙ ap (λ (k : ℕ). byte changed (clientPlace k + j)) (sym d)
-        go (no d) =
+        same-or-not (no d) =
             ap (λ (c : Option Client). getD (clientBytes c) j 0) (others k d)
             ∙ kept k j m q (λ x. d (omega (arith, x))) (λ x. d (omega (arith, x)))
 
@@ -177,6 +161,6 @@ module _ (b : List ℕ) (a : Accepted b) (i h : ℕ) (l : i < clientsIn b) (e : 
             word-other b (maskPlace i s) w 1 (λ x. omega (arith, x)) (λ x. omega (arith, x)) ∙ Of.clients-in b a
             ∙ sym (length-map as-masked (a .facts .clients))
 
-        outside : (p : ℕ) → p ≢ 1 → (p < Layout.clientsAt) ⊎ (Layout.rangesAt ≤ p) → byte changed p ≡ byte b p
+        outside : (p : ℕ) → p ≢ 1 → (p < clientsAt) ⊎ (rangesAt ≤ p) → byte changed p ≡ byte b p
         outside p d (inl m) = word-other b (maskPlace i s) w p (λ x. omega (arith, x)) (λ x. omega (arith, x))
         outside p d (inr m) = word-other b (maskPlace i s) w p (λ x. omega (arith, x, listed)) (λ x. omega (arith, x, listed))

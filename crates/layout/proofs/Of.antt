@@ -1,25 +1,12 @@
 -- What the bytes of an accepted table say of its facts. Assumes nothing.
-use mathlib.Core.Path.{_≡_, refl, ap, sym, _∙_, subst}
-use mathlib.Core.Logic.{_⊎_, inl, inr, _≢_}
-use mathlib.Core.List.{List}
-use mathlib.Core.Bool.{false}
-use mathlib.Core.Option.{Option, none, some, Option·some-injective, Option·none-ne-some}
-use Prim.Native.Nat.{ℕ, _+_, _<_}
-use native.Mathlib.Decide.{decLt}
-use native.Mathlib.Omega.{arith}
-use lib.ListN.{length, getElem?}
-use Rattle.facts.specs.Table
-use Rattle.facts.specs.Table.{Facts, Client, Range, IoGrant, IrqGrant}
-use Rattle.facts.specs.Sets.{_∈_}
-use Rattle.facts.specs.Ports.{Managed}
-use Rattle.facts.specs.Packets.{byte, word}
-use Rattle.facts.specs.WellFormed.{Live}
-use Rattle.layout.specs.Layout
-use Rattle.layout.specs.Reading.{socketsIn, clientsIn, rangesIn, issuedIn, handleIn, maskOf, maskPlace, ioPlace, irqPlace, clientIn, ioIn}
-use Rattle.layout.specs.Reading.{irqIn}
-use Rattle.layout.specs.Reading.{upTo, marked, ioHere, irqHere, levelIn, rangeIn, factsIn}
-use Rattle.layout.specs.Sound.{Accepted, Sound, LiveIn, ManagedIn, IoUsed, IrqUsed, Zero, rangeBase, rangeCount}
+use Rattle.facts.proofs.Words.{_≡_, refl, ap, sym, _∙_, subst, _⊎_, inl, inr, _≢_, List, false, Option, none, some, Option·some-injective}
+use Rattle.facts.proofs.Words.{Option·none-ne-some, ℕ, _+_, _<_, decLt, arith, length, getElem?}
 use Rattle.layout.proofs.Sounds
+use Rattle.facts.specs.{Facts, Client, Range, IoGrant, IrqGrant, _∈_, Managed, byte, word, Live, allLevels, mostSockets}
+use Rattle.layout.specs.{socketsIn, clientsIn, rangesIn, issuedIn, handleIn, maskOf, maskPlace, ioPlace, irqPlace, clientIn, ioIn, irqIn, upTo}
+use Rattle.layout.specs.{marked, ioHere, irqHere, levelIn, rangeIn, factsIn, Accepted, LiveIn, ManagedIn, IoUsed, IrqUsed, Zero, rangeBase}
+use Rattle.layout.specs.{rangeCount, cardsAt, ioSize, irqLevelAt, irqSize, tableSize}
+use Rattle.layout.specs.Sound.{Sound}
 use Rattle.layout.proofs.Image.{image-length}
 use Rattle.layout.proofs.Lists.{below-in, at-below, at-in, at-upTo, in-upTo, rising-before}
 use Rattle.layout.proofs.RoundTrip.{client-is, live-positive, read-back, positive-test}
@@ -47,7 +34,7 @@ module _ {G : Type 0} (client : G → ℕ) (o : Option G) (w h : ℕ) where
   said-grant (inr x) g e c = x .2 ∙ ap client (Option·some-injective (x .0) g (sym (x .1) ∙ e)) ∙ c
 
 module _ (b : List ℕ) (a : Accepted b) where
-  pub size-in : length b ≡ Layout.tableSize
+  pub size-in : length b ≡ tableSize
   size-in = ap length (sym (a .is)) ∙ image-length (a .facts)
 
   pub shows-in : Shows (a .facts) b
@@ -74,11 +61,11 @@ module _ (b : List ℕ) (a : Accepted b) where
   unfolding clientIn
   handle-of i c e l = ap (λ (x : Client). x .handle) (record-of i c e l)
 
-  pub mask-of : (i s : ℕ) (c : Client) → getElem? (a .facts .clients) i ≡ some c → i < clientsIn b → s < Table.mostSockets
+  pub mask-of : (i s : ℕ) (c : Client) → getElem? (a .facts .clients) i ≡ some c → i < clientsIn b → s < mostSockets
       → maskOf (word b (maskPlace i s)) ≡ c .mask s
   unfolding clientIn
   mask-of i s c e l h =
-      sym (below-in Table.mostSockets none (λ s. maskOf (word b (maskPlace i s))) s h) ∙ ap (λ (x : Client). x .mask s) (record-of i c e l)
+      sym (below-in mostSockets none (λ s. maskOf (word b (maskPlace i s))) s h) ∙ ap (λ (x : Client). x .mask s) (record-of i c e l)
 
   -- a live client is listed
   pub listed-live : (h : ℕ) → Live (a .facts) h → LiveIn b h
@@ -92,26 +79,26 @@ module _ (b : List ℕ) (a : Accepted b) where
   -- handles differ: a client with the handle of the ith is the ith
   pub same-client : (i j : ℕ) (x y : Client) → getElem? (a .facts .clients) i ≡ some x → getElem? (a .facts .clients) j ≡ some y
       → x .handle ≡ y .handle → i ≡ j
-  same-client i j x y p q e = go (decLt i j) (decLt j i)
+  same-client i j x y p q e = below-or-above (decLt i j) (decLt j i)
     where
-      go : Dec (i < j) → Dec (j < i) → i ≡ j
-      go (yes l) d = absurd (omega (arith, e, rising-before 0 (a .facts .clients) i j x y (a .formed .handles) l p q))
-      go (no l) (yes m) = absurd (omega (arith, e, rising-before 0 (a .facts .clients) j i y x (a .formed .handles) m q p))
-      go (no l) (no m) = omega arith
+      below-or-above : Dec (i < j) → Dec (j < i) → i ≡ j
+      below-or-above (yes l) d = absurd (omega (arith, e, rising-before 0 (a .facts .clients) i j x y (a .formed .handles) l p q))
+      below-or-above (no l) (yes m) = absurd (omega (arith, e, rising-before 0 (a .facts .clients) j i y x (a .formed .handles) m q p))
+      below-or-above (no l) (no m) = omega arith
 
   -- a socket's grants
-  pub io-of : (s : ℕ) → s < Table.mostSockets → GrantOf (λ (g : IoGrant). g .client) (a .facts .io s) (word b (ioPlace s))
+  pub io-of : (s : ℕ) → s < mostSockets → GrantOf (λ (g : IoGrant). g .client) (a .facts .io s) (word b (ioPlace s))
   unfolding ioIn
-  io-of s l = go (a .facts .io s) refl
+  io-of s l = there-or-not (a .facts .io s) refl
     where
-      go : (o : Option IoGrant) → a .facts .io s ≡ o → GrantOf (λ (g : IoGrant). g .client) (a .facts .io s) (word b (ioPlace s))
-      go none e =
+      there-or-not : (o : Option IoGrant) → a .facts .io s ≡ o → GrantOf (λ (g : IoGrant). g .client) (a .facts .io s) (word b (ioPlace s))
+      there-or-not none e =
           inl (
             e,
-            no-client b (ioPlace s) Layout.ioSize (omega arith)
-                (subst (λ (x : List ℕ). Zero x (ioPlace s) (ioPlace s + Layout.ioSize)) (a .is) (Sounds.io-zero (a .facts) (a .formed) s l e)),
+            no-client b (ioPlace s) ioSize (omega arith)
+                (subst (λ (x : List ℕ). Zero x (ioPlace s) (ioPlace s + ioSize)) (a .is) (Sounds.io-zero (a .facts) (a .formed) s l e)),
           )
-      go (some g) e =
+      there-or-not (some g) e =
           inr (
             g,
             e,
@@ -119,21 +106,21 @@ module _ (b : List ℕ) (a : Accepted b) where
             live-positive (a .formed) (a .formed .ios s g e .client),
           )
 
-  irq-record : (s : ℕ) (g : IrqGrant) → s < Table.mostSockets → a .facts .irq s ≡ some g → irqIn b s ≡ g
+  irq-record : (s : ℕ) (g : IrqGrant) → s < mostSockets → a .facts .irq s ≡ some g → irqIn b s ≡ g
   irq-record s g l e = subst (λ (x : List ℕ). irqIn x s ≡ g) (a .is) (Sounds.irq-is (a .facts) (a .formed) s g l e .1)
 
-  pub irq-of : (s : ℕ) → s < Table.mostSockets → GrantOf (λ (g : IrqGrant). g .client) (a .facts .irq s) (word b (irqPlace s))
+  pub irq-of : (s : ℕ) → s < mostSockets → GrantOf (λ (g : IrqGrant). g .client) (a .facts .irq s) (word b (irqPlace s))
   unfolding irqIn
-  irq-of s l = go (a .facts .irq s) refl
+  irq-of s l = there-or-not (a .facts .irq s) refl
     where
-      go : (o : Option IrqGrant) → a .facts .irq s ≡ o → GrantOf (λ (g : IrqGrant). g .client) (a .facts .irq s) (word b (irqPlace s))
-      go none e =
+      there-or-not : (o : Option IrqGrant) → a .facts .irq s ≡ o → GrantOf (λ (g : IrqGrant). g .client) (a .facts .irq s) (word b (irqPlace s))
+      there-or-not none e =
           inl (
             e,
-            no-client b (irqPlace s) Layout.irqSize (omega arith)
-                (subst (λ (x : List ℕ). Zero x (irqPlace s) (irqPlace s + Layout.irqSize)) (a .is) (Sounds.irq-zero (a .facts) (a .formed) s l e)),
+            no-client b (irqPlace s) irqSize (omega arith)
+                (subst (λ (x : List ℕ). Zero x (irqPlace s) (irqPlace s + irqSize)) (a .is) (Sounds.irq-zero (a .facts) (a .formed) s l e)),
           )
-      go (some g) e =
+      there-or-not (some g) e =
           inr (g, e, ap (λ (x : IrqGrant). x .client) (irq-record s g l e), live-positive (a .formed) (a .formed .irqs s g e .client))
 
   -- what is read off the bytes is what they say
@@ -144,42 +131,42 @@ module _ (b : List ℕ) (a : Accepted b) where
   sound-in = subst Sound (a .is) (Sounds.image-sound (a .facts) (a .formed))
 
   -- a socket's grant is the one that its record says, and its record says the grant that it has
-  pub io-said : (s : ℕ) → s < Table.mostSockets → IoUsed b s → a .facts .io s ≡ some (ioIn b s)
+  pub io-said : (s : ℕ) → s < mostSockets → IoUsed b s → a .facts .io s ≡ some (ioIn b s)
   unfolding factsIn ioHere
   io-said s l u =
-      ap (λ (F : Facts). F .io s) facts-in ∙ below-in Table.mostSockets none (ioHere b) s l
+      ap (λ (F : Facts). F .io s) facts-in ∙ below-in mostSockets none (ioHere b) s l
       ∙ positive-test (word b (ioPlace s)) none (some (ioIn b s)) (omega (arith, u))
 
-  pub said-io : (s : ℕ) (g : IoGrant) → a .facts .io s ≡ some g → (s < Table.mostSockets) × IoUsed b s × (ioIn b s ≡ g)
+  pub said-io : (s : ℕ) (g : IoGrant) → a .facts .io s ≡ some g → (s < mostSockets) × IoUsed b s × (ioIn b s ≡ g)
   said-io s g e =
-      let l : s < Table.mostSockets = omega (arith, a .formed .ios s g e .socket, a .formed .sockets-most) in
+      let l : s < mostSockets = omega (arith, a .formed .ios s g e .socket, a .formed .sockets-most) in
       let is = subst (λ (x : List ℕ). (0 < word x (ioPlace s)) × (ioIn x s ≡ g)) (a .is) (Sounds.io-is (a .facts) (a .formed) s g l e) in
       (l, λ z. omega (arith, z, is .0), is .1)
 
-  pub irq-said : (s : ℕ) → s < Table.mostSockets → IrqUsed b s → a .facts .irq s ≡ some (irqIn b s)
+  pub irq-said : (s : ℕ) → s < mostSockets → IrqUsed b s → a .facts .irq s ≡ some (irqIn b s)
   unfolding factsIn irqHere
   irq-said s l u =
-      ap (λ (F : Facts). F .irq s) facts-in ∙ below-in Table.mostSockets none (irqHere b) s l
+      ap (λ (F : Facts). F .irq s) facts-in ∙ below-in mostSockets none (irqHere b) s l
       ∙ positive-test (word b (irqPlace s)) none (some (irqIn b s)) (omega (arith, u))
 
-  pub said-irq : (s : ℕ) (g : IrqGrant) → a .facts .irq s ≡ some g → (s < Table.mostSockets) × IrqUsed b s × (irqIn b s ≡ g)
+  pub said-irq : (s : ℕ) (g : IrqGrant) → a .facts .irq s ≡ some g → (s < mostSockets) × IrqUsed b s × (irqIn b s ≡ g)
   said-irq s g e =
-      let l : s < Table.mostSockets = omega (arith, a .formed .irqs s g e .socket, a .formed .sockets-most) in
+      let l : s < mostSockets = omega (arith, a .formed .irqs s g e .socket, a .formed .sockets-most) in
       let is = subst (λ (x : List ℕ). (0 < word x (irqPlace s)) × (irqIn x s ≡ g)) (a .is) (Sounds.irq-is (a .facts) (a .formed) s g l e) in
       (l, λ z. omega (arith, z, is .0), is .1)
 
   -- a card is present as its byte says
-  pub card-said : (s : ℕ) → s < Table.mostSockets → a .facts .card s ≡ marked (byte b (Layout.cardsAt + s))
+  pub card-said : (s : ℕ) → s < mostSockets → a .facts .card s ≡ marked (byte b (cardsAt + s))
   unfolding factsIn
   card-said s l =
-      ap (λ (F : Facts). F .card s) facts-in ∙ below-in Table.mostSockets false (λ s. marked (byte b (Layout.cardsAt + s))) s l
+      ap (λ (F : Facts). F .card s) facts-in ∙ below-in mostSockets false (λ s. marked (byte b (cardsAt + s))) s l
 
   -- a level is managed and reserved as its record says
-  pub level-said : (l : ℕ) → l < Table.allLevels → a .facts .level l ≡ levelIn b l
+  pub level-said : (l : ℕ) → l < allLevels → a .facts .level l ≡ levelIn b l
   unfolding factsIn
   level-said l h =
       ap (λ (F : Facts). F .level l) facts-in
-      ∙ below-in Table.allLevels (record { managed = false; reserved = false }) (levelIn b) l h
+      ∙ below-in allLevels (record { managed = false; reserved = false }) (levelIn b) l h
 
   -- the ranges are those that the records say, each in its place
   pub ranges-in : rangesIn b ≡ length (a .facts .ranges)
@@ -219,14 +206,14 @@ module _ (b : List ℕ) (a : Accepted b) where
       }
 
   pub said-managed : (p : ℕ) → Managed (a .facts) p → ManagedIn b p
-  said-managed p m = go (listed-range (m .range) (m .listed))
+  said-managed p m = of-each (listed-range (m .range) (m .listed))
     where
-      go : (i : ℕ) × (i < rangesIn b) × (m .range ≡ rangeIn b i) → ManagedIn b p
-      go x =
+      of-each : (i : ℕ) × (i < rangesIn b) × (m .range ≡ rangeIn b i) → ManagedIn b p
+      of-each x =
           let base = ap (λ (r : Range). r .base) (x .2) ∙ range-base (x .0) in
           let count = ap (λ (r : Range). r .count) (x .2) ∙ range-count (x .0) in
           (x .0, x .1, record { from = omega (arith, base, m .has .from); below = omega (arith, base, count, m .has .below) })
 
-  pub irq-level : (s : ℕ) (g : IrqGrant) → s < Table.mostSockets → a .facts .irq s ≡ some g → byte b (irqPlace s + 2) ≡ g .level
+  pub irq-level : (s : ℕ) (g : IrqGrant) → s < mostSockets → a .facts .irq s ≡ some g → byte b (irqPlace s + irqLevelAt) ≡ g .level
   unfolding irqIn
   irq-level s g l e = ap (λ (x : IrqGrant). x .level) (irq-record s g l e)

@@ -1,22 +1,16 @@
 -- Laws of records that stand one after the other, and of the parts of a list. Assumes nothing.
-use mathlib.Core.Path.{_≡_, ap, sym, _∙_, subst, subst⁻¹}
-use mathlib.Core.Logic.{_⊎_, inl, inr}
-use mathlib.Core.List.{List, [], _++_}
-use Prim.Native.Nat.{ℕ, zero, suc, _+_, _*_, _≤_, _<_}
-use native.Mathlib.Nat.{suc-mul, mul-le-mul-right, not-suc-le-zero, zero-mul}
-use native.Mathlib.Decide.{decLt}
-use native.Mathlib.Omega.{arith}
-use lib.ListN.{length, getD, take, drop, length-append, length-drop, take-append-drop, List·getD-append}
-use lib.Seq.{ext-getD, getD-append-add, getD-take, getD-drop, length-take-le}
-use Rattle.layout.specs.Layout.{each}
+use Rattle.facts.proofs.Words.{_≡_, ap, sym, _∙_, subst, subst⁻¹, _⊎_, inl, inr, List, [], _++_, ℕ, zero, suc, _+_, _*_, _≤_, _<_, suc-mul}
+use Rattle.facts.proofs.Words.{mul-le-mul-right, not-suc-le-zero, zero-mul, decLt, arith, length, getD, take, drop, length-append, length-drop}
+use Rattle.facts.proofs.Words.{take-append-drop, List·getD-append, ext-getD, getD-append-add, getD-take, getD-drop, length-take-le}
+use Rattle.layout.specs.{each}
 
 -- below one more: below, or the last
 pub last-or-below : {i n : ℕ} → i < suc n → (i < n) ⊎ (i ≡ n)
-last-or-below {i} {n} h = go (decLt i n)
+last-or-below {i} {n} h = below-or-not (decLt i n)
   where
-    go : Dec (i < n) → (i < n) ⊎ (i ≡ n)
-    go (yes l) = inl l
-    go (no l) = inr (omega arith)
+    below-or-not : Dec (i < n) → (i < n) ⊎ (i ≡ n)
+    below-or-not (yes l) = inl l
+    below-or-not (no l) = inr (omega arith)
 
 -- what holds at each place below n, one by one
 abbrev pub Below : ℕ → (ℕ → Type 0) → Type 0
@@ -25,11 +19,11 @@ Below (suc n) P = Below n P × P n
 
 pub below-at : (n : ℕ) (P : ℕ → Type 0) → Below n P → (j : ℕ) → j < n → P j
 below-at zero P a j l = absurd (not-suc-le-zero l)
-below-at (suc n) P a j l = go (last-or-below l) (λ (h : j < n). below-at n P (a .0) j h)
+below-at (suc n) P a j l = either-way (last-or-below l) (λ (h : j < n). below-at n P (a .0) j h)
   where
-    go : (j < n) ⊎ (j ≡ n) → (j < n → P j) → P j
-    go (inl h) ih = ih h
-    go (inr e) ih = subst⁻¹ P e (a .1)
+    either-way : (j < n) ⊎ (j ≡ n) → (j < n → P j) → P j
+    either-way (inl h) ih = ih h
+    either-way (inr e) ih = subst⁻¹ P e (a .1)
 
 -- two pieces make the whole
 pub join : {A B x : List ℕ} (n : ℕ) → A ≡ take n x → B ≡ drop n x → A ++ B ≡ x
@@ -53,12 +47,12 @@ module _ (k : ℕ) (f : ℕ → List ℕ) (sized : (i : ℕ) → length (f i) �
   pub each-at : (n i j : ℕ) → i < n → j < k → getD (each n f) (i * k + j) 0 ≡ getD (f i) j 0
   unfolding each
   each-at zero i j h l = absurd (not-suc-le-zero h)
-  each-at (suc n) i j h l = go (last-or-below h) (λ (below : i < n). each-at n i j below l)
+  each-at (suc n) i j h l = either-way (last-or-below h) (λ (below : i < n). each-at n i j below l)
     where
-      go : (i < n) ⊎ (i ≡ n) → (i < n → getD (each n f) (i * k + j) 0 ≡ getD (f i) j 0) → getD (each n f ++ f n) (i * k + j) 0 ≡ getD (f i) j 0
-      go (inl below) ih =
+      either-way : (i < n) ⊎ (i ≡ n) → (i < n → getD (each n f) (i * k + j) 0 ≡ getD (f i) j 0) → getD (each n f ++ f n) (i * k + j) 0 ≡ getD (f i) j 0
+      either-way (inl below) ih =
           List·getD-append (each n f) (f n) 0 (i * k + j) (subst⁻¹ (λ (m : ℕ). i * k + j < m) (each-length n) (record-below below l)) ∙ ih below
-      go (inr e) ih =
+      either-way (inr e) ih =
           ap (λ (m : ℕ). getD (each n f ++ f n) (m * k + j) 0) e ∙ skip (each n f) (f n) (n * k) j (each-length n)
           ∙ ap (λ (m : ℕ). getD (f m) j 0) (sym e)
 

@@ -1,13 +1,7 @@
 -- Listed facts and their records, one after the other: one taken out, and one put in. Assumes nothing.
-use mathlib.Core.Path.{_≡_, ap, sym, _∙_}
-use mathlib.Core.List.{List}
-use mathlib.Core.Option.{Option, none, some}
-use Prim.Native.Nat.{ℕ, zero, suc, _+_, _*_, _≤_, _<_}
-use native.Mathlib.Nat.{suc-mul, mul-le-mul-right}
-use native.Mathlib.Decide.{decLt, ℕ-discrete}
-use native.Mathlib.Omega.{arith}
-use lib.ListN.{length, getD, getElem?}
-use Rattle.facts.specs.Packets.{byte}
+use Rattle.facts.proofs.Words.{_≡_, ap, sym, _∙_, List, Option, none, some, ℕ, zero, suc, _+_, _*_, _≤_, _<_, suc-mul, mul-le-mul-right, decLt}
+use Rattle.facts.proofs.Words.{ℕ-discrete, arith, length, getD, getElem?}
+use Rattle.facts.specs.{byte}
 use Rattle.layout.proofs.Parts.{record-below}
 use Rattle.layout.proofs.Lists.{Fewer, More, at-past}
 
@@ -34,15 +28,15 @@ module _ {A : Type 0} (bytes : Option A → List ℕ) (first k n : ℕ) (zero-no
     pub records-fewer : Fewer xs ys m → length xs ≤ n → ((p : ℕ) → place m ≤ p → p + k < place n → byte b′ p ≡ byte b (p + k))
         → ((p : ℕ) → place n ≤ p + k → p < place n → byte b′ p ≡ 0)
         → Records ys b′
-    records-fewer fewer most moved last i j l h = go (decLt i m) (decLt (suc i) n)
+    records-fewer fewer most moved last i j l h = below-or-above (decLt i m) (decLt (suc i) n)
       where
-        go : Dec (i < m) → Dec (suc i < n) → getD (bytes (getElem? ys i)) j 0 ≡ byte b′ (place i + j)
-        go (yes x) d =
+        below-or-above : Dec (i < m) → Dec (suc i < n) → getD (bytes (getElem? ys i)) j 0 ≡ byte b′ (place i + j)
+        below-or-above (yes x) d =
             ap (λ (o : Option A). getD (bytes o) j 0) (fewer .ahead i x) ∙ is i j l h ∙ sym (before (place i + j) (omega arith) (ahead x h))
-        go (no x) (yes y) =
+        below-or-above (no x) (yes y) =
             ap (λ (o : Option A). getD (bytes o) j 0) (fewer .behind i (omega arith)) ∙ is (suc i) j y h ∙ ap (byte b) (omega (arith, next i))
             ∙ sym (moved (place i + j) (omega (arith, places m i (omega arith))) (omega (arith, ahead y h, next i)))
-        go (no x) (no y) =
+        below-or-above (no x) (no y) =
             ap (λ (o : Option A). getD (bytes o) j 0) (fewer .behind i (omega arith) ∙ at-past xs (suc i) (omega arith)) ∙ zero-none j h
             ∙ sym (last (place i + j) (omega (arith, next i, places n (suc i) (omega arith))) (ahead l h))
 
@@ -50,16 +44,16 @@ module _ {A : Type 0} (bytes : Option A → List ℕ) (first k n : ℕ) (zero-no
     pub records-more : (x : A) → More xs ys m x → ((j : ℕ) → j < k → byte b′ (place m + j) ≡ getD (bytes (some x)) j 0)
         → ((p : ℕ) → place m ≤ p → p + k < place n → byte b′ (p + k) ≡ byte b p)
         → Records ys b′
-    records-more x more new moved i j l h = go i l (decLt i m) (ℕ-discrete i m)
+    records-more x more new moved i j l h = same-or-not i l (decLt i m) (ℕ-discrete i m)
       where
-        go : (i : ℕ) → i < n → Dec (i < m) → Dec (i ≡ m) → getD (bytes (getElem? ys i)) j 0 ≡ byte b′ (place i + j)
-        go i l (yes y) d =
+        same-or-not : (i : ℕ) → i < n → Dec (i < m) → Dec (i ≡ m) → getD (bytes (getElem? ys i)) j 0 ≡ byte b′ (place i + j)
+        same-or-not i l (yes y) d =
             ap (λ (o : Option A). getD (bytes o) j 0) (more .ahead i y) ∙ is i j l h ∙ sym (before (place i + j) (omega arith) (ahead y h))
-        go i l (no y) (yes e) =
+        same-or-not i l (no y) (yes e) =
             ap (λ (o : Option A). getD (bytes o) j 0) (ap (getElem? ys) e ∙ more .here) ∙ sym (new j h)
             ∙ ap (λ (i : ℕ). byte b′ (place i + j)) (sym e)
-        go zero l (no y) (no d) = absurd (omega (arith, d))
-        go (suc i) l (no y) (no d) =
+        same-or-not zero l (no y) (no d) = absurd (omega (arith, d))
+        same-or-not (suc i) l (no y) (no d) =
             ap (λ (o : Option A). getD (bytes o) j 0) (more .behind i (omega (arith, d))) ∙ is i j (omega arith) h
             ∙ sym (moved (place i + j) (omega (arith, places m i (omega (arith, d)))) (omega (arith, ahead l h, next i)))
             ∙ ap (byte b′) (omega (arith, next i))

@@ -1,33 +1,26 @@
 -- Bytes that show a set of facts, record by record, are its image. Assumes nothing.
-use mathlib.Core.Path.{_≡_, refl, ap, sym, _∙_, subst}
-use mathlib.Core.List.{List, [], _∷_, _++_}
-use Prim.Native.Nat.{ℕ, _+_, _*_, _-_, _≤_, _<_}
-use native.Mathlib.Nat.{add-assoc}
-use native.Mathlib.Omega.{arith}
-use lib.ListN.{length, getD, getElem?, take, drop, replicate, getD-replicate, length-drop, length-replicate}
-use lib.Seq.{ext-getD, getD-take, getD-drop, drop-drop, length-take-le}
-use Rattle.facts.specs.Table
-use Rattle.facts.specs.Table.{Facts}
-use Rattle.facts.specs.Packets.{byte}
-use Rattle.layout.specs.Layout
-use Rattle.layout.specs.Layout.{each, mark, clientBytes, levelBytes, rangeBytes, ioBytes, irqBytes, cards, levels, ios, irqs, clients, ranges}
-use Rattle.layout.specs.Layout.{head, rest, image}
-use Rattle.layout.specs.Reading.{clientPlace, rangePlace, levelPlace, ioPlace, irqPlace}
+use Rattle.facts.proofs.Words.{_≡_, refl, ap, sym, _∙_, subst, List, [], _∷_, _++_, ℕ, _+_, _*_, _-_, _≤_, _<_, add-assoc, arith, length, getD}
+use Rattle.facts.proofs.Words.{getElem?, take, drop, replicate, getD-replicate, length-drop, length-replicate, ext-getD, getD-take, getD-drop}
+use Rattle.facts.proofs.Words.{drop-drop, length-take-le}
 use Rattle.layout.proofs.Image
+use Rattle.facts.specs.{Facts, byte, allLevels, mostClients, mostRanges, mostSockets}
+use Rattle.layout.specs.{each, mark, clientBytes, levelBytes, rangeBytes, ioBytes, irqBytes, cards, levels, ios, irqs, clients, ranges, head}
+use Rattle.layout.specs.{rest, image, clientPlace, rangePlace, levelPlace, ioPlace, irqPlace, cardSize, cardsAt, clientSize, clientsAt, ioSize}
+use Rattle.layout.specs.{iosAt, irqSize, irqsAt, levelSize, levelsAt, rangeSize, rangesAt, restAt, tableSize}
 use Rattle.layout.proofs.Parts.{below-at, join, each-parts, record-below}
 
 pub record Shows (F : Facts) (b : List ℕ) : Type 0 where
-  pub size : length b ≡ Layout.tableSize
+  pub size : length b ≡ tableSize
   pub head-is : (j : ℕ) → j < 5 → getD (head F) j 0 ≡ byte b j
-  pub cards-are : (s : ℕ) → s < Table.mostSockets → mark (F .card s) ≡ byte b (Layout.cardsAt + s)
-  pub levels-are : (l j : ℕ) → l < Table.allLevels → j < Layout.levelSize → getD (levelBytes (F .level l)) j 0 ≡ byte b (levelPlace l + j)
-  pub ios-are : (s j : ℕ) → s < Table.mostSockets → j < Layout.ioSize → getD (ioBytes (F .io s)) j 0 ≡ byte b (ioPlace s + j)
-  pub irqs-are : (s j : ℕ) → s < Table.mostSockets → j < Layout.irqSize → getD (irqBytes (F .irq s)) j 0 ≡ byte b (irqPlace s + j)
-  pub clients-are : (i j : ℕ) → i < Table.mostClients → j < Layout.clientSize
+  pub cards-are : (s : ℕ) → s < mostSockets → mark (F .card s) ≡ byte b (cardsAt + s)
+  pub levels-are : (l j : ℕ) → l < allLevels → j < levelSize → getD (levelBytes (F .level l)) j 0 ≡ byte b (levelPlace l + j)
+  pub ios-are : (s j : ℕ) → s < mostSockets → j < ioSize → getD (ioBytes (F .io s)) j 0 ≡ byte b (ioPlace s + j)
+  pub irqs-are : (s j : ℕ) → s < mostSockets → j < irqSize → getD (irqBytes (F .irq s)) j 0 ≡ byte b (irqPlace s + j)
+  pub clients-are : (i j : ℕ) → i < mostClients → j < clientSize
       → getD (clientBytes (getElem? (F .clients) i)) j 0 ≡ byte b (clientPlace i + j)
-  pub ranges-are : (i j : ℕ) → i < Table.mostRanges → j < Layout.rangeSize
+  pub ranges-are : (i j : ℕ) → i < mostRanges → j < rangeSize
       → getD (rangeBytes (getElem? (F .ranges) i)) j 0 ≡ byte b (rangePlace i + j)
-  pub rest-is : (i : ℕ) → Layout.restAt ≤ i → i < Layout.tableSize → byte b i ≡ 0
+  pub rest-is : (i : ℕ) → restAt ≤ i → i < tableSize → byte b i ≡ 0
 
 -- records that are the bytes at a place make that part of the list
 part : (b : List ℕ) (place k n : ℕ) (f : ℕ → List ℕ) → ((i : ℕ) → length (f i) ≡ k) → place + n * k ≤ length b
@@ -39,22 +32,22 @@ part b place k n f sized fits h =
     ∙ sym (getD-take (n * k) (drop place b) (i * k + j) 0 (record-below l m)))
 
 module _ (F : Facts) (b : List ℕ) (s : Shows F b) where
-  enough : {n : ℕ} → n ≤ Layout.tableSize → n ≤ length b
+  enough : {n : ℕ} → n ≤ tableSize → n ≤ length b
   enough l = omega (arith, s .size)
 
-  card-bytes : (i j : ℕ) → i < Table.mostSockets → j < 1 → getD (mark (F .card i) ∷ []) j 0 ≡ byte b (Layout.cardsAt + i * 1 + j)
+  card-bytes : (i j : ℕ) → i < mostSockets → j < 1 → getD (mark (F .card i) ∷ []) j 0 ≡ byte b (cardsAt + i * 1 + j)
   card-bytes i j l m =
-      below-at 1 (λ j. getD (mark (F .card i) ∷ []) j 0 ≡ byte b (Layout.cardsAt + i * 1 + j)) (tt, s .cards-are i l ∙ ap (byte b) (omega arith)) j m
+      below-at 1 (λ j. getD (mark (F .card i) ∷ []) j 0 ≡ byte b (cardsAt + i * 1 + j)) (tt, s .cards-are i l ∙ ap (byte b) (omega arith)) j m
 
-  rest-bytes : rest ≡ drop Layout.restAt b
+  rest-bytes : rest ≡ drop restAt b
   unfolding rest
   rest-bytes =
-      ext-getD 0 (replicate (Layout.tableSize - Layout.restAt) 0) (drop Layout.restAt b)
-      (length-replicate {A = ℕ} (Layout.tableSize - Layout.restAt) 0
-      ∙ sym (length-drop Layout.restAt b ∙ ap (λ (n : ℕ). n - Layout.restAt) (s .size)))
-      (λ i l. let m = subst (λ (n : ℕ). i < n) (length-replicate {A = ℕ} (Layout.tableSize - Layout.restAt) 0) l in
-      getD-replicate (Layout.tableSize - Layout.restAt) i 0 0 m ∙ sym (s .rest-is (Layout.restAt + i) (omega arith) (omega arith))
-      ∙ sym (getD-drop Layout.restAt b i 0))
+      ext-getD 0 (replicate (tableSize - restAt) 0) (drop restAt b)
+      (length-replicate {A = ℕ} (tableSize - restAt) 0
+      ∙ sym (length-drop restAt b ∙ ap (λ (n : ℕ). n - restAt) (s .size)))
+      (λ i l. let m = subst (λ (n : ℕ). i < n) (length-replicate {A = ℕ} (tableSize - restAt) 0) l in
+      getD-replicate (tableSize - restAt) i 0 0 m ∙ sym (s .rest-is (restAt + i) (omega arith) (omega arith))
+      ∙ sym (getD-drop restAt b i 0))
 
   head-bytes : head F ≡ take 5 b
   unfolding head
@@ -68,21 +61,21 @@ module _ (F : Facts) (b : List ℕ) (s : Shows F b) where
   unfolding image cards levels ios irqs clients ranges
   shows-image =
       join 5 head-bytes
-      (step Layout.cardsAt (Table.mostSockets * Layout.cardSize)
-      (part b Layout.cardsAt Layout.cardSize Table.mostSockets (λ s. mark (F .card s) ∷ []) (λ i. refl) (enough (omega arith)) card-bytes)
-      (step Layout.levelsAt (Table.allLevels * Layout.levelSize)
-      (part b Layout.levelsAt Layout.levelSize Table.allLevels (λ l. levelBytes (F .level l)) (λ i. refl) (enough (omega arith)) (s .levels-are))
-      (step Layout.iosAt (Table.mostSockets * Layout.ioSize)
-      (part b Layout.iosAt Layout.ioSize Table.mostSockets (λ s. ioBytes (F .io s)) (λ i. Image.io-size (F .io i)) (enough (omega arith))
+      (step cardsAt (mostSockets * cardSize)
+      (part b cardsAt cardSize mostSockets (λ s. mark (F .card s) ∷ []) (λ i. refl) (enough (omega arith)) card-bytes)
+      (step levelsAt (allLevels * levelSize)
+      (part b levelsAt levelSize allLevels (λ l. levelBytes (F .level l)) (λ i. refl) (enough (omega arith)) (s .levels-are))
+      (step iosAt (mostSockets * ioSize)
+      (part b iosAt ioSize mostSockets (λ s. ioBytes (F .io s)) (λ i. Image.io-size (F .io i)) (enough (omega arith))
       (s .ios-are))
-      (step Layout.irqsAt (Table.mostSockets * Layout.irqSize)
-      (part b Layout.irqsAt Layout.irqSize Table.mostSockets (λ s. irqBytes (F .irq s)) (λ i. Image.irq-size (F .irq i)) (enough (omega arith))
+      (step irqsAt (mostSockets * irqSize)
+      (part b irqsAt irqSize mostSockets (λ s. irqBytes (F .irq s)) (λ i. Image.irq-size (F .irq i)) (enough (omega arith))
       (s .irqs-are))
-      (step Layout.clientsAt (Table.mostClients * Layout.clientSize)
-      (part b Layout.clientsAt Layout.clientSize Table.mostClients (λ i. clientBytes (getElem? (F .clients) i))
+      (step clientsAt (mostClients * clientSize)
+      (part b clientsAt clientSize mostClients (λ i. clientBytes (getElem? (F .clients) i))
       (λ i. Image.client-size (getElem? (F .clients) i)) (enough (omega arith)) (s .clients-are))
-      (step Layout.rangesAt (Table.mostRanges * Layout.rangeSize)
-      (part b Layout.rangesAt Layout.rangeSize Table.mostRanges (λ i. rangeBytes (getElem? (F .ranges) i))
+      (step rangesAt (mostRanges * rangeSize)
+      (part b rangesAt rangeSize mostRanges (λ i. rangeBytes (getElem? (F .ranges) i))
       (λ i. Image.range-size (getElem? (F .ranges) i)) (enough (omega arith)) (s .ranges-are))
       rest-bytes))))))
 

@@ -1,28 +1,17 @@
 -- The image of a well-formed set is sound. Assumes nothing.
-use mathlib.Core.Path.{_≡_, refl, ap, sym, _∙_, subst, subst₂}
-use mathlib.Core.Logic.{inl, inr}
-use mathlib.Core.Bool.{Bool, true, false}
-use mathlib.Core.Option.{Option, none, some}
-use Prim.Native.Nat.{ℕ, zero, suc, _+_, _*_, _-_, _/_, _%_, _^_, _≤_, _<_}
-use native.Mathlib.Decide.{decLt}
-use native.Mathlib.Omega.{arith}
-use lib.ListN.{length, getD, getElem?}
-use Rattle.facts.specs.declared.Manner.{Manner}
-use Rattle.facts.specs.declared.Manner.the-variants.{Exclusive, TimeMultiplexed, DynamicLevel, DynamicPulse}
-use Rattle.facts.specs.Table
-use Rattle.facts.specs.Table.{Facts, Client, Range, IoGrant, IrqGrant}
-use Rattle.facts.specs.Ports.{Managed, Answers}
-use Rattle.facts.specs.Packets.{byte, word}
-use Rattle.facts.specs.WellFormed.{WellFormed, AttributesAllowed, Live, IoCompany, IrqCompany}
-use Rattle.facts.proofs.Sets.{rising-over, apart-port}
-use Rattle.layout.specs.Layout
-use Rattle.layout.specs.Layout.{mark, maskBytes, clientBytes, rangeBytes, levelBytes, ioBytes, irqBytes, mannerByte, head, image}
-use Rattle.layout.specs.Reading.{socketsIn, clientsIn, rangesIn, issuedIn, maskPlace, clientPlace, rangePlace, levelPlace, ioPlace, irqPlace}
-use Rattle.layout.specs.Reading.{handleIn, clientIn, rangeIn, ioIn, irqIn, ioHere, irqHere}
-use Rattle.layout.specs.Sound.{Sound, Zero, CardSound, LevelSound, ClientSound, RangeSound, MaskSound, LiveIn, ManagedIn, IoUsed, IrqUsed}
-use Rattle.layout.specs.Sound.{IoSound, IrqSound, IoPlaceSound, IrqPlaceSound, IoPairSound, IrqPairSound, handleBefore, endBefore, rangeBase}
-use Rattle.layout.specs.Sound.{rangeCount}
+use Rattle.facts.proofs.Words.{_≡_, refl, ap, sym, _∙_, subst, subst₂, inl, inr, Bool, true, false, Option, none, some, ℕ, zero, suc, _+_, _*_, _-_}
+use Rattle.facts.proofs.Words.{_/_, _%_, _^_, _≤_, _<_, decLt, arith, length, getD, getElem?, WellFormed}
 use Rattle.layout.proofs.Image
+use Rattle.facts.specs.{Manner, Exclusive, TimeMultiplexed, DynamicLevel, DynamicPulse, Facts, Client, Range, IoGrant, IrqGrant, Managed, Answers}
+use Rattle.facts.specs.{byte, word, AttributesAllowed, Live, IoCompany, IrqCompany, allEvents, allLevels, mostSockets}
+use Rattle.facts.proofs.{rising-over, apart-port}
+use Rattle.layout.specs.{mark, maskBytes, clientBytes, rangeBytes, levelBytes, ioBytes, irqBytes, mannerByte, head, image, socketsIn}
+use Rattle.layout.specs.{clientsIn, rangesIn, issuedIn, maskPlace, clientPlace, rangePlace, levelPlace, ioPlace, irqPlace, handleIn, clientIn}
+use Rattle.layout.specs.{rangeIn, ioIn, irqIn, ioHere, irqHere, Zero, CardSound, LevelSound, ClientSound, RangeSound, MaskSound, LiveIn}
+use Rattle.layout.specs.{ManagedIn, IoUsed, IrqUsed, IoSound, IrqSound, IoPlaceSound, IrqPlaceSound, IoPairSound, IrqPairSound, handleBefore}
+use Rattle.layout.specs.{endBefore, rangeBase, rangeCount, clientSize, clientsAt, ioSize, ioSpareAt, irqSize, levelSize, rangeSize, rangesAt}
+use Rattle.layout.specs.{restAt, tableSize}
+use Rattle.layout.specs.Sound.{Sound}
 use Rattle.layout.proofs.Parts.{below-at}
 use Rattle.layout.proofs.Lists.{below-in, at-below, at-past, at-in, in-at, rising-next, apart-next}
 use Rattle.layout.proofs.RoundTrip.{two-back, mask-word, client-bytes, client-is, range-is, ios-back, irqs-back}
@@ -40,7 +29,7 @@ mark-below : (t u : Bool) → (t ≡ true → u ≡ true) → mark t ≤ mark u
 mark-below true u h = subst (λ (v : Bool). 1 ≤ mark v) (sym (h refl)) (omega arith)
 mark-below false u h = omega arith
 
-manner-most : (m : Manner) → mannerByte m ≤ 3
+pub manner-most : (m : Manner) → mannerByte m ≤ 3
 manner-most Exclusive = omega arith
 manner-most TimeMultiplexed = omega arith
 manner-most DynamicLevel = omega arith
@@ -63,7 +52,7 @@ module _ (F : Facts) (w : WellFormed F) where
   unfolding image head
   issued-is = two-back (F .issued)
 
-  card-sound : (s : ℕ) → s < Table.mostSockets → CardSound (image F) s
+  card-sound : (s : ℕ) → s < mostSockets → CardSound (image F) s
   card-sound s l =
       let e = Image.card-at F s l in
       record {
@@ -71,9 +60,9 @@ module _ (F : Facts) (w : WellFormed F) where
         socket = λ h. omega (arith, sockets-is, w .cards s (mark-true (F .card s) (sym e ∙ h)));
       }
 
-  level-sound : (l : ℕ) → l < Table.allLevels → LevelSound (image F) l
+  level-sound : (l : ℕ) → l < allLevels → LevelSound (image F) l
   level-sound l h =
-      let m = Image.first-byte (image F) (levelPlace l) Layout.levelSize (levelBytes (F .level l)) (Image.level-at F l h) (omega arith) in
+      let m = Image.first-byte (image F) (levelPlace l) levelSize (levelBytes (F .level l)) (Image.level-at F l h) (omega arith) in
       let r = Image.level-at F l h 1 (omega arith) in
       record {
         managed = omega (arith, m, mark-most (F .level l .managed));
@@ -84,17 +73,17 @@ module _ (F : Facts) (w : WellFormed F) where
   unfolding clientIn
   handle-is i c e l = ap (λ (x : Client). x .handle) (client-is F w i c e l)
 
-  pub mask-sound : (i : ℕ) (c : Client) → getElem? (F .clients) i ≡ some c → i < length (F .clients) → (s : ℕ) → s < Table.mostSockets
+  pub mask-sound : (i : ℕ) (c : Client) → getElem? (F .clients) i ≡ some c → i < length (F .clients) → (s : ℕ) → s < mostSockets
       → MaskSound (image F) i s
-  mask-sound i c e l s h = go (c .mask s) refl
+  mask-sound i c e l s h = there-or-not (c .mask s) refl
     where
       is : word (image F) (maskPlace i s) ≡ getD (maskBytes (c .mask s)) 0 0 + 256 * getD (maskBytes (c .mask s)) 1 0
       is = mask-word (image F) i c (client-bytes F w i c e l) s h
 
-      go : (o : Option ℕ) → c .mask s ≡ o → MaskSound (image F) i s
-      go none q = inl (is ∙ ap (λ (o : Option ℕ). getD (maskBytes o) 0 0 + 256 * getD (maskBytes o) 1 0) q)
-      go (some m) q =
-          let n = is ∙ ap (λ (o : Option ℕ). getD (maskBytes o) 0 0 + 256 * getD (maskBytes o) 1 0) q ∙ two-back (Table.allEvents + m) in
+      there-or-not : (o : Option ℕ) → c .mask s ≡ o → MaskSound (image F) i s
+      there-or-not none q = inl (is ∙ ap (λ (o : Option ℕ). getD (maskBytes o) 0 0 + 256 * getD (maskBytes o) 1 0) q)
+      there-or-not (some m) q =
+          let n = is ∙ ap (λ (o : Option ℕ). getD (maskBytes o) 0 0 + 256 * getD (maskBytes o) 1 0) q ∙ two-back (allEvents + m) in
           let f = w .clients c (at-in (F .clients) i e) .mask s m q in
           inr (omega (arith, n), omega (arith, n, f .1), omega (arith, sockets-is, f .0))
 
@@ -119,17 +108,17 @@ module _ (F : Facts) (w : WellFormed F) where
         masks = mask-sound i (x .0) (x .1) m;
       }
 
-  clients-end : Zero (image F) (clientPlace (clientsIn (image F))) Layout.rangesAt
+  clients-end : Zero (image F) (clientPlace (clientsIn (image F))) rangesAt
   clients-end k l m =
       ap (byte (image F)) place ∙ Image.client-at F i (omega arith) j (omega arith)
       ∙ ap (λ (o : Option Client). getD (clientBytes o) j 0) (at-past (F .clients) i (omega (arith, clients-is)))
-      ∙ zeros Layout.clientSize j (omega arith)
+      ∙ zeros clientSize j (omega arith)
     where
       i : ℕ
-      i = (k - Layout.clientsAt) / Layout.clientSize
+      i = (k - clientsAt) / clientSize
 
       j : ℕ
-      j = (k - Layout.clientsAt) % Layout.clientSize
+      j = (k - clientsAt) % clientSize
 
       place : k ≡ clientPlace i + j
       place = omega arith
@@ -163,24 +152,24 @@ module _ (F : Facts) (w : WellFormed F) where
         );
       }
 
-  ranges-end : Zero (image F) (rangePlace (rangesIn (image F))) Layout.tableSize
-  ranges-end k l m = go (decLt k Layout.restAt)
+  ranges-end : Zero (image F) (rangePlace (rangesIn (image F))) tableSize
+  ranges-end k l m = below-or-not (decLt k restAt)
     where
       i : ℕ
-      i = (k - Layout.rangesAt) / Layout.rangeSize
+      i = (k - rangesAt) / rangeSize
 
       j : ℕ
-      j = (k - Layout.rangesAt) % Layout.rangeSize
+      j = (k - rangesAt) % rangeSize
 
       place : k ≡ rangePlace i + j
       place = omega arith
 
-      go : Dec (k < Layout.restAt) → byte (image F) k ≡ 0
-      go (yes h) =
+      below-or-not : Dec (k < restAt) → byte (image F) k ≡ 0
+      below-or-not (yes h) =
           ap (byte (image F)) place ∙ Image.range-at F i (omega arith) j (omega arith)
           ∙ ap (λ (o : Option Range). getD (rangeBytes o) j 0) (at-past (F .ranges) i (omega (arith, ranges-is)))
-          ∙ zeros Layout.rangeSize j (omega arith)
-      go (no h) = Image.rest-at F k (omega arith) m
+          ∙ zeros rangeSize j (omega arith)
+      below-or-not (no h) = Image.rest-at F k (omega arith) m
 
   pub live-in : (h : ℕ) → Live F h → LiveIn (image F) h
   live-in h l =
@@ -194,16 +183,16 @@ module _ (F : Facts) (w : WellFormed F) where
       (r .0, omega (arith, r .1, ranges-is), record { from = omega (arith, is .0, m .has .from); below = omega (arith, is .0, is .1, m .has .below) })
 
   -- what stands at a socket's place
-  pub io-zero : (s : ℕ) → s < Table.mostSockets → F .io s ≡ none → Zero (image F) (ioPlace s) (ioPlace s + Layout.ioSize)
-  io-zero s l = none-zero (image F) (ioPlace s) Layout.ioSize (omega arith) ioBytes refl (F .io s) (Image.io-at F s l)
+  pub io-zero : (s : ℕ) → s < mostSockets → F .io s ≡ none → Zero (image F) (ioPlace s) (ioPlace s + ioSize)
+  io-zero s l = none-zero (image F) (ioPlace s) ioSize (omega arith) ioBytes refl (F .io s) (Image.io-at F s l)
 
-  pub io-is : (s : ℕ) (g : IoGrant) → s < Table.mostSockets → F .io s ≡ some g → (0 < word (image F) (ioPlace s)) × (ioIn (image F) s ≡ g)
+  pub io-is : (s : ℕ) (g : IoGrant) → s < mostSockets → F .io s ≡ some g → (0 < word (image F) (ioPlace s)) × (ioIn (image F) s ≡ g)
   unfolding ioHere
   io-is s g l e =
       nonzero (word (image F) (ioPlace s)) (ioIn (image F) s) g
-      (sym (below-in Table.mostSockets none (ioHere (image F)) s l) ∙ ios-back F w s (yes l) ∙ e)
+      (sym (below-in mostSockets none (ioHere (image F)) s l) ∙ ios-back F w s (yes l) ∙ e)
 
-  io-spare : (s : ℕ) (g : IoGrant) → s < Table.mostSockets → F .io s ≡ some g → Zero (image F) (ioPlace s + 7) (ioPlace s + Layout.ioSize)
+  io-spare : (s : ℕ) (g : IoGrant) → s < mostSockets → F .io s ≡ some g → Zero (image F) (ioPlace s + ioSpareAt) (ioPlace s + ioSize)
   io-spare s g l e k h m =
       ap (byte (image F)) place ∙ Image.io-at F s l (7 + (k - ioPlace s - 7)) (omega arith)
       ∙ ap (λ (o : Option IoGrant). getD (ioBytes o) (7 + (k - ioPlace s - 7)) 0) e
@@ -212,7 +201,7 @@ module _ (F : Facts) (w : WellFormed F) where
       place : k ≡ ioPlace s + (7 + (k - ioPlace s - 7))
       place = omega arith
 
-  io-sound : (s : ℕ) (g : IoGrant) → s < Table.mostSockets → F .io s ≡ some g → IoSound (image F) s
+  io-sound : (s : ℕ) (g : IoGrant) → s < mostSockets → F .io s ≡ some g → IoSound (image F) s
   unfolding ioIn
   io-sound s g l e =
       let is = io-is s g l e .1 in
@@ -236,33 +225,33 @@ module _ (F : Facts) (w : WellFormed F) where
         spare = io-spare s g l e;
       }
 
-  io-place : (s : ℕ) → s < Table.mostSockets → IoPlaceSound (image F) s
-  io-place s l = placed (image F) (ioPlace s) Layout.ioSize (omega arith) (F .io s) (io-zero s l) (λ g e. (io-is s g l e .0, io-sound s g l e))
+  io-place : (s : ℕ) → s < mostSockets → IoPlaceSound (image F) s
+  io-place s l = placed (image F) (ioPlace s) ioSize (omega arith) (F .io s) (io-zero s l) (λ g e. (io-is s g l e .0, io-sound s g l e))
 
-  io-used : (s : ℕ) → s < Table.mostSockets → IoUsed (image F) s → (g : IoGrant) × (F .io s ≡ some g) × (ioIn (image F) s ≡ g)
-  io-used s l u = let x = used (image F) (ioPlace s) Layout.ioSize (omega arith) (F .io s) (io-zero s l) u in (x .0, x .1, io-is s (x .0) l (x .1) .1)
+  io-used : (s : ℕ) → s < mostSockets → IoUsed (image F) s → (g : IoGrant) × (F .io s ≡ some g) × (ioIn (image F) s ≡ g)
+  io-used s l u = let x = used (image F) (ioPlace s) ioSize (omega arith) (F .io s) (io-zero s l) u in (x .0, x .1, io-is s (x .0) l (x .1) .1)
 
-  io-pair : (s t : ℕ) → s < Table.mostSockets → t < s → IoPairSound (image F) s t
+  io-pair : (s t : ℕ) → s < mostSockets → t < s → IoPairSound (image F) s t
   io-pair s t l m u v =
       let x = io-used s l u in
       let y = io-used t (omega arith) v in
       subst₂ IoCompany (sym (x .2)) (sym (y .2)) (w .io-company s t (x .0) (y .0) (λ e. omega (arith, e)) (x .1) (y .1))
 
-  pub irq-zero : (s : ℕ) → s < Table.mostSockets → F .irq s ≡ none → Zero (image F) (irqPlace s) (irqPlace s + Layout.irqSize)
-  irq-zero s l = none-zero (image F) (irqPlace s) Layout.irqSize (omega arith) irqBytes refl (F .irq s) (Image.irq-at F s l)
+  pub irq-zero : (s : ℕ) → s < mostSockets → F .irq s ≡ none → Zero (image F) (irqPlace s) (irqPlace s + irqSize)
+  irq-zero s l = none-zero (image F) (irqPlace s) irqSize (omega arith) irqBytes refl (F .irq s) (Image.irq-at F s l)
 
-  pub irq-is : (s : ℕ) (g : IrqGrant) → s < Table.mostSockets → F .irq s ≡ some g → (0 < word (image F) (irqPlace s)) × (irqIn (image F) s ≡ g)
+  pub irq-is : (s : ℕ) (g : IrqGrant) → s < mostSockets → F .irq s ≡ some g → (0 < word (image F) (irqPlace s)) × (irqIn (image F) s ≡ g)
   unfolding irqHere
   irq-is s g l e =
       nonzero (word (image F) (irqPlace s)) (irqIn (image F) s) g
-      (sym (below-in Table.mostSockets none (irqHere (image F)) s l) ∙ irqs-back F w s (yes l) ∙ e)
+      (sym (below-in mostSockets none (irqHere (image F)) s l) ∙ irqs-back F w s (yes l) ∙ e)
 
   level-byte : (l : ℕ) → F .level l .managed ≡ true → byte (image F) (levelPlace l) ≡ 1
   level-byte l e =
-      Image.first-byte (image F) (levelPlace l) Layout.levelSize (levelBytes (F .level l)) (Image.level-at F l (w .levels l e)) (omega arith)
+      Image.first-byte (image F) (levelPlace l) levelSize (levelBytes (F .level l)) (Image.level-at F l (w .levels l e)) (omega arith)
       ∙ ap mark e
 
-  irq-sound : (s : ℕ) (g : IrqGrant) → s < Table.mostSockets → F .irq s ≡ some g → IrqSound (image F) s
+  irq-sound : (s : ℕ) (g : IrqGrant) → s < mostSockets → F .irq s ≡ some g → IrqSound (image F) s
   unfolding irqIn
   irq-sound s g l e =
       let is = irq-is s g l e .1 in
@@ -276,15 +265,15 @@ module _ (F : Facts) (w : WellFormed F) where
         manner = omega (arith, Image.irq-at F s l 3 (omega arith) ∙ ap (λ (o : Option IrqGrant). getD (irqBytes o) 3 0) e, manner-most (g .manner));
       }
 
-  irq-place : (s : ℕ) → s < Table.mostSockets → IrqPlaceSound (image F) s
-  irq-place s l = placed (image F) (irqPlace s) Layout.irqSize (omega arith) (F .irq s) (irq-zero s l) (λ g e. (irq-is s g l e .0, irq-sound s g l e))
+  irq-place : (s : ℕ) → s < mostSockets → IrqPlaceSound (image F) s
+  irq-place s l = placed (image F) (irqPlace s) irqSize (omega arith) (F .irq s) (irq-zero s l) (λ g e. (irq-is s g l e .0, irq-sound s g l e))
 
-  irq-used : (s : ℕ) → s < Table.mostSockets → IrqUsed (image F) s → (g : IrqGrant) × (F .irq s ≡ some g) × (irqIn (image F) s ≡ g)
+  irq-used : (s : ℕ) → s < mostSockets → IrqUsed (image F) s → (g : IrqGrant) × (F .irq s ≡ some g) × (irqIn (image F) s ≡ g)
   irq-used s l u =
-      let x = used (image F) (irqPlace s) Layout.irqSize (omega arith) (F .irq s) (irq-zero s l) u in
+      let x = used (image F) (irqPlace s) irqSize (omega arith) (F .irq s) (irq-zero s l) u in
       (x .0, x .1, irq-is s (x .0) l (x .1) .1)
 
-  irq-pair : (s t : ℕ) → s < Table.mostSockets → t < s → IrqPairSound (image F) s t
+  irq-pair : (s t : ℕ) → s < mostSockets → t < s → IrqPairSound (image F) s t
   irq-pair s t l m u v =
       let x = irq-used s l u in
       let y = irq-used t (omega arith) v in

@@ -1,22 +1,12 @@
 -- Sound bytes are the image of the facts read off them. Assumes nothing.
-use mathlib.Core.Path.{_≡_, refl, ap, sym, _∙_}
-use mathlib.Core.Logic.{inl, inr}
-use mathlib.Core.List.{List}
-use mathlib.Core.Bool.{false}
-use mathlib.Core.Option.{Option, none, some}
-use Prim.Native.Nat.{ℕ, zero, suc, _+_, _*_, _-_, _/_, _%_, _≤_, _<_}
-use native.Mathlib.Nat.{add-assoc, add-zero}
-use native.Mathlib.Decide.{decLt}
-use native.Mathlib.Omega.{arith}
-use lib.ListN.{getD, getElem?, replicate}
-use Rattle.facts.specs.Table
-use Rattle.facts.specs.Table.{Level, IoGrant, IrqGrant}
-use Rattle.facts.specs.Packets.{byte, word, long}
-use Rattle.layout.specs.Layout
-use Rattle.layout.specs.Layout.{mark, two, maskBytes, clientBytes, levelBytes, rangeBytes, ioBytes, irqBytes, mannerByte, head, image}
-use Rattle.layout.specs.Reading.{clientsIn, rangesIn, upTo, marked, maskOf, maskPlace, mannerOf, clientPlace, rangePlace, levelPlace, ioPlace}
-use Rattle.layout.specs.Reading.{irqPlace, clientIn, rangeIn, levelIn, ioIn, irqIn, ioHere, irqHere, factsIn}
-use Rattle.layout.specs.Sound.{Sound, Zero, MaskSound}
+use Rattle.facts.proofs.Words.{_≡_, refl, ap, sym, _∙_, inl, inr, List, false, Option, none, some, ℕ, zero, suc, _+_, _*_, _-_, _/_, _%_, _≤_, _<_}
+use Rattle.facts.proofs.Words.{add-assoc, add-zero, decLt, arith, getD, getElem?, replicate}
+use Rattle.facts.specs.{Level, IoGrant, IrqGrant, byte, word, long, allEvents, allLevels, mostClients, mostRanges, mostSockets}
+use Rattle.layout.specs.{mark, two, maskBytes, clientBytes, levelBytes, rangeBytes, ioBytes, irqBytes, mannerByte, head, image, clientsIn}
+use Rattle.layout.specs.{rangesIn, upTo, marked, maskOf, maskPlace, mannerOf, clientPlace, rangePlace, levelPlace, ioPlace, irqPlace, clientIn}
+use Rattle.layout.specs.{rangeIn, levelIn, ioIn, irqIn, ioHere, irqHere, factsIn, Zero, MaskSound, cardsAt, clientSize, ioSharedAt, ioSize}
+use Rattle.layout.specs.{ioSpareAt, irqMannerAt, irqSize, levelReservedAt, rangeReservedAt, rangeSize}
+use Rattle.layout.specs.Sound.{Sound}
 use Rattle.layout.proofs.Parts.{below-at}
 use Rattle.layout.proofs.Grants.{zeros, read-bytes}
 use Rattle.layout.proofs.Shows.{shows-image}
@@ -45,11 +35,11 @@ listed-bytes : {A : Type 0} (n : ℕ) (f : ℕ → A) (k : ℕ) (bytes : Option 
     → (i < n → getD (bytes (some (f i))) j 0 ≡ x)
     → (n ≤ i → x ≡ 0)
     → getD (bytes (getElem? (upTo n f) i)) j 0 ≡ x
-listed-bytes {A} n f k bytes empty i j l x listed past = go (decLt i n)
+listed-bytes {A} n f k bytes empty i j l x listed past = below-or-not (decLt i n)
   where
-    go : Dec (i < n) → getD (bytes (getElem? (upTo n f) i)) j 0 ≡ x
-    go (yes h) = ap (λ (o : Option A). getD (bytes o) j 0) (at-upTo n f i h) ∙ listed h
-    go (no h) =
+    below-or-not : Dec (i < n) → getD (bytes (getElem? (upTo n f) i)) j 0 ≡ x
+    below-or-not (yes h) = ap (λ (o : Option A). getD (bytes o) j 0) (at-upTo n f i h) ∙ listed h
+    below-or-not (no h) =
         ap (λ (o : Option A). getD (bytes o) j 0) (at-past (upTo n f) i (omega (arith, upTo-length n f))) ∙ ap (λ (y : List ℕ). getD y j 0) empty
         ∙ zeros k j l ∙ sym (past (omega arith))
 
@@ -61,25 +51,25 @@ module _ (b : List ℕ) (bytes : Bytes b) where
   high o = omega (arith, bytes o, bytes (o + 1))
 
   module _ (s : Sound b) where
-    card-bytes : (i : ℕ) → i < Table.mostSockets → mark (factsIn b .card i) ≡ byte b (Layout.cardsAt + i)
+    card-bytes : (i : ℕ) → i < mostSockets → mark (factsIn b .card i) ≡ byte b (cardsAt + i)
     unfolding factsIn
-    card-bytes i l = ap mark (below-in Table.mostSockets false (λ s. marked (byte b (Layout.cardsAt + s))) i l)
-        ∙ mark-of (byte b (Layout.cardsAt + i)) (s .cards i l .mark)
+    card-bytes i l = ap mark (below-in mostSockets false (λ s. marked (byte b (cardsAt + s))) i l)
+        ∙ mark-of (byte b (cardsAt + i)) (s .cards i l .mark)
 
-    level-bytes : (i j : ℕ) → i < Table.allLevels → j < 2 → getD (levelBytes (factsIn b .level i)) j 0 ≡ byte b (levelPlace i + j)
+    level-bytes : (i j : ℕ) → i < allLevels → j < 2 → getD (levelBytes (factsIn b .level i)) j 0 ≡ byte b (levelPlace i + j)
     unfolding factsIn levelIn
     level-bytes i j l m =
-        ap (λ (v : Level). getD (levelBytes v) j 0) (below-in Table.allLevels (record { managed = false; reserved = false }) (levelIn b) i l)
+        ap (λ (v : Level). getD (levelBytes v) j 0) (below-in allLevels (record { managed = false; reserved = false }) (levelIn b) i l)
         ∙ below-at 2 (λ j. getD (levelBytes (levelIn b i)) j 0 ≡ byte b (levelPlace i + j)) (
           (tt, mark-of (byte b (levelPlace i)) (s .levels i l .managed) ∙ ap (byte b) (sym (add-zero (levelPlace i)))),
-          mark-of (byte b (levelPlace i + 1)) (omega (arith, s .levels i l .managed, s .levels i l .reserved)),
+          mark-of (byte b (levelPlace i + levelReservedAt)) (omega (arith, s .levels i l .managed, s .levels i l .reserved)),
         ) j m
 
-    io-used : (i j : ℕ) → j < Layout.ioSize → byte b (ioPlace i + 6) ≤ 1 → Zero b (ioPlace i + 7) (ioPlace i + Layout.ioSize)
+    io-used : (i j : ℕ) → j < ioSize → byte b (ioPlace i + ioSharedAt) ≤ 1 → Zero b (ioPlace i + ioSpareAt) (ioPlace i + ioSize)
         → getD (ioBytes (some (ioIn b i))) j 0 ≡ byte b (ioPlace i + j)
     unfolding ioIn
     io-used i j m shared spare =
-        below-at Layout.ioSize (λ j. getD (ioBytes (some (ioIn b i))) j 0 ≡ byte b (ioPlace i + j)) (
+        below-at ioSize (λ j. getD (ioBytes (some (ioIn b i))) j 0 ≡ byte b (ioPlace i + j)) (
           (
             (
               (
@@ -109,31 +99,31 @@ module _ (b : List ℕ) (bytes : Bytes b) where
         p : ℕ
         p = ioPlace i
 
-    io-bytes : (i j : ℕ) → i < Table.mostSockets → j < Layout.ioSize → getD (ioBytes (factsIn b .io i)) j 0 ≡ byte b (ioPlace i + j)
+    io-bytes : (i j : ℕ) → i < mostSockets → j < ioSize → getD (ioBytes (factsIn b .io i)) j 0 ≡ byte b (ioPlace i + j)
     unfolding factsIn ioHere
     io-bytes i j l m =
-        ap (λ (o : Option IoGrant). getD (ioBytes o) j 0) (below-in Table.mostSockets none (ioHere b) i l)
-        ∙ read-bytes b (ioPlace i) Layout.ioSize (omega arith) ioBytes refl (ioIn b i) (s .ios i l) (λ u j m. io-used i j m (u .mark) (u .spare)) j m
+        ap (λ (o : Option IoGrant). getD (ioBytes o) j 0) (below-in mostSockets none (ioHere b) i l)
+        ∙ read-bytes b (ioPlace i) ioSize (omega arith) ioBytes refl (ioIn b i) (s .ios i l) (λ u j m. io-used i j m (u .mark) (u .spare)) j m
 
-    irq-used : (i j : ℕ) → j < Layout.irqSize → byte b (irqPlace i + 3) ≤ 3 → getD (irqBytes (some (irqIn b i))) j 0 ≡ byte b (irqPlace i + j)
+    irq-used : (i j : ℕ) → j < irqSize → byte b (irqPlace i + irqMannerAt) ≤ 3 → getD (irqBytes (some (irqIn b i))) j 0 ≡ byte b (irqPlace i + j)
     unfolding irqIn
     irq-used i j m manner =
         below-at 4 (λ j. getD (irqBytes (some (irqIn b i))) j 0 ≡ byte b (irqPlace i + j)) (
           (((tt, low (irqPlace i) ∙ ap (byte b) (sym (add-zero (irqPlace i)))), high (irqPlace i)), refl),
-          mannerByte-of (byte b (irqPlace i + 3)) manner,
+          mannerByte-of (byte b (irqPlace i + irqMannerAt)) manner,
         ) j m
 
-    irq-bytes : (i j : ℕ) → i < Table.mostSockets → j < Layout.irqSize → getD (irqBytes (factsIn b .irq i)) j 0 ≡ byte b (irqPlace i + j)
+    irq-bytes : (i j : ℕ) → i < mostSockets → j < irqSize → getD (irqBytes (factsIn b .irq i)) j 0 ≡ byte b (irqPlace i + j)
     unfolding factsIn irqHere
     irq-bytes i j l m =
-        ap (λ (o : Option IrqGrant). getD (irqBytes o) j 0) (below-in Table.mostSockets none (irqHere b) i l)
-        ∙ read-bytes b (irqPlace i) Layout.irqSize (omega arith) irqBytes refl (irqIn b i) (s .irqs i l) (λ u j m. irq-used i j m (u .manner)) j m
+        ap (λ (o : Option IrqGrant). getD (irqBytes o) j 0) (below-in mostSockets none (irqHere b) i l)
+        ∙ read-bytes b (irqPlace i) irqSize (omega arith) irqBytes refl (irqIn b i) (s .irqs i l) (λ u j m. irq-used i j m (u .manner)) j m
 
-    range-used : (i j : ℕ) → j < Layout.rangeSize → byte b (rangePlace i + 6) ≤ 1
+    range-used : (i j : ℕ) → j < rangeSize → byte b (rangePlace i + rangeReservedAt) ≤ 1
         → getD (rangeBytes (some (rangeIn b i))) j 0 ≡ byte b (rangePlace i + j)
     unfolding rangeIn
     range-used i j m reserved =
-        below-at Layout.rangeSize (λ j. getD (rangeBytes (some (rangeIn b i))) j 0 ≡ byte b (rangePlace i + j)) (
+        below-at rangeSize (λ j. getD (rangeBytes (some (rangeIn b i))) j 0 ≡ byte b (rangePlace i + j)) (
           (
             (((((tt, low p ∙ ap (byte b) (sym (add-zero p))), high p), c0), c1 ∙ ap (byte b) (add-assoc p 2 1)), c2 ∙ ap (byte b) (add-assoc p 2 2)),
             c3 ∙ ap (byte b) (ap (λ (o : ℕ). o + 1) (add-assoc p 2 2) ∙ add-assoc p 4 1),
@@ -168,24 +158,24 @@ module _ (b : List ℕ) (bytes : Bytes b) where
         c3 : long b (p + 2) / 16777216 ≡ byte b (p + 2 + 2 + 1)
         c3 = omega (arith, b0, b1, b2, b3)
 
-    range-bytes : (i j : ℕ) → i < Table.mostRanges → j < Layout.rangeSize
+    range-bytes : (i j : ℕ) → i < mostRanges → j < rangeSize
         → getD (rangeBytes (getElem? (factsIn b .ranges) i)) j 0 ≡ byte b (rangePlace i + j)
     unfolding factsIn
     range-bytes i j l m =
-        listed-bytes (rangesIn b) (rangeIn b) Layout.rangeSize rangeBytes refl i j m (byte b (rangePlace i + j))
+        listed-bytes (rangesIn b) (rangeIn b) rangeSize rangeBytes refl i j m (byte b (rangePlace i + j))
         (λ h. range-used i j m (s .ranges i h .mark)) (λ h. s .ranges-end (rangePlace i + j) (omega arith) (omega arith))
 
-    mask-two : (i t r : ℕ) → t < Table.mostSockets → r < 2 → MaskSound b i t
+    mask-two : (i t r : ℕ) → t < mostSockets → r < 2 → MaskSound b i t
         → getD (maskBytes (maskOf (word b (maskPlace i t)))) r 0 ≡ byte b (maskPlace i t + r)
     mask-two i t r l m (inl e) =
-        ap (λ (o : Option ℕ). getD (maskBytes o) r 0) (zero-test w none (some (w - Table.allEvents)) e)
+        ap (λ (o : Option ℕ). getD (maskBytes o) r 0) (zero-test w none (some (w - allEvents)) e)
         ∙ below-at 2 (λ r. getD (maskBytes none) r 0 ≡ byte b (maskPlace i t + r))
         ((tt, omega (arith, e) ∙ ap (byte b) (sym (add-zero (maskPlace i t)))), omega (arith, e)) r m
       where
         w : ℕ
         w = word b (maskPlace i t)
     mask-two i t r l m (inr u) =
-        ap (λ (o : Option ℕ). getD (maskBytes o) r 0) (positive-test w none (some (w - Table.allEvents)) (omega (arith, u .0)))
+        ap (λ (o : Option ℕ). getD (maskBytes o) r 0) (positive-test w none (some (w - allEvents)) (omega (arith, u .0)))
         ∙ ap (λ (n : ℕ). getD (two n) r 0) back
         ∙ below-at 2 (λ r. getD (two w) r 0 ≡ byte b (maskPlace i t + r))
         ((tt, low (maskPlace i t) ∙ ap (byte b) (sym (add-zero (maskPlace i t)))), high (maskPlace i t)) r m
@@ -193,13 +183,13 @@ module _ (b : List ℕ) (bytes : Bytes b) where
         w : ℕ
         w = word b (maskPlace i t)
 
-        back : Table.allEvents + (w - Table.allEvents) ≡ w
+        back : allEvents + (w - allEvents) ≡ w
         back = omega (arith, u .0)
 
-    client-used : (i j : ℕ) → j < Layout.clientSize → ((t : ℕ) → t < Table.mostSockets → MaskSound b i t)
+    client-used : (i j : ℕ) → j < clientSize → ((t : ℕ) → t < mostSockets → MaskSound b i t)
         → getD (clientBytes (some (clientIn b i))) j 0 ≡ byte b (clientPlace i + j)
     unfolding clientIn
-    client-used i j m masks = go (decLt j 6)
+    client-used i j m masks = below-or-not (decLt j 6)
       where
         p : ℕ
         p = clientPlace i
@@ -210,18 +200,18 @@ module _ (b : List ℕ) (bytes : Bytes b) where
         r : ℕ
         r = (j - 6) % 2
 
-        go : Dec (j < 6) → getD (clientBytes (some (clientIn b i))) j 0 ≡ byte b (clientPlace i + j)
-        go (yes l) =
+        below-or-not : Dec (j < 6) → getD (clientBytes (some (clientIn b i))) j 0 ≡ byte b (clientPlace i + j)
+        below-or-not (yes l) =
             below-at 6 (λ j. getD (clientBytes (some (clientIn b i))) j 0 ≡ byte b (clientPlace i + j)) (
               (((((tt, low p ∙ ap (byte b) (sym (add-zero p))), high p), low (p + 2)), high (p + 2) ∙ ap (byte b) (add-assoc p 2 1)), low (p + 4)),
               high (p + 4) ∙ ap (byte b) (add-assoc p 4 1),
             ) j l
-        go (no l) =
+        below-or-not (no l) =
             ap (λ (k : ℕ). getD (clientBytes (some (clientIn b i))) k 0) place ∙ mask-bytes (clientIn b i) t r in-sockets in-mask
-            ∙ ap (λ (o : Option ℕ). getD (maskBytes o) r 0) (below-in Table.mostSockets none (λ t. maskOf (word b (maskPlace i t))) t in-sockets)
+            ∙ ap (λ (o : Option ℕ). getD (maskBytes o) r 0) (below-in mostSockets none (λ t. maskOf (word b (maskPlace i t))) t in-sockets)
             ∙ mask-two i t r in-sockets in-mask (masks t in-sockets) ∙ ap (byte b) there
           where
-            in-sockets : t < Table.mostSockets
+            in-sockets : t < mostSockets
             in-sockets = omega arith
 
             in-mask : r < 2
@@ -233,11 +223,11 @@ module _ (b : List ℕ) (bytes : Bytes b) where
             there : maskPlace i t + r ≡ clientPlace i + j
             there = omega arith
 
-    client-bytes : (i j : ℕ) → i < Table.mostClients → j < Layout.clientSize
+    client-bytes : (i j : ℕ) → i < mostClients → j < clientSize
         → getD (clientBytes (getElem? (factsIn b .clients) i)) j 0 ≡ byte b (clientPlace i + j)
     unfolding factsIn
     client-bytes i j l m =
-        listed-bytes (clientsIn b) (clientIn b) Layout.clientSize clientBytes refl i j m (byte b (clientPlace i + j))
+        listed-bytes (clientsIn b) (clientIn b) clientSize clientBytes refl i j m (byte b (clientPlace i + j))
         (λ h. client-used i j m (s .clients i h .masks)) (λ h. s .clients-end (clientPlace i + j) (omega arith) (omega arith))
 
     -- the bytes are the image of the facts read off them

@@ -1,14 +1,8 @@
 -- The bytes of a table after a byte, or a number of two or of four bytes, is written. Assumes nothing.
-use mathlib.Core.Path.{_≡_, ap, sym, _∙_}
-use mathlib.Core.Logic.{_⊎_, inl, inr, _≢_}
-use mathlib.Core.List.{List}
-use Prim.Native.Nat.{ℕ, _+_, _/_, _%_, _≤_, _<_}
-use native.Mathlib.Nat.{add-zero, add-assoc}
-use native.Mathlib.Omega.{arith}
-use lib.ListN.{length, getD, set, length-set}
-use lib.Seq.{getD-set-same, getD-set-other}
-use Rattle.facts.specs.Packets.{byte, withWord, withLong}
-use Rattle.layout.specs.Layout.{four}
+use Rattle.facts.proofs.Words.{_≡_, ap, sym, _∙_, _⊎_, inl, inr, _≢_, List, ℕ, _+_, _/_, _%_, _≤_, _<_, add-zero, add-assoc, arith, length, getD}
+use Rattle.facts.proofs.Words.{set, length-set, getD-set-same, getD-set-other}
+use Rattle.facts.specs.{byte, withWord, withLong}
+use Rattle.layout.specs.{four}
 use Rattle.layout.proofs.Parts.{below-at}
 
 pub byte-same : (b : List ℕ) (at v : ℕ) → at < length b → byte (set b at v) at ≡ v

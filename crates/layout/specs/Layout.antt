@@ -12,6 +12,46 @@ use Rattle.facts.specs.Table.{Facts, Client, Level, Range, IoGrant, IrqGrant}
 abbrev pub tableSize : ℕ
 tableSize = 8192
 
+-- where a field stands in its record
+abbrev pub clientAttributesAt : ℕ
+clientAttributesAt = 2
+
+abbrev pub clientEventsAt : ℕ
+clientEventsAt = 4
+
+abbrev pub clientMasksAt : ℕ
+clientMasksAt = 6
+
+abbrev pub levelReservedAt : ℕ
+levelReservedAt = 1
+
+abbrev pub rangeCountAt : ℕ
+rangeCountAt = 2
+
+abbrev pub rangeReservedAt : ℕ
+rangeReservedAt = 6
+
+abbrev pub ioBaseAt : ℕ
+ioBaseAt = 2
+
+abbrev pub ioCountAt : ℕ
+ioCountAt = 4
+
+abbrev pub ioLinesAt : ℕ
+ioLinesAt = 5
+
+abbrev pub ioSharedAt : ℕ
+ioSharedAt = 6
+
+abbrev pub ioSpareAt : ℕ
+ioSpareAt = 7
+
+abbrev pub irqLevelAt : ℕ
+irqLevelAt = 2
+
+abbrev pub irqMannerAt : ℕ
+irqMannerAt = 3
+
 -- the size of each part's records
 abbrev pub cardSize : ℕ
 cardSize = 1
@@ -29,7 +69,7 @@ abbrev pub maskSize : ℕ
 maskSize = 2
 
 abbrev pub clientSize : ℕ
-clientSize = 6 + Table.mostSockets * maskSize
+clientSize = clientMasksAt + Table.mostSockets * maskSize
 
 abbrev pub rangeSize : ℕ
 rangeSize = 7

@@ -56,7 +56,7 @@ abbrev pub handleIn : List ℕ → ℕ → ℕ
 handleIn b i = word b (clientPlace i)
 
 abbrev pub maskPlace : ℕ → ℕ → ℕ
-maskPlace i s = clientPlace i + 6 + s * Layout.maskSize
+maskPlace i s = clientPlace i + Layout.clientMasksAt + s * Layout.maskSize
 
 abbrev pub maskOf : ℕ → Option ℕ
 maskOf w = cond (eqb w 0) none (some (w - Table.allEvents))
@@ -65,30 +65,30 @@ unfoldable pub clientIn : List ℕ → ℕ → Client
 clientIn b i =
     record {
       handle = handleIn b i;
-      attributes = word b (clientPlace i + 2);
-      events = word b (clientPlace i + 4);
+      attributes = word b (clientPlace i + Layout.clientAttributesAt);
+      events = word b (clientPlace i + Layout.clientEventsAt);
       mask = below Table.mostSockets none (λ s. maskOf (word b (maskPlace i s)));
     }
 
 unfoldable pub rangeIn : List ℕ → ℕ → Range
-rangeIn b i = record { base = word b (rangePlace i); count = long b (rangePlace i + 2); reserved = marked (byte b (rangePlace i + 6)) }
+rangeIn b i = record { base = word b (rangePlace i); count = long b (rangePlace i + Layout.rangeCountAt); reserved = marked (byte b (rangePlace i + Layout.rangeReservedAt)) }
 
 unfoldable pub levelIn : List ℕ → ℕ → Level
-levelIn b l = record { managed = marked (byte b (levelPlace l)); reserved = marked (byte b (levelPlace l + 1)) }
+levelIn b l = record { managed = marked (byte b (levelPlace l)); reserved = marked (byte b (levelPlace l + Layout.levelReservedAt)) }
 
 -- the ports that the record of an I/O grant says
 abbrev pub portsIn : List ℕ → ℕ → Ports
-portsIn b at = record { base = word b (at + 2); count = byte b (at + 4); lines = byte b (at + 5) }
+portsIn b at = record { base = word b (at + Layout.ioBaseAt); count = byte b (at + Layout.ioCountAt); lines = byte b (at + Layout.ioLinesAt) }
 
 unfoldable pub ioIn : List ℕ → ℕ → IoGrant
 ioIn b s =
-    record { client = word b (ioPlace s); ports = portsIn b (ioPlace s); shared = marked (byte b (ioPlace s + 6)) }
+    record { client = word b (ioPlace s); ports = portsIn b (ioPlace s); shared = marked (byte b (ioPlace s + Layout.ioSharedAt)) }
 
 abbrev pub mannerOf : ℕ → Manner
 mannerOf n = cond (eqb n 0) Exclusive (cond (eqb n 1) TimeMultiplexed (cond (eqb n 2) DynamicLevel DynamicPulse))
 
 unfoldable pub irqIn : List ℕ → ℕ → IrqGrant
-irqIn b s = record { client = word b (irqPlace s); level = byte b (irqPlace s + 2); manner = mannerOf (byte b (irqPlace s + 3)) }
+irqIn b s = record { client = word b (irqPlace s); level = byte b (irqPlace s + Layout.irqLevelAt); manner = mannerOf (byte b (irqPlace s + Layout.irqMannerAt)) }
 
 -- a grant's record whose client is 0 is no grant
 unfoldable pub ioHere : List ℕ → ℕ → Option IoGrant

@@ -36,7 +36,7 @@ pub record CardSound (b : List ℕ) (s : ℕ) : Type 0 where
 
 pub record LevelSound (b : List ℕ) (l : ℕ) : Type 0 where
   pub managed : byte b (levelPlace l) ≤ 1
-  pub reserved : byte b (levelPlace l + 1) ≤ byte b (levelPlace l)
+  pub reserved : byte b (levelPlace l + Layout.levelReservedAt) ≤ byte b (levelPlace l)
 
 -- the handle of the client listed before the ith, or 0
 abbrev pub handleBefore : List ℕ → ℕ → ℕ
@@ -56,8 +56,8 @@ MaskUsed b i s = word b (maskPlace i s) ≢ 0
 pub record ClientSound (b : List ℕ) (low i : ℕ) : Type 0 where
   pub over : low < handleIn b i
   pub issued : handleIn b i ≤ issuedIn b
-  pub attributes : AttributesAllowed (word b (clientPlace i + 2))
-  pub events : EventsAllowed (word b (clientPlace i + 4))
+  pub attributes : AttributesAllowed (word b (clientPlace i + Layout.clientAttributesAt))
+  pub events : EventsAllowed (word b (clientPlace i + Layout.clientEventsAt))
   pub masks : (s : ℕ) → s < Table.mostSockets → MaskSound b i s
 
 -- every client's record, each handle over the one before it
@@ -68,7 +68,7 @@ abbrev pub rangeBase : List ℕ → ℕ → ℕ
 rangeBase b i = word b (rangePlace i)
 
 abbrev pub rangeCount : List ℕ → ℕ → ℕ
-rangeCount b i = long b (rangePlace i + 2)
+rangeCount b i = long b (rangePlace i + Layout.rangeCountAt)
 
 -- where the range listed before the ith ends, or 0
 abbrev pub endBefore : List ℕ → ℕ → ℕ
@@ -80,7 +80,7 @@ pub record RangeSound (b : List ℕ) (low i : ℕ) : Type 0 where
   pub from : low ≤ rangeBase b i
   pub port : 1 ≤ rangeCount b i
   pub within : rangeBase b i + rangeCount b i ≤ Table.allPorts
-  pub mark : byte b (rangePlace i + 6) ≤ 1
+  pub mark : byte b (rangePlace i + Layout.rangeReservedAt) ≤ 1
 
 -- every range's record, each at or past the end of the one before it
 abbrev pub RangesSound : List ℕ → Type 0
@@ -97,15 +97,15 @@ ManagedIn b p = (i : ℕ) × (i < rangesIn b) × Within p (rangeBase b i) (range
 pub record IoSound (b : List ℕ) (s : ℕ) : Type 0 where
   pub client : LiveIn b (word b (ioPlace s))
   pub socket : s < socketsIn b
-  pub base : 1 ≤ word b (ioPlace s + 2)
-  pub port : 1 ≤ byte b (ioPlace s + 4)
-  pub line : 1 ≤ byte b (ioPlace s + 5)
-  pub lines : byte b (ioPlace s + 5) ≤ Table.mostLines
-  pub decoded : byte b (ioPlace s + 4) ≤ 2 ^ byte b (ioPlace s + 5)
-  pub managed : (p : ℕ) → Within p (word b (ioPlace s + 2)) (byte b (ioPlace s + 4)) → ManagedIn b p
+  pub base : 1 ≤ word b (ioPlace s + Layout.ioBaseAt)
+  pub port : 1 ≤ byte b (ioPlace s + Layout.ioCountAt)
+  pub line : 1 ≤ byte b (ioPlace s + Layout.ioLinesAt)
+  pub lines : byte b (ioPlace s + Layout.ioLinesAt) ≤ Table.mostLines
+  pub decoded : byte b (ioPlace s + Layout.ioCountAt) ≤ 2 ^ byte b (ioPlace s + Layout.ioLinesAt)
+  pub managed : (p : ℕ) → Within p (word b (ioPlace s + Layout.ioBaseAt)) (byte b (ioPlace s + Layout.ioCountAt)) → ManagedIn b p
   pub answers : (p : ℕ) → Answers (portsIn b (ioPlace s)) p → ManagedIn b p
-  pub mark : byte b (ioPlace s + 6) ≤ 1
-  pub spare : Zero b (ioPlace s + 7) (ioPlace s + Layout.ioSize)
+  pub mark : byte b (ioPlace s + Layout.ioSharedAt) ≤ 1
+  pub spare : Zero b (ioPlace s + Layout.ioSpareAt) (ioPlace s + Layout.ioSize)
 
 -- the socket s has an I/O grant
 abbrev pub IoUsed : List ℕ → ℕ → Type 0
@@ -118,9 +118,9 @@ IoPlaceSound b s = Zero b (ioPlace s) (ioPlace s + Layout.ioSize) ⊎ (IoUsed b 
 pub record IrqSound (b : List ℕ) (s : ℕ) : Type 0 where
   pub client : LiveIn b (word b (irqPlace s))
   pub socket : s < socketsIn b
-  pub level : byte b (irqPlace s + 2) < Table.allLevels
-  pub managed : byte b (levelPlace (byte b (irqPlace s + 2))) ≡ 1
-  pub manner : byte b (irqPlace s + 3) ≤ 3
+  pub level : byte b (irqPlace s + Layout.irqLevelAt) < Table.allLevels
+  pub managed : byte b (levelPlace (byte b (irqPlace s + Layout.irqLevelAt))) ≡ 1
+  pub manner : byte b (irqPlace s + Layout.irqMannerAt) ≤ 3
 
 abbrev pub IrqUsed : List ℕ → ℕ → Type 0
 IrqUsed b s = word b (irqPlace s) ≢ 0

@@ -51,7 +51,7 @@ pub const IRQ_SIZE: usize = 4;
 
 pub const CLIENTS_AT: usize = IRQS_AT + MOST_SOCKETS * IRQ_SIZE;
 
-pub const CLIENT_SIZE: usize = CLIENT_MASKS + MOST_SOCKETS * MASK_SIZE;
+pub const CLIENT_SIZE: usize = CLIENT_MASKS_AT + MOST_SOCKETS * MASK_SIZE;
 
 pub const RANGES_AT: usize = CLIENTS_AT + MOST_CLIENTS * CLIENT_SIZE;
 
@@ -60,30 +60,30 @@ pub const RANGE_SIZE: usize = 7;
 pub const REST_AT: usize = RANGES_AT + MOST_RANGES * RANGE_SIZE;
 
 // Where a record's fields stand in it.
-pub const LEVEL_RESERVED: usize = 1;
+pub const LEVEL_RESERVED_AT: usize = 1;
 
-pub const IO_BASE: usize = 2;
+pub const IO_BASE_AT: usize = 2;
 
-pub const IO_COUNT: usize = 4;
+pub const IO_COUNT_AT: usize = 4;
 
-pub const IO_LINES: usize = 5;
+pub const IO_LINES_AT: usize = 5;
 
-pub const IO_SHARED: usize = 6;
+pub const IO_SHARED_AT: usize = 6;
 
-pub const IO_SPARE: usize = 7;
+pub const IO_SPARE_AT: usize = 7;
 
-pub const IRQ_LEVEL: usize = 2;
+pub const IRQ_LEVEL_AT: usize = 2;
 
-pub const IRQ_MANNER: usize = 3;
+pub const IRQ_MANNER_AT: usize = 3;
 
-pub const CLIENT_ATTRIBUTES: usize = 2;
+pub const CLIENT_ATTRIBUTES_AT: usize = 2;
 
-pub const CLIENT_EVENTS: usize = 4;
+pub const CLIENT_EVENTS_AT: usize = 4;
 
-pub const CLIENT_MASKS: usize = 6;
+pub const CLIENT_MASKS_AT: usize = 6;
 
 pub const MASK_SIZE: usize = 2;
 
-pub const RANGE_COUNT: usize = 2;
+pub const RANGE_COUNT_AT: usize = 2;
 
-pub const RANGE_RESERVED: usize = 6;
+pub const RANGE_RESERVED_AT: usize = 6;

@@ -10,12 +10,12 @@ use Rattle.facts.specs.Packets.{byte}
 use Rattle.facts.specs.Resources.{addLevelChecks, removeLevelChecks, levelAdded, levelRemoved}
 use Rattle.layout.specs.Reading.{levelPlace}
 use Rattle.layout.specs.Sound.{Accepted}
-use Rattle.answers.specs.declared.Change.{Change}
+use Rattle.managed_changes.specs.declared.Change.{Change}
 use Rattle.managed_levels.specs.declared.Managing.{Managing}
 use Rattle.managed_levels.specs.declared.Managing.the-variants as managing
 use Rattle.managed_levels.specs.declared.NextLevel.{NextLevel}
 use Rattle.managed_levels.specs.declared.NextLevel.the-variants as level
-use Rattle.answers.specs.Changing.{Changes}
+use Rattle.managed_changes.specs.Changing.{Changes}
 
 -- Add and Remove
 abbrev pub AddsLevel : ℕ → ℕ → List ℕ → List ℕ → Change → Type 0

@@ -1,15 +1,15 @@
 // Managed IRQ levels, on a table that is the image of a well-formed set: added, removed, and which comes next.
-use answers::Bits;
-use answers::Change;
-use answers::LevelNumber;
-use answers::Reserve;
 use facts::Code;
-use holders::Holders;
+use irq_levels::LevelNumber;
 use layout::ALL_LEVELS;
-use layout::LEVEL_RESERVED;
+use layout::LEVEL_RESERVED_AT;
 use layout::LEVEL_SIZE;
 use layout::LEVELS_AT;
 use layout::MARKED;
+use managed_changes::Bits;
+use managed_changes::Change;
+use managed_changes::Reserve;
+use managed_holders::Holders;
 ghost use mathlib.Core.Path.{_≡_};
 ghost use Prim.Native.Nat.{_+_, _<_};
 ghost use lib.ListN.{length, set};
@@ -29,7 +29,7 @@ fn whether_managed(t: &[u8], l: usize) -> Managing
     requires { ⌜ (length (now t) ≡ tableSize) × (l < Table.allLevels) ⌝ }
     ensures { λ r. ⌜ ManagingIs (now (t .entry)) l r ⌝ }
 {
-    if reading::byte(t, LEVELS_AT + l * LEVEL_SIZE) == MARKED {
+    if table_read::byte(t, LEVELS_AT + l * LEVEL_SIZE) == MARKED {
         Managing::Managed
     } else {
         Managing::Free
@@ -43,17 +43,17 @@ fn mark(t: &mut [u8], l: usize, managed: u8, reserved: u8)
 {
     let at = LEVELS_AT + l * LEVEL_SIZE;
     t[at] = managed;
-    t[at + LEVEL_RESERVED] = reserved;
+    t[at + LEVEL_RESERVED_AT] = reserved;
 }
 
 pub fn add(t: &mut [u8], level: u32, attributes: u8) -> Change
     requires { ⌜ Accepted (now t) ⌝ }
     ensures { λ r. ⌜ AddsLevel level attributes (now (t .entry)) (now (t .exit)) r ⌝ }
 {
-    let Reserve::Mark(reserved) = answers::reserve_asked(attributes) else {
+    let Reserve::Mark(reserved) = managed_changes::reserve_asked(attributes) else {
         return Change::Refused(Code::BadAttribute);
     };
-    let LevelNumber::Below(l) = answers::below_levels(level) else {
+    let LevelNumber::Below(l) = irq_levels::below_levels(level) else {
         return Change::Refused(Code::BadIrq);
     };
     let Managing::Free = whether_managed(t, l) else {
@@ -67,16 +67,16 @@ pub fn remove(t: &mut [u8], level: u32, attributes: u8) -> Change
     requires { ⌜ Accepted (now t) ⌝ }
     ensures { λ r. ⌜ RemovesLevel level attributes (now (t .entry)) (now (t .exit)) r ⌝ }
 {
-    let Bits::Clear = answers::no_bit(attributes) else {
+    let Bits::Clear = managed_changes::no_bit(attributes) else {
         return Change::Refused(Code::BadAttribute);
     };
-    let LevelNumber::Below(l) = answers::below_levels(level) else {
+    let LevelNumber::Below(l) = irq_levels::below_levels(level) else {
         return Change::Refused(Code::BadIrq);
     };
     let Managing::Managed = whether_managed(t, l) else {
         return Change::Refused(Code::BadIrq);
     };
-    let Holders::Nobody = holders::of_level(t, l) else {
+    let Holders::Nobody = managed_holders::of_level(t, l) else {
         return Change::Refused(Code::InUse);
     };
     mark(t, l, 0, 0);

@@ -1,46 +1,30 @@
 -- Each way in which an Add or a Remove of a range ends is the rule's; what its writes leave. Assumes nothing.
-use mathlib.Core.Path.{_≡_, refl, ap, sym, _∙_, subst}
-use mathlib.Core.Logic.{_⊎_, inl, inr, _≢_}
-use mathlib.Core.List.{List, [], _∷_, _++_}
-use mathlib.Core.Bool.{Bool}
-use Prim.Native.Nat.{ℕ, _+_, _≤_, _<_}
-use native.Mathlib.Nat.{add-zero}
-use native.Mathlib.Decide.{ℕ-discrete}
-use native.Mathlib.Omega.{arith}
-use lib.ListN.{length, getD, set, length-set}
-use Rattle.facts.specs.declared.Code.{Code}
-use Rattle.facts.specs.declared.Code.the-variants.{BadAttribute, BadBase, InUse, OutOfResource}
-use Rattle.facts.specs.Table
-use Rattle.facts.specs.Table.{Facts, Range, Ports, IoGrant}
-use Rattle.facts.specs.Packets.{byte, withWord, withLong}
-use Rattle.facts.specs.Ports.{Within, Meet, Managed}
-use Rattle.facts.specs.Checks.{Check, _gives_, FirstGiven}
-use Rattle.facts.specs.Resources.{rangeChecks, rangeRemoved, withRanges, inserted, JustThat, RangeAnswered, putChecks, takeChecks}
-use Rattle.facts.proofs.Company.{meet-symmetric}
-use Rattle.layout.specs.Layout
-use Rattle.layout.specs.Layout.{image, mark, two, four}
-use Rattle.layout.specs.Reading.{rangesIn, rangePlace, rangeIn, ioIn}
-use Rattle.layout.specs.Sound.{Accepted, ManagedIn, rangeBase}
-use Rattle.layout.specs.Changed.{TakenOut, PutIn}
+use Rattle.facts.proofs.Words.{_≡_, refl, ap, sym, _∙_, subst, _⊎_, inl, inr, _≢_, List, [], _∷_, _++_, Bool, ℕ, _+_, _≤_, _<_, add-zero, ℕ-discrete}
+use Rattle.facts.proofs.Words.{arith, length, getD, set, length-set, Ports}
 use Rattle.layout.proofs.Of
-use Rattle.layout.proofs.Parts.{below-at}
-use Rattle.layout.proofs.Written.{byte-same, byte-other, word-length, word-low, word-high, word-other, long-length, long-bytes, long-other}
-use Rattle.layout.proofs.Managed.{range-put-in, range-taken-out}
-use Rattle.image.specs.Writing.{RoomMade}
-use Rattle.ports.proofs.Answering.{answers-meet, meet-answers}
-use Rattle.meeting.specs.Meeting.{MeetsSome}
-use Rattle.answers.specs.declared.Change.{Change}
-use Rattle.answers.specs.declared.Change.the-variants.{Made, Refused}
-use Rattle.answers.specs.Changing.{Changes}
-use Rattle.answers.proofs.Changing.{refused, made}
-use Rattle.managed_ranges.specs.declared.Named.the-variants as named
-use Rattle.managed_ranges.specs.declared.Found.the-variants.{Nowhere}
-use Rattle.managed_ranges.specs.Asked.{NamesPorts, NamedIs, FreeAt, FoundAt, FoundIs, Entered, TakesRange}
+use Rattle.managed_ranges.specs.declared.PortsNamed.the-variants as named
+use Rattle.facts.specs.{Code, BadAttribute, BadBase, InUse, OutOfResource, Facts, Range, IoGrant, byte, withWord, withLong, Within, Meet, Managed}
+use Rattle.facts.specs.{Check, _gives_, FirstGiven, rangeChecks, rangeRemoved, withRanges, inserted, JustThat, RangeAnswered, putChecks, takeChecks}
+use Rattle.facts.specs.{allPorts, mostLines, mostRanges}
+use Rattle.facts.proofs.{meet-symmetric}
+use Rattle.layout.specs.{image, mark, two, four, rangesIn, rangePlace, rangeIn, ioIn, Accepted, ManagedIn, rangeBase, TakenOut, PutIn, rangeCountAt}
+use Rattle.layout.specs.{rangeReservedAt, rangeSize, restAt, tableSize}
+use Rattle.layout.proofs.{below-at, byte-same, byte-other, word-length, word-low, word-high, word-other, long-length, long-bytes, long-other}
+use Rattle.layout.proofs.{range-put-in, range-taken-out}
+use Rattle.table_write.specs.{RoomMade}
+use Rattle.io_ranges.proofs.{answers-meet, meet-answers}
+use Rattle.io_meeting.specs.{MeetsSome}
+use Rattle.managed_changes.specs.declared.Change.{Change}
+use Rattle.managed_changes.specs.declared.Change.the-variants.{Made, Refused}
+use Rattle.managed_changes.specs.{Changes}
+use Rattle.managed_changes.proofs.{refused, made}
+use Rattle.managed_ranges.specs.declared.RangeFound.the-variants.{Nowhere}
+use Rattle.managed_ranges.specs.{NamesPorts, PortsNamedIs, FreeAt, FoundAt, FoundIs, Entered, TakesRange}
 
 -- the checks that Add and Remove share, around those of their own; Bits says that the bits are right
 module _ (Bits : Type 0) (base n lines : ℕ) (own : Facts → List Check) (after : Facts → Facts) (b : List ℕ) where
   abbrev Bad : Type 0
-  Bad = (Bits → ⊥) ⊎ (lines ≢ Table.mostLines)
+  Bad = (Bits → ⊥) ⊎ (lines ≢ mostLines)
 
   abbrev checks : Facts → List Check
   checks F = (Bad gives BadAttribute) ∷ rangeChecks base n (own F)
@@ -49,29 +33,29 @@ module _ (Bits : Type 0) (base n lines : ℕ) (own : Facts → List Check) (afte
     pub bits-wrong : (Bits → ⊥) → Changes checks after b b (Refused BadAttribute)
     bits-wrong x = refused checks after b a BadAttribute (inl (inl x, refl))
 
-    pub ports-wrong : Bits → (k : Code) → NamedIs base n lines (named.Wrong k) → Changes checks after b b (Refused k)
-    ports-wrong bits k w = refused checks after b a k (go w)
+    pub ports-wrong : Bits → (k : Code) → PortsNamedIs base n lines (named.Wrong k) → Changes checks after b b (Refused k)
+    ports-wrong bits k w = refused checks after b a k (in-each-case w)
       where
-        good : (lines ≢ Table.mostLines → ⊥) → Bad → ⊥
+        good : (lines ≢ mostLines → ⊥) → Bad → ⊥
         good l (inl x) = x bits
         good l (inr x) = l x
 
-        go : NamedIs base n lines (named.Wrong k) → FirstGiven (checks (a .facts)) k
-        go (inl x) = inl (inr (x .0), x .1)
-        go (inr (l, inl x)) = inr (good l, inl x)
-        go (inr (l, inr (m, inl x))) = inr (good l, inr (m, inl x))
-        go (inr (l, inr (m, inr (o, x)))) = absurd x
+        in-each-case : PortsNamedIs base n lines (named.Wrong k) → FirstGiven (checks (a .facts)) k
+        in-each-case (inl x) = inl (inr (x .0), x .1)
+        in-each-case (inr (l, inl x)) = inr (good l, inl x)
+        in-each-case (inr (l, inr (m, inl x))) = inr (good l, inr (m, inl x))
+        in-each-case (inr (l, inr (m, inr (o, x)))) = absurd x
 
   module _ (bits : Bits) (x y : ℕ) (ports : NamesPorts base n lines x y) where
     good : Bad → ⊥
     good (inl x) = x bits
     good (inr x) = x (ports .lines-are)
 
-    counted : (n ≡ 0) ⊎ (Table.allPorts < n) → ⊥
+    counted : (n ≡ 0) ⊎ (allPorts < n) → ⊥
     counted (inl e) = omega (arith, e, ports .least)
     counted (inr l) = omega (arith, ports .most)
 
-    reaches : Table.allPorts < base + n → ⊥
+    reaches : allPorts < base + n → ⊥
     reaches l = omega (arith, ports .within)
 
     pub own-change : (b′ : List ℕ) (c : Change) → Changes own after b b′ c → Changes checks after b b′ c
@@ -106,27 +90,27 @@ module _ (b : List ℕ) (a : Accepted b) (base n : ℕ) where
     unmanaged : (i : ℕ) → FreeAt b base n i → (p : ℕ) × Within p base n × Managed (a .facts) p → ⊥
     unmanaged i f x = f .free (x .0) (x .1) (Of.said-managed b a (x .0) (x .2))
 
-    pub put-full : (i : ℕ) → FreeAt b base n i → Table.mostRanges ≤ rangesIn b → Changes (putChecks base n) put b b (Refused OutOfResource)
+    pub put-full : (i : ℕ) → FreeAt b base n i → mostRanges ≤ rangesIn b → Changes (putChecks base n) put b b (Refused OutOfResource)
     put-full i f h =
         refused (putChecks base n) put b a OutOfResource (inr (unmanaged i f, inl (omega (arith, Of.ranges-in b a), refl)))
 
-    pub put-made : (b′ : List ℕ) (i m : ℕ) → FreeAt b base n i → 1 ≤ n → rangesIn b < Table.mostRanges → m ≡ mark t → Entered b b′ i base n m
+    pub put-made : (b′ : List ℕ) (i m : ℕ) → FreeAt b base n i → 1 ≤ n → rangesIn b < mostRanges → m ≡ mark t → Entered b b′ i base n m
         → Changes (putChecks base n) put b b′ Made
     put-made b′ i m f port room e entered =
         made (putChecks base n) put b a b′ (unmanaged i f, ((λ h. omega (arith, Of.ranges-in b a)), tt))
         (range-put-in b b′ a new i (f .place .within) (λ j l. omega (arith, f .place .ahead j l)) over
-        (subst (λ (x : ℕ). PutIn b b′ 2 (rangePlace i) Layout.restAt (two base ++ four n ++ x ∷ [])) e entered))
+        (subst (λ (x : ℕ). PutIn b b′ 2 (rangePlace i) restAt (two base ++ four n ++ x ∷ [])) e entered))
       where
         -- a range that starts at the base would have one of the ports
         over : (j : ℕ) → i ≤ j → j < rangesIn b → base < rangeBase b j
-        over j l h = go (ℕ-discrete base (rangeBase b j))
+        over j l h = same-or-not (ℕ-discrete base (rangeBase b j))
           where
-            go : Dec (base ≡ rangeBase b j) → base < rangeBase b j
-            go (yes q) =
+            same-or-not : Dec (base ≡ rangeBase b j) → base < rangeBase b j
+            same-or-not (yes q) =
                 absurd
                 (f .free base (record { from = omega arith; below = omega arith })
                 (j, h, record { from = omega (arith, q); below = omega (arith, q, Of.sound-in b a .ranges j h .port) }))
-            go (no d) = omega (arith, d, f .place .behind j l h)
+            same-or-not (no d) = omega (arith, d, f .place .behind j l h)
 
   -- ports taken out
   abbrev taken : Facts → Facts
@@ -151,7 +135,7 @@ module _ (b : List ℕ) (a : Accepted b) (base n : ℕ) where
 
   -- a card that is granted ports answers in the range exactly if they meet those of the range, all of whose lines count
   abbrev whole : Ports
-  whole = record { base = base; count = n; lines = Table.mostLines }
+  whole = record { base = base; count = n; lines = mostLines }
 
   met-answered : (i : ℕ) → FoundAt b base n i → MeetsSome b whole → RangeAnswered (a .facts) (rangeIn b i)
   met-answered i f (s, l, m) =
@@ -193,7 +177,7 @@ module _ (b : List ℕ) (a : Accepted b) (base n : ℕ) where
       (inr ((λ none. none (rangeIn b i) (just i f)), inl ((rangeIn b i, just i f, met-answered i f met), refl)))
 
   pub take-made : (b′ : List ℕ) (i : ℕ) → FoundAt b base n i → (MeetsSome b whole → ⊥)
-      → TakenOut b b′ 2 (rangePlace i) Layout.rangeSize Layout.restAt
+      → TakenOut b b′ 2 (rangePlace i) rangeSize restAt
       → TakesRange base n b b′ Made
   take-made b′ i f silent out =
       made (takeChecks base n) taken b a b′
@@ -201,39 +185,39 @@ module _ (b : List ℕ) (a : Accepted b) (base n : ℕ) where
       (subst (λ (x : ℕ). image (rangeRemoved (a .facts) x) ≡ b′) (f .base-is) (range-taken-out b b′ a i (f .listed) out))
 
 -- the record of a range, written where there is room for it
-module _ (b b₁ b₂ b₃ : List ℕ) (at base n reserved : ℕ) (size : length b ≡ Layout.tableSize) (high : 2 < at)
-    (low : at + Layout.rangeSize ≤ Layout.restAt) (bound : base < 65536) (bound4 : n < 4294967296)
-    (m : RoomMade b b₁ 2 at Layout.rangeSize Layout.restAt)
-    (e₂ : b₂ ≡ withWord b₁ at base) (e₃ : b₃ ≡ withLong b₂ (at + 2) n) where
-  size₂ : length b₂ ≡ Layout.tableSize
+module _ (b b₁ b₂ b₃ : List ℕ) (at base n reserved : ℕ) (size : length b ≡ tableSize) (high : 2 < at)
+    (low : at + rangeSize ≤ restAt) (bound : base < 65536) (bound4 : n < 4294967296)
+    (m : RoomMade b b₁ 2 at rangeSize restAt)
+    (e₂ : b₂ ≡ withWord b₁ at base) (e₃ : b₃ ≡ withLong b₂ (at + rangeCountAt) n) where
+  size₂ : length b₂ ≡ tableSize
   size₂ = ap length e₂ ∙ word-length b₁ at base ∙ m .size ∙ size
 
-  size₃ : length b₃ ≡ Layout.tableSize
-  size₃ = ap length e₃ ∙ long-length b₂ (at + 2) n ∙ size₂
+  size₃ : length b₃ ≡ tableSize
+  size₃ = ap length e₃ ∙ long-length b₂ (at + rangeCountAt) n ∙ size₂
 
   -- the bytes outside of the record are those of the table with room
-  outside : (p : ℕ) → (p < at) ⊎ (at + Layout.rangeSize ≤ p) → byte (set b₃ (at + 6) reserved) p ≡ byte b₁ p
+  outside : (p : ℕ) → (p < at) ⊎ (at + rangeSize ≤ p) → byte (set b₃ (at + rangeReservedAt) reserved) p ≡ byte b₁ p
   outside p (inl l) =
-      byte-other b₃ (at + 6) reserved p (λ e. omega (arith, e)) ∙ ap (λ (x : List ℕ). byte x p) e₃ ∙ long-other b₂ (at + 2) n p (inl (omega arith))
+      byte-other b₃ (at + rangeReservedAt) reserved p (λ e. omega (arith, e)) ∙ ap (λ (x : List ℕ). byte x p) e₃ ∙ long-other b₂ (at + rangeCountAt) n p (inl (omega arith))
       ∙ ap (λ (x : List ℕ). byte x p) e₂ ∙ word-other b₁ at base p (λ e. omega (arith, e)) (λ e. omega (arith, e))
   outside p (inr l) =
-      byte-other b₃ (at + 6) reserved p (λ e. omega (arith, e)) ∙ ap (λ (x : List ℕ). byte x p) e₃ ∙ long-other b₂ (at + 2) n p (inr (omega arith))
+      byte-other b₃ (at + rangeReservedAt) reserved p (λ e. omega (arith, e)) ∙ ap (λ (x : List ℕ). byte x p) e₃ ∙ long-other b₂ (at + rangeCountAt) n p (inr (omega arith))
       ∙ ap (λ (x : List ℕ). byte x p) e₂ ∙ word-other b₁ at base p (λ e. omega (arith, e)) (λ e. omega (arith, e))
 
   -- its first two bytes, and the four after them
-  front : (p : ℕ) → p < at + 2 → byte (set b₃ (at + 6) reserved) p ≡ byte (withWord b₁ at base) p
+  front : (p : ℕ) → p < at + rangeCountAt → byte (set b₃ (at + rangeReservedAt) reserved) p ≡ byte (withWord b₁ at base) p
   front p l =
-      byte-other b₃ (at + 6) reserved p (λ e. omega (arith, e)) ∙ ap (λ (x : List ℕ). byte x p) e₃ ∙ long-other b₂ (at + 2) n p (inl l)
+      byte-other b₃ (at + rangeReservedAt) reserved p (λ e. omega (arith, e)) ∙ ap (λ (x : List ℕ). byte x p) e₃ ∙ long-other b₂ (at + rangeCountAt) n p (inl l)
       ∙ ap (λ (x : List ℕ). byte x p) e₂
 
-  middle : (j : ℕ) → j < 4 → byte (set b₃ (at + 6) reserved) (at + 2 + j) ≡ getD (four n) j 0
+  middle : (j : ℕ) → j < 4 → byte (set b₃ (at + rangeReservedAt) reserved) (at + rangeCountAt + j) ≡ getD (four n) j 0
   middle j l =
-      byte-other b₃ (at + 6) reserved (at + 2 + j) (λ e. omega (arith, e)) ∙ ap (λ (x : List ℕ). byte x (at + 2 + j)) e₃
-      ∙ long-bytes b₂ (at + 2) n (omega (arith, size₂)) bound4 j l
+      byte-other b₃ (at + rangeReservedAt) reserved (at + rangeCountAt + j) (λ e. omega (arith, e)) ∙ ap (λ (x : List ℕ). byte x (at + rangeCountAt + j)) e₃
+      ∙ long-bytes b₂ (at + rangeCountAt) n (omega (arith, size₂)) bound4 j l
 
-  record-new : (j : ℕ) → j < Layout.rangeSize → byte (set b₃ (at + 6) reserved) (at + j) ≡ getD (two base ++ four n ++ reserved ∷ []) j 0
+  record-new : (j : ℕ) → j < rangeSize → byte (set b₃ (at + rangeReservedAt) reserved) (at + j) ≡ getD (two base ++ four n ++ reserved ∷ []) j 0
   record-new =
-      below-at 7 (λ j. byte (set b₃ (at + 6) reserved) (at + j) ≡ getD (two base ++ four n ++ reserved ∷ []) j 0) (
+      below-at 7 (λ j. byte (set b₃ (at + rangeReservedAt) reserved) (at + j) ≡ getD (two base ++ four n ++ reserved ∷ []) j 0) (
         (
           (
             (
@@ -254,25 +238,25 @@ module _ (b b₁ b₂ b₃ : List ℕ) (at base n reserved : ℕ) (size : length
           ),
           shifted 3 (omega arith),
         ),
-        byte-same b₃ (at + 6) reserved (omega (arith, size₃)),
+        byte-same b₃ (at + rangeReservedAt) reserved (omega (arith, size₃)),
       )
     where
-      shifted : (j : ℕ) → j < 4 → byte (set b₃ (at + 6) reserved) (at + (2 + j)) ≡ getD (four n) j 0
-      shifted j l = ap (byte (set b₃ (at + 6) reserved)) (omega arith) ∙ middle j l
+      shifted : (j : ℕ) → j < 4 → byte (set b₃ (at + rangeReservedAt) reserved) (at + (2 + j)) ≡ getD (four n) j 0
+      shifted j l = ap (byte (set b₃ (at + rangeReservedAt) reserved)) (omega arith) ∙ middle j l
 
-  pub enters-length : length (set b₃ (at + 6) reserved) ≡ length b
-  enters-length = length-set b₃ (at + 6) reserved ∙ size₃ ∙ sym size
+  pub enters-length : length (set b₃ (at + rangeReservedAt) reserved) ≡ length b
+  enters-length = length-set b₃ (at + rangeReservedAt) reserved ∙ size₃ ∙ sym size
 
-  pub enters : PutIn b (set b₃ (at + 6) reserved) 2 at Layout.restAt (two base ++ four n ++ reserved ∷ [])
+  pub enters : PutIn b (set b₃ (at + rangeReservedAt) reserved) 2 at restAt (two base ++ four n ++ reserved ∷ [])
   enters =
       record {
         size = enters-length;
         more = outside 2 (inl high) ∙ m .more;
         new = record-new;
-        moved = λ p l h. outside (p + Layout.rangeSize) (inr (omega arith)) ∙ m .moved p l h;
+        moved = λ p l h. outside (p + rangeSize) (inr (omega arith)) ∙ m .moved p l h;
         other = λ p d o. kept p d o;
       }
     where
-      kept : (p : ℕ) → p ≢ 2 → (p < at) ⊎ (Layout.restAt ≤ p) → byte (set b₃ (at + 6) reserved) p ≡ byte b p
+      kept : (p : ℕ) → p ≢ 2 → (p < at) ⊎ (restAt ≤ p) → byte (set b₃ (at + rangeReservedAt) reserved) p ≡ byte b p
       kept p d (inl l) = outside p (inl l) ∙ m .other p d (inl (omega arith))
       kept p d (inr l) = outside p (inr (omega arith)) ∙ m .other p d (inr l)

@@ -1,30 +1,21 @@
 -- Where a base belongs among the ranges; ports that are free, a range that is found, and the one that comes next. Assumes nothing.
-use mathlib.Core.Path.{_≡_, refl, ap, _∙_, subst}
-use mathlib.Core.Logic.{inl, inr}
-use mathlib.Core.List.{List}
-use Prim.Native.Nat.{ℕ, zero, suc, _+_, _-_, _≤_, _<_}
-use native.Mathlib.Decide.{decLt, decLe}
-use native.Mathlib.Omega.{arith}
-use Rattle.facts.specs.Table
-use Rattle.facts.specs.Table.{Range}
-use Rattle.facts.specs.Sets.{_∈_}
-use Rattle.facts.specs.Ports.{Within}
-use Rattle.layout.specs.Reading.{rangesIn, rangeIn}
-use Rattle.layout.specs.Sound.{Accepted, RangesSound, rangeBase, rangeCount, endBefore}
+use Rattle.facts.proofs.Words.{_≡_, refl, ap, _∙_, subst, inl, inr, List, ℕ, zero, suc, _+_, _-_, _≤_, _<_, decLt, decLe, arith}
 use Rattle.layout.proofs.Of
-use Rattle.layout.proofs.Managed.{rangeEnd, ends-before, bases-rise}
-use Rattle.managed_ranges.specs.declared.Ports.the-variants.{Free, Taken}
 use Rattle.managed_ranges.specs.declared.NextRange.the-variants as next
-use Rattle.managed_ranges.specs.Asked.{PlaceOf, StartIs, FreeIs, FoundAt, NextRangeIs}
+use Rattle.facts.specs.{Range, _∈_, Within, allPorts}
+use Rattle.layout.specs.{rangesIn, rangeIn, Accepted, RangesSound, rangeBase, rangeCount, endBefore}
+use Rattle.layout.proofs.{rangeEnd, ends-before, bases-rise}
+use Rattle.managed_ranges.specs.declared.NewPorts.the-variants.{Free, Taken}
+use Rattle.managed_ranges.specs.{PlaceOf, StartIs, FreeIs, FoundAt, NextRangeIs}
 
 module _ (b : List ℕ) (s : RangesSound b) where
   -- no later range has a lower base
   rise : (j i : ℕ) → j ≤ i → i < rangesIn b → rangeBase b j ≤ rangeBase b i
-  rise j i l h = go (decLt j i)
+  rise j i l h = below-or-not (decLt j i)
     where
-      go : Dec (j < i) → rangeBase b j ≤ rangeBase b i
-      go (yes m) = omega (arith, bases-rise b s j i m h)
-      go (no m) =
+      below-or-not : Dec (j < i) → rangeBase b j ≤ rangeBase b i
+      below-or-not (yes m) = omega (arith, bases-rise b s j i m h)
+      below-or-not (no m) =
           let e : j ≡ i = omega arith in
           subst (λ (k : ℕ). rangeBase b j ≤ rangeBase b k) e (omega arith)
 
@@ -37,11 +28,11 @@ module _ (b : List ℕ) (s : RangesSound b) where
   down-none from n e = record { within = omega (arith, e); behind = λ j l h. absurd (omega (arith, e)) }
 
   pub down-more : (from i : ℕ) → Down from i → 0 < i → from ≤ rangeBase b (i - 1) → Down from (i - 1)
-  down-more from i d l h = record { within = omega (arith, d .within); behind = λ j m n. go j n m (decLe i j) }
+  down-more from i d l h = record { within = omega (arith, d .within); behind = λ j m n. within-or-not j n m (decLe i j) }
     where
-      go : (j : ℕ) → j < rangesIn b → i - 1 ≤ j → Dec (i ≤ j) → from ≤ rangeBase b j
-      go j n m (yes x) = d .behind j x n
-      go j n m (no x) = subst (λ (k : ℕ). from ≤ rangeBase b k) (omega arith) h
+      within-or-not : (j : ℕ) → j < rangesIn b → i - 1 ≤ j → Dec (i ≤ j) → from ≤ rangeBase b j
+      within-or-not j n m (yes x) = d .behind j x n
+      within-or-not j n m (no x) = subst (λ (k : ℕ). from ≤ rangeBase b k) (omega arith) h
 
   pub down-found : (from i : ℕ) → Down from i → 0 < i → rangeBase b (i - 1) < from → PlaceOf b from i
   down-found from i d l h =
@@ -58,11 +49,11 @@ module _ (b : List ℕ) (s : RangesSound b) where
   -- new ports and the ranges next to their place
   module _ (base count i : ℕ) (place : PlaceOf b base i) where
     pub taken-before : 1 ≤ count → base < endBefore b i → FreeIs b base count Taken
-    taken-before c h = go i refl
+    taken-before c h = of-each i refl
       where
-        go : (k : ℕ) → i ≡ k → FreeIs b base count Taken
-        go zero e = absurd (omega (arith, h, ap (endBefore b) e))
-        go (suc k) e = (
+        of-each : (k : ℕ) → i ≡ k → FreeIs b base count Taken
+        of-each zero e = absurd (omega (arith, h, ap (endBefore b) e))
+        of-each (suc k) e = (
           base,
           record { from = omega arith; below = omega arith },
           (
@@ -72,7 +63,7 @@ module _ (b : List ℕ) (s : RangesSound b) where
           ),
         )
 
-    pub taken-after : (x : ℕ) → StartIs b i x → base + count ≤ Table.allPorts → x < base + count → FreeIs b base count Taken
+    pub taken-after : (x : ℕ) → StartIs b i x → base + count ≤ allPorts → x < base + count → FreeIs b base count Taken
     taken-after x (inl y) w h = (
       rangeBase b i,
       record { from = place .behind i (omega arith) (y .0); below = omega (arith, y .1) },
@@ -81,7 +72,7 @@ module _ (b : List ℕ) (s : RangesSound b) where
     taken-after x (inr y) w h = absurd (omega (arith, y .1))
 
     pub untaken : endBefore b i ≤ base → (x : ℕ) → StartIs b i x → base + count ≤ x → FreeIs b base count (Free i)
-    untaken before x after h = record { place = place; free = λ p w m. go p w (m .0) (m .1) (m .2) (decLt (m .0) i) after }
+    untaken before x after h = record { place = place; free = λ p w m. below-or-not p w (m .0) (m .1) (m .2) (decLt (m .0) i) after }
       where
         ends : (j : ℕ) → j < i → rangeEnd b j ≤ base
         ends j l = near i refl
@@ -97,20 +88,20 @@ module _ (b : List ℕ) (s : RangesSound b) where
                 next (yes m) = omega (arith, ends-before b s j k m (omega (arith, place .within, e)), last)
                 next (no m) = let q : k ≡ j = omega (arith, e) in subst (λ (x : ℕ). rangeEnd b x ≤ base) q last
 
-        go : (p : ℕ) → Within p base count → (j : ℕ) → j < rangesIn b → Within p (rangeBase b j) (rangeCount b j) → Dec (j < i) → StartIs b i x → ⊥
-        go p w j l v (yes m) y = omega (arith, w .from, v .below, ends j m)
-        go p w j l v (no m) (inl y) = omega (arith, w .below, v .from, y .1, rise i j (omega arith) l)
-        go p w j l v (no m) (inr y) = omega (arith, y .0)
+        below-or-not : (p : ℕ) → Within p base count → (j : ℕ) → j < rangesIn b → Within p (rangeBase b j) (rangeCount b j) → Dec (j < i) → StartIs b i x → ⊥
+        below-or-not p w j l v (yes m) y = omega (arith, w .from, v .below, ends j m)
+        below-or-not p w j l v (no m) (inl y) = omega (arith, w .below, v .from, y .1, rise i j (omega arith) l)
+        below-or-not p w j l v (no m) (inr y) = omega (arith, y .0)
 
   -- a range with that base is the one at its place
   pub found-there : (base count i j : ℕ) → PlaceOf b base i → FoundAt b base count j → i ≡ j
-  found-there base count i j place f = go (decLt j i) (decLt i j)
+  found-there base count i j place f = below-or-above (decLt j i) (decLt i j)
     where
-      go : Dec (j < i) → Dec (i < j) → i ≡ j
-      go (yes l) d = absurd (omega (arith, place .ahead j l, f .base-is))
-      go (no l) (yes m) =
+      below-or-above : Dec (j < i) → Dec (i < j) → i ≡ j
+      below-or-above (yes l) d = absurd (omega (arith, place .ahead j l, f .base-is))
+      below-or-above (no l) (yes m) =
           absurd (omega (arith, f .base-is, place .behind i (omega arith) (omega (arith, f .listed)), bases-rise b s i j m (f .listed)))
-      go (no l) (no m) = omega arith
+      below-or-above (no l) (no m) = omega arith
 
   pub found-listed : (base count i j : ℕ) → PlaceOf b base i → FoundAt b base count j → i < rangesIn b
   found-listed base count i j place f = omega (arith, found-there base count i j place f, f .listed)
@@ -125,11 +116,11 @@ module _ (b : List ℕ) (s : RangesSound b) where
 module _ (b : List ℕ) (from i : ℕ) (place : PlaceOf b from i) where
   -- a range whose base isn't below the number stands at or past the place
   past : (a : Accepted b) (r : Range) (j : ℕ) → j < rangesIn b → r ≡ rangeIn b j → from ≤ r .base → i ≤ j
-  past a r j l e h = go (decLt j i)
+  past a r j l e h = below-or-not (decLt j i)
     where
-      go : Dec (j < i) → i ≤ j
-      go (yes m) = absurd (omega (arith, h, place .ahead j m, ap (λ (x : Range). x .base) e ∙ Of.range-base b a j))
-      go (no m) = omega arith
+      below-or-not : Dec (j < i) → i ≤ j
+      below-or-not (yes m) = absurd (omega (arith, h, place .ahead j m, ap (λ (x : Range). x .base) e ∙ Of.range-base b a j))
+      below-or-not (no m) = omega arith
 
   pub next-none : rangesIn b ≤ i → NextRangeIs b from next.End
   next-none n a r m h = let x = Of.listed-range b a r m in omega (arith, past a r (x .0) (x .1) (x .2) h, x .1)

@@ -18,23 +18,23 @@ use Rattle.layout.specs.Layout.{mark, two, four}
 use Rattle.layout.specs.Reading.{rangesIn, rangePlace}
 use Rattle.layout.specs.Sound.{Accepted, ManagedIn, rangeBase, rangeCount}
 use Rattle.layout.specs.Changed.{PutIn}
-use Rattle.meeting.specs.Meeting.{MeetsSome}
-use Rattle.answers.specs.declared.Change.{Change}
-use Rattle.answers.specs.Changing.{Changes}
+use Rattle.io_meeting.specs.Meeting.{MeetsSome}
+use Rattle.managed_changes.specs.declared.Change.{Change}
+use Rattle.managed_changes.specs.Changing.{Changes}
 use Rattle.managed_ranges.specs.declared.Lines.{Lines}
 use Rattle.managed_ranges.specs.declared.Lines.the-variants as lines
-use Rattle.managed_ranges.specs.declared.Count.{Count}
-use Rattle.managed_ranges.specs.declared.Count.the-variants as count
+use Rattle.managed_ranges.specs.declared.PortCount.{PortCount}
+use Rattle.managed_ranges.specs.declared.PortCount.the-variants as count
 use Rattle.managed_ranges.specs.declared.Reach.{Reach}
 use Rattle.managed_ranges.specs.declared.Reach.the-variants as reach
-use Rattle.managed_ranges.specs.declared.Named.{Named}
-use Rattle.managed_ranges.specs.declared.Named.the-variants as named
-use Rattle.managed_ranges.specs.declared.Ports.{Ports}
-use Rattle.managed_ranges.specs.declared.Ports.the-variants as ports
+use Rattle.managed_ranges.specs.declared.PortsNamed.{PortsNamed}
+use Rattle.managed_ranges.specs.declared.PortsNamed.the-variants as named
+use Rattle.managed_ranges.specs.declared.NewPorts.{NewPorts}
+use Rattle.managed_ranges.specs.declared.NewPorts.the-variants as ports
 use Rattle.managed_ranges.specs.declared.Room.{Room}
 use Rattle.managed_ranges.specs.declared.Room.the-variants as room
-use Rattle.managed_ranges.specs.declared.Found.{Found}
-use Rattle.managed_ranges.specs.declared.Found.the-variants as found
+use Rattle.managed_ranges.specs.declared.RangeFound.{RangeFound}
+use Rattle.managed_ranges.specs.declared.RangeFound.the-variants as found
 use Rattle.managed_ranges.specs.declared.Cards.{Cards}
 use Rattle.managed_ranges.specs.declared.Cards.the-variants as cards
 use Rattle.managed_ranges.specs.declared.NextRange.{NextRange}
@@ -53,13 +53,13 @@ abbrev pub LinesAre : ℕ → Lines → Type 0
 LinesAre n lines.All = n ≡ Table.mostLines
 LinesAre n lines.Other = n ≢ Table.mostLines
 
-abbrev pub CountIs : ℕ → Count → Type 0
+abbrev pub CountIs : ℕ → PortCount → Type 0
 CountIs n count.Right = (1 ≤ n) × (n ≤ Table.allPorts)
 CountIs n count.Wrong = (n ≡ 0) ⊎ (Table.allPorts < n)
 
-abbrev pub ReachIs : ℕ → ℕ → Reach → Type 0
-ReachIs base n reach.Within = base + n ≤ Table.allPorts
-ReachIs base n reach.Past = Table.allPorts < base + n
+abbrev pub PortsReach : ℕ → ℕ → Reach → Type 0
+PortsReach base n reach.Within = base + n ≤ Table.allPorts
+PortsReach base n reach.Past = Table.allPorts < base + n
 
 -- the ports that are named, with lines, a count and a reach that are right; or the first of these that is wrong
 pub record NamesPorts (base count lines x y : ℕ) : Type 0 where
@@ -70,9 +70,9 @@ pub record NamesPorts (base count lines x y : ℕ) : Type 0 where
   pub most : count ≤ Table.allPorts
   pub within : base + count ≤ Table.allPorts
 
-abbrev pub NamedIs : ℕ → ℕ → ℕ → Named → Type 0
-NamedIs base n lines (named.Ports x y) = NamesPorts base n lines x y
-NamedIs base n lines (named.Wrong k) = FirstGiven (((lines ≢ Table.mostLines) gives BadAttribute) ∷ rangeChecks base n []) k
+abbrev pub PortsNamedIs : ℕ → ℕ → ℕ → PortsNamed → Type 0
+PortsNamedIs base n lines (named.Ports x y) = NamesPorts base n lines x y
+PortsNamedIs base n lines (named.Wrong k) = FirstGiven (((lines ≢ Table.mostLines) gives BadAttribute) ∷ rangeChecks base n []) k
 
 -- Add's and Remove's own checks of the ports, and what they leave
 abbrev pub PutsRange : ℕ → ℕ → ℕ → List ℕ → List ℕ → Change → Type 0
@@ -98,7 +98,7 @@ pub record FreeAt (b : List ℕ) (base count i : ℕ) : Type 0 where
   pub place : PlaceOf b base i
   pub free : (p : ℕ) → Within p base count → ManagedIn b p → ⊥
 
-abbrev pub FreeIs : List ℕ → ℕ → ℕ → Ports → Type 0
+abbrev pub FreeIs : List ℕ → ℕ → ℕ → NewPorts → Type 0
 FreeIs b base n (ports.Free i) = FreeAt b base n i
 FreeIs b base n ports.Taken = (p : ℕ) × Within p base n × ManagedIn b p
 
@@ -116,7 +116,7 @@ pub record FoundAt (b : List ℕ) (base count i : ℕ) : Type 0 where
   pub base-is : rangeBase b i ≡ base
   pub count-is : rangeCount b i ≡ count
 
-abbrev pub FoundIs : List ℕ → ℕ → ℕ → Found → Type 0
+abbrev pub FoundIs : List ℕ → ℕ → ℕ → RangeFound → Type 0
 FoundIs b base n (found.At i) = FoundAt b base n i
 FoundIs b base n found.Nowhere = (i : ℕ) → FoundAt b base n i → ⊥
 

@@ -1,33 +1,14 @@
 -- The laws that specs/Laws states hold. Assumes nothing.
-use mathlib.Core.Path.{_≡_, refl, ap, ap₂, sym, _∙_, subst}
-use mathlib.Core.Logic.{inl, inr, ⊎-elim, _≢_}
-use mathlib.Core.List.{List}
-use mathlib.Core.Bool.{Bool}
-use Prim.Native.Nat.{ℕ, _*_, _≤_}
-use native.Mathlib.Omega.{arith}
-use lib.ListN.{length}
-use Rattle.facts.specs.declared.Code.{Code}
-use Rattle.facts.specs.declared.Code.the-variants.{Success}
-use Rattle.facts.specs.Codes.{numberOf}
-use Rattle.facts.specs.Table.{Facts, fresh}
-use Rattle.facts.specs.WellFormed.{WellFormed}
-use Rattle.facts.specs.Checks.{Outcome}
-use Rattle.facts.specs.Irq.{Count, Sharers}
-use Rattle.facts.specs.Sockets.{CardOutcome, CardTo}
-use Rattle.facts.specs.Boot.{Booted, BootBytes, stopped, recordSize, recordsIn, recordsOf, endOf, recordsAdded}
-use Rattle.facts.specs.Services.{Call}
-use Rattle.facts.specs.Laws.{Coincide}
-use Rattle.facts.proofs.Codes.{code-byte}
-use Rattle.facts.proofs.Laws.{service-laws, host-laws, bytes-laws}
-use Rattle.layout.specs.Layout.{image}
-use Rattle.layout.specs.Sound.{Accepted}
-use Rattle.layout.specs.Served.{Served, TableRefused}
-use Rattle.layout.proofs.Accepts.{one-set}
-use Rattle.answers.specs.Answers.{packed}
-use Rattle.boot.specs.Booting.{placed}
-use Rattle.promises.specs.Entries.{CallPermitted, CardPermitted, SharersPermitted, BootPermitted, CallAnswers, CardAnswers}
-use Rattle.promises.specs.Entries.{SharersAnswers, FreshAnswers, BootAnswers}
-use Rattle.promises.specs.Laws.{Laws, TakenApart, CallLaws, CardLaws, SharersLaws, FreshLaws, BootLaws}
+use Rattle.facts.proofs.Words.{_≡_, refl, ap, ap₂, sym, _∙_, subst, inl, inr, ⊎-elim, _≢_, List, Bool, ℕ, _*_, _≤_, arith, length, WellFormed}
+use Rattle.facts.specs.{Code, Success, numberOf, Facts, fresh, Outcome, Count, Sharers, CardOutcome, CardTo, Booted, BootBytes, stopped, recordSize}
+use Rattle.facts.specs.{recordsIn, recordsOf, endOf, recordsAdded, Call, Coincide, packed, placed}
+use Rattle.facts.proofs.{code-byte, service-laws, host-laws, bytes-laws}
+use Rattle.layout.specs.{image, Accepted, TableRefused}
+use Rattle.layout.specs.Served.{Served}
+use Rattle.layout.proofs.{one-set}
+use Rattle.promises.specs.{CallPermitted, CardPermitted, SharersPermitted, BootPermitted, CallAnswers, CardAnswers, SharersAnswers}
+use Rattle.promises.specs.{FreshAnswers, BootAnswers, TakenApart, CallLaws, CardLaws, SharersLaws, FreshLaws, BootLaws}
+use Rattle.promises.specs.Laws.{Laws}
 
 -- a code is below 65536, so what is packed with it can be taken apart
 taken-apart : (r : ℕ) (k : Code) (n : ℕ) → r ≡ packed k n → TakenApart r k n
@@ -66,21 +47,21 @@ module _ (service handle : ℕ) (b p : List ℕ) where
 
   call-one : (b₁ b₂ p₁ p₂ : List ℕ) (r₁ r₂ : ℕ) → CallAnswers service handle b b₁ p p₁ r₁ → CallAnswers service handle b b₂ p p₂ r₂
       → (r₁ ≡ r₂) × (p₁ ≡ p₂) × (b₁ ≡ b₂)
-  call-one b₁ b₂ p₁ p₂ r₁ r₂ x y = go (x .permitted) (y .permitted)
+  call-one b₁ b₂ p₁ p₂ r₁ r₂ x y = in-each-case (x .permitted) (y .permitted)
     where
       answer : Code → ℕ → List ℕ → Facts → Outcome
       answer k h q G = record { code = k; handle = h; packet = q; facts = G }
 
-      go : CallPermitted service handle b b₁ p p₁ (x .code) (x .answered) → CallPermitted service handle b b₂ p p₂ (y .code) (y .answered)
+      in-each-case : CallPermitted service handle b b₁ p p₁ (x .code) (x .answered) → CallPermitted service handle b b₂ p p₂ (y .code) (y .answered)
           → (r₁ ≡ r₂) × (p₁ ≡ p₂) × (b₁ ≡ b₂)
-      go (inl s) (inl t) =
+      in-each-case (inl s) (inl t) =
           let e =
           one-served (λ (o : Outcome). o .facts) Calls calls-one b b₁ b₂ (answer (x .code) (x .answered) p₁) (answer (y .code) (y .answered) p₂)
           (λ G. refl) (λ G. refl) s t in
           (x .packs ∙ ap (λ (o : Outcome). packed (o .code) (o .handle)) (e .0) ∙ sym (y .packs), ap (λ (o : Outcome). o .packet) (e .0), e .1)
-      go (inl s) (inr u) = absurd (u .0 .unformed (s .accepted))
-      go (inr u) (inl t) = absurd (u .0 .unformed (t .accepted))
-      go (inr u) (inr v) =
+      in-each-case (inl s) (inr u) = absurd (u .0 .unformed (s .accepted))
+      in-each-case (inr u) (inl t) = absurd (u .0 .unformed (t .accepted))
+      in-each-case (inr u) (inr v) =
           let e = one-unformed (u .0) (v .0) in
           (x .packs ∙ ap₂ packed (e .0) (u .1 ∙ sym (v .1)) ∙ sym (y .packs), u .2 ∙ sym (v .2), e .1)
 
@@ -113,20 +94,20 @@ module _ (service handle : ℕ) (b p : List ℕ) where
 -- cs_card_in and cs_card_out
 module _ (present : Bool) (socket : ℕ) (b : List ℕ) where
   card-one : (b₁ b₂ : List ℕ) (r₁ r₂ : ℕ) → CardAnswers present socket b b₁ r₁ → CardAnswers present socket b b₂ r₂ → (r₁ ≡ r₂) × (b₁ ≡ b₂)
-  card-one b₁ b₂ r₁ r₂ x y = go (x .permitted) (y .permitted)
+  card-one b₁ b₂ r₁ r₂ x y = in-each-case (x .permitted) (y .permitted)
     where
       answer : Code → Facts → CardOutcome
       answer k G = record { code = k; facts = G }
 
-      go : CardPermitted present socket b b₁ (x .code) → CardPermitted present socket b b₂ (y .code) → (r₁ ≡ r₂) × (b₁ ≡ b₂)
-      go (inl s) (inl t) =
+      in-each-case : CardPermitted present socket b b₁ (x .code) → CardPermitted present socket b b₂ (y .code) → (r₁ ≡ r₂) × (b₁ ≡ b₂)
+      in-each-case (inl s) (inl t) =
           let e =
           one-served (λ (o : CardOutcome). o .facts) (λ (F : Facts). CardTo present F socket) (λ F w. host-laws .one-card present F socket) b b₁ b₂
           (answer (x .code)) (answer (y .code)) (λ G. refl) (λ G. refl) s t in
           (x .is ∙ ap (λ (o : CardOutcome). numberOf (o .code)) (e .0) ∙ sym (y .is), e .1)
-      go (inl s) (inr u) = absurd (u .unformed (s .accepted))
-      go (inr u) (inl t) = absurd (u .unformed (t .accepted))
-      go (inr u) (inr v) = let e = one-unformed u v in (x .is ∙ ap numberOf (e .0) ∙ sym (y .is), e .1)
+      in-each-case (inl s) (inr u) = absurd (u .unformed (s .accepted))
+      in-each-case (inr u) (inl t) = absurd (u .unformed (t .accepted))
+      in-each-case (inr u) (inr v) = let e = one-unformed u v in (x .is ∙ ap numberOf (e .0) ∙ sym (y .is), e .1)
 
   card-laws : CardLaws present socket b
   card-laws =
@@ -148,19 +129,19 @@ module _ (present : Bool) (socket : ℕ) (b : List ℕ) where
 -- cs_sharers
 module _ (level : ℕ) (b : List ℕ) where
   sharers-one : (r₁ r₂ : ℕ) → SharersAnswers level b r₁ → SharersAnswers level b r₂ → r₁ ≡ r₂
-  sharers-one r₁ r₂ x y = go (x .permitted) (y .permitted)
+  sharers-one r₁ r₂ x y = in-each-case (x .permitted) (y .permitted)
     where
       answer : Code → ℕ → Count
       answer k n = record { code = k; count = n }
 
-      go : SharersPermitted level b (x .code) (x .count) → SharersPermitted level b (y .code) (y .count) → r₁ ≡ r₂
-      go (inl s) (inl t) =
+      in-each-case : SharersPermitted level b (x .code) (x .count) → SharersPermitted level b (y .code) (y .count) → r₁ ≡ r₂
+      in-each-case (inl s) (inl t) =
           let e = host-laws .one-count (s .0 .facts) level (answer (x .code) (x .count)) (answer (y .code) (y .count)) (s .1)
           (subst (λ (F : Facts). Sharers F level (answer (y .code) (y .count))) (facts-one (t .0) (s .0)) (t .1)) in
           x .packs ∙ ap (λ (o : Count). packed (o .code) (o .count)) e ∙ sym (y .packs)
-      go (inl s) (inr u) = absurd (u .0 .unformed (s .0))
-      go (inr u) (inl t) = absurd (u .0 .unformed (t .0))
-      go (inr u) (inr v) = x .packs ∙ ap₂ packed (one-unformed (u .0) (v .0) .0) (u .1 ∙ sym (v .1)) ∙ sym (y .packs)
+      in-each-case (inl s) (inr u) = absurd (u .0 .unformed (s .0))
+      in-each-case (inr u) (inl t) = absurd (u .0 .unformed (t .0))
+      in-each-case (inr u) (inr v) = x .packs ∙ ap₂ packed (one-unformed (u .0) (v .0) .0) (u .1 ∙ sym (v .1)) ∙ sym (y .packs)
 
   sharers-laws : SharersLaws level b
   sharers-laws =
@@ -196,18 +177,18 @@ module _ (sockets : ℕ) (b : List ℕ) where
 -- cs_boot
 module _ (records b : List ℕ) where
   boot-one : (b₁ b₂ : List ℕ) (r₁ r₂ : ℕ) → BootAnswers records b b₁ r₁ → BootAnswers records b b₂ r₂ → (r₁ ≡ r₂) × (b₁ ≡ b₂)
-  boot-one b₁ b₂ r₁ r₂ x y = go (x .permitted) (y .permitted)
+  boot-one b₁ b₂ r₁ r₂ x y = in-each-case (x .permitted) (y .permitted)
     where
-      go : BootPermitted records b b₁ (x .code) (x .place) → BootPermitted records b b₂ (y .code) (y .place) → (r₁ ≡ r₂) × (b₁ ≡ b₂)
-      go (inl s) (inl t) =
+      in-each-case : BootPermitted records b b₁ (x .code) (x .place) → BootPermitted records b b₂ (y .code) (y .place) → (r₁ ≡ r₂) × (b₁ ≡ b₂)
+      in-each-case (inl s) (inl t) =
           let e =
           one-served (λ (o : Booted). o .facts) (λ (F : Facts). BootBytes F records)
           (λ F w. host-laws .one-boot (endOf records) F (recordsOf records)) b b₁ b₂
           (stopped (x .place) (x .code)) (stopped (y .place) (y .code)) (λ G. refl) (λ G. refl) s t in
           (x .packs ∙ ap (λ (o : Booted). placed (o .code) (o .place)) (e .0) ∙ sym (y .packs), e .1)
-      go (inl s) (inr u) = absurd (u .0 .unformed (s .accepted))
-      go (inr u) (inl t) = absurd (u .0 .unformed (t .accepted))
-      go (inr u) (inr v) =
+      in-each-case (inl s) (inr u) = absurd (u .0 .unformed (s .accepted))
+      in-each-case (inr u) (inl t) = absurd (u .0 .unformed (t .accepted))
+      in-each-case (inr u) (inr v) =
           let e = one-unformed (u .0) (v .0) in
           (x .packs ∙ ap₂ placed (e .0) (u .1 ∙ sym (v .1)) ∙ sym (y .packs), e .1)
 

@@ -1,2 +1,3 @@
 -- The laws of the entries' promises. Assumes nothing.
 pub mod Laws
+pub use Laws.{laws}

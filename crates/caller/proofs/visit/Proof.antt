@@ -1,9 +1,7 @@
 -- `caller::visit` meets its contract: six calls, one after the other, are a run. Assumes nothing.
-use borrow.Author.Needs.{needs}
-use denote.Ref.{now}
-use Rattle.caller.specs.Visits.{Plan, planned}
-use Rattle.caller.proofs.Visits.{refused, visited}
-use Rattle.caller.proofs.visit.Statement.{statement}
+use Rattle.facts.proofs.Words.{needs, now}
+use Rattle.caller.specs.{Plan, planned}
+use Rattle.caller.proofs.{refused, visited}
 use Rattle.caller.proofs.visit.Tie as tie
 
 -- the calls, from the last back to the first, and where the visit began
@@ -65,18 +63,8 @@ returns-2 c =
     visited (plan (start m)) _ _ _ _ _ _ _ (m .fresh .result) _ (t .before .before .if1 .left) (m .fresh .ensures) (t .boot .ensures) (i .card-in .ensures)
     (l .call .ensures) (h .sharers .ensures) (r .card-out .ensures)
 
-pub visit-spec : {M : Type 1} → statement M
+pub visit-spec : {M : Type 1} → Rattle.caller.proofs.visit.Statement.statement M
 visit-spec =
     tie.close
-    (tie.spec
-    (λ c κs. search needs)
-    (λ c. search needs)
-    returns
-    (λ c κs. search needs)
-    (λ c κs. search needs)
-    (λ c κs. search needs)
-    (λ c κs. search needs)
-    (λ c κs. search needs)
-    (λ c. search needs)
-    (λ c. search needs)
-    returns-2)
+    (tie.spec (λ c κs. search needs) (λ c. search needs) returns (λ c κs. search needs) (λ c κs. search needs) (λ c κs. search needs)
+    (λ c κs. search needs) (λ c κs. search needs) (λ c. search needs) (λ c. search needs) returns-2)

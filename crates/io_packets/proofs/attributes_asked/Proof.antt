@@ -1,28 +1,14 @@
 -- `io_packets::attributes_asked` meets its contract: one of the four clauses holds, or none.
 -- Assumes nothing.
-use mathlib.Core.Path.{sym, _∙_}
-use mathlib.Core.Logic.{inl, inr}
-use native.Mathlib.Omega.{arith}
-use denote.Ref.{now}
-use Rattle.io_packets.proofs.Clauses.{attributes-good}
-use borrow.Author.Needs.{needs}
-use Rattle.io_packets.proofs.attributes_asked.Statement.{statement}
+use Rattle.facts.proofs.Words.{sym, _∙_, inl, inr, arith, now, needs}
+use Rattle.io_packets.proofs.{attributes-good}
 use Rattle.io_packets.proofs.attributes_asked.Tie as tie
-
-byte-requires : tie.Need-byte-requires
-byte-requires c κs = search needs
 
 returns : tie.Need-returns
 returns c = inl (omega (arith, c .before .byte .ensures .0, c .if1 .taken))
 
-first-alone-requires : tie.Need-first-alone-requires
-first-alone-requires c κs = search needs
-
 returns-2 : tie.Need-returns-2
 returns-2 c = inr (inl (c .before .first-alone .ensures .holds (c .if2 .taken)))
-
-lines-asked-requires : tie.Need-lines-asked-requires
-lines-asked-requires c κs = search needs
 
 returns-3 : tie.Need-returns-3
 returns-3 c = inr (inr (inl (sym (c .before .lines-asked .ensures .0) ∙ c .if3 .taken)))
@@ -39,15 +25,7 @@ returns-5 c =
     (first .before .first-alone .ensures .fails (first .if2 .left)) (λ e. c .before .if3 .left (read .lines-asked .ensures .0 ∙ e))
     (λ l. omega (arith, read .lines-asked .ensures .0, c .if4 .left))
 
-pub attributes-asked-spec : {M : Type 1} → statement M
+pub attributes-asked-spec : {M : Type 1} → Rattle.io_packets.proofs.attributes_asked.Statement.statement M
 attributes-asked-spec =
     tie.close
-    (tie.spec
-    byte-requires
-    returns
-    first-alone-requires
-    returns-2
-    lines-asked-requires
-    returns-3
-    returns-4
-    returns-5)
+    (tie.spec (λ c κs. search needs) returns (λ c κs. search needs) returns-2 (λ c κs. search needs) returns-3 returns-4 returns-5)

@@ -1,15 +1,9 @@
 -- `io_packets::sizes_asked` meets its contract: one of the three clauses holds, or none.
 -- Assumes nothing.
-use mathlib.Core.Path.{_≡_, sym, _∙_, ap, subst}
-use mathlib.Core.Logic.{inl, inr}
-use Prim.Native.Nat.{ℕ, _^_}
-use native.Mathlib.Omega.{arith}
-use denote.Ref.{now}
-use Rattle.facts.specs.Io.{linesAsked}
-use Rattle.io_packets.specs.Asking.{SecondIs}
-use Rattle.io_packets.proofs.Clauses.{sizes-good}
-use borrow.Author.Needs.{needs}
-use Rattle.io_packets.proofs.sizes_asked.Statement.{statement}
+use Rattle.facts.proofs.Words.{_≡_, sym, _∙_, ap, subst, inl, inr, ℕ, _^_, arith, now, needs}
+use Rattle.facts.specs.{linesAsked}
+use Rattle.io_packets.specs.{SecondIs}
+use Rattle.io_packets.proofs.{sizes-good}
 use Rattle.io_packets.proofs.sizes_asked.Tie as tie
 
 -- where the call began
@@ -23,29 +17,11 @@ start c = counted c .before .before
 power-is : (c : tie.After-power) → c .power .result ≡ 2 ^ linesAsked (now (start c .args .p))
 power-is c = c .power .ensures ∙ ap (λ (k : ℕ). 2 ^ k) (c .before .lines-asked .ensures .0)
 
-count-asked-requires : tie.Need-count-asked-requires
-count-asked-requires c κs = search needs
-
 returns : tie.Need-returns
 returns c = inl (sym (c .before .count-asked .ensures .0) ∙ c .if1 .taken)
 
-lines-asked-requires : tie.Need-lines-asked-requires
-lines-asked-requires c κs = search needs
-
-power-requires : tie.Need-power-requires
-power-requires c κs = search needs
-
 returns-2 : tie.Need-returns-2
 returns-2 c = inr (inl (omega (arith, power-is (c .before), counted (c .before) .count-asked .ensures .0, c .if2 .taken)))
-
-second-asked-requires : tie.Need-second-asked-requires
-second-asked-requires c κs = search needs
-
-enum-told : tie.Need-enum-told
-enum-told c = search needs
-
-enum-told-2 : tie.Need-enum-told-2
-enum-told-2 c = search needs
 
 returns-3 : tie.Need-returns-3
 returns-3 c =
@@ -62,17 +38,8 @@ returns-4 c =
     (λ l. omega (arith, power-is (many .before), none .before .count-asked .ensures .0, many .if2 .left))
     (subst (SecondIs p) (c .enum-told .given .1) (asked .second-asked .ensures))
 
-pub sizes-asked-spec : {M : Type 1} → statement M
+pub sizes-asked-spec : {M : Type 1} → Rattle.io_packets.proofs.sizes_asked.Statement.statement M
 sizes-asked-spec =
     tie.close
-    (tie.spec
-    count-asked-requires
-    returns
-    lines-asked-requires
-    power-requires
-    returns-2
-    second-asked-requires
-    enum-told
-    enum-told-2
-    returns-3
-    returns-4)
+    (tie.spec (λ c κs. search needs) returns (λ c κs. search needs) (λ c κs. search needs) returns-2 (λ c κs. search needs) (λ c. search needs)
+    (λ c. search needs) returns-3 returns-4)

@@ -1,23 +1,13 @@
 -- `irq_packets::attribute_set` meets its contract: a bit of the attributes.
 -- Assumes nothing.
-use mathlib.Core.Path.{_≡_, subst}
-use Prim.Native.Nat.{ℕ}
-use Rattle.facts.specs.Says.{Says}
-use Rattle.facts.specs.Packets.{bit}
-use borrow.Author.Needs.{needs}
-use Rattle.irq_packets.proofs.attribute_set.Statement.{statement}
+use Rattle.facts.proofs.Words.{_≡_, subst, ℕ, needs, Says}
+use Rattle.facts.specs.{bit}
 use Rattle.irq_packets.proofs.attribute_set.Tie as tie
-
-word-requires : tie.Need-word-requires
-word-requires c κs = search needs
-
-is-set-requires : tie.Need-is-set-requires
-is-set-requires c κs = search needs
 
 returns : tie.Need-returns
 returns c =
     subst (λ (n : ℕ). Says (c .is-set .result) (bit n (c .before .before .before .args .place) ≡ 1)) (c .before .word .ensures .0)
     (c .is-set .ensures)
 
-pub attribute-set-spec : {M : Type 1} → statement M
-attribute-set-spec = tie.close (tie.spec word-requires is-set-requires returns)
+pub attribute-set-spec : {M : Type 1} → Rattle.irq_packets.proofs.attribute_set.Statement.statement M
+attribute-set-spec = tie.close (tie.spec (λ c κs. search needs) (λ c κs. search needs) returns)

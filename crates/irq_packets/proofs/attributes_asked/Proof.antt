@@ -1,46 +1,24 @@
 -- `irq_packets::attributes_asked` meets its contract: one of the five clauses holds, or none.
 -- Assumes nothing.
-use mathlib.Core.Path.{sym, _∙_}
-use mathlib.Core.Logic.{inl, inr}
-use native.Mathlib.Omega.{arith}
-use mathlib.Core.List.{List}
-use Prim.Native.Nat.{ℕ}
-use denote.Ref.{now}
-use Rattle.irq_packets.proofs.Clauses.{attributes-good}
-use borrow.Author.Needs.{needs}
-use Rattle.irq_packets.proofs.attributes_asked.Statement.{statement}
+use Rattle.facts.proofs.Words.{sym, _∙_, inl, inr, arith, List, ℕ, now, needs}
+use Rattle.irq_packets.proofs.{attributes-good}
 use Rattle.irq_packets.proofs.attributes_asked.Tie as tie
 
 -- the packet
 abbrev packet : tie.After-type-asked → List ℕ
 packet c = now (c .before .before .args .p)
 
-type-asked-requires : tie.Need-type-asked-requires
-type-asked-requires c κs = search needs
-
 returns : tie.Need-returns
 returns c = inl (sym (c .before .type-asked .ensures) ∙ c .if1 .taken)
-
-word-requires : tie.Need-word-requires
-word-requires c κs = search needs
 
 returns-2 : tie.Need-returns-2
 returns-2 c = inr (inl (omega (arith, c .before .word .ensures .0, c .if2 .taken)))
 
-first-exclusive-requires : tie.Need-first-exclusive-requires
-first-exclusive-requires c κs = search needs
-
 returns-3 : tie.Need-returns-3
 returns-3 c = inr (inr (inl (c .before .first-exclusive .ensures .holds (c .if3 .taken))))
 
-forced-unable-requires : tie.Need-forced-unable-requires
-forced-unable-requires c κs = search needs
-
 returns-4 : tie.Need-returns-4
 returns-4 c = inr (inr (inr (inl (c .before .forced-unable .ensures .holds (c .if4 .taken)))))
-
-dynamic-unable-requires : tie.Need-dynamic-unable-requires
-dynamic-unable-requires c κs = search needs
 
 returns-5 : tie.Need-returns-5
 returns-5 c = inr (inr (inr (inr (c .before .dynamic-unable .ensures .holds (c .if5 .taken)))))
@@ -55,18 +33,8 @@ returns-6 c =
     (first .before .first-exclusive .ensures .fails (first .if3 .left)) (forced .before .forced-unable .ensures .fails (forced .if4 .left))
     (c .before .dynamic-unable .ensures .fails (c .if5 .left))
 
-pub attributes-asked-spec : {M : Type 1} → statement M
+pub attributes-asked-spec : {M : Type 1} → Rattle.irq_packets.proofs.attributes_asked.Statement.statement M
 attributes-asked-spec =
     tie.close
-    (tie.spec
-    type-asked-requires
-    returns
-    word-requires
-    returns-2
-    first-exclusive-requires
-    returns-3
-    forced-unable-requires
-    returns-4
-    dynamic-unable-requires
-    returns-5
-    returns-6)
+    (tie.spec (λ c κs. search needs) returns (λ c κs. search needs) returns-2 (λ c κs. search needs) returns-3 (λ c κs. search needs) returns-4
+    (λ c κs. search needs) returns-5 returns-6)

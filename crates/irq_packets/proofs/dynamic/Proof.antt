@@ -1,13 +1,8 @@
 -- `irq_packets::dynamic` meets its contract: each answer is the rule's.
 -- Assumes nothing.
-use mathlib.Core.List.{List}
-use Prim.Native.Nat.{ℕ}
-use denote.Ref.{now}
-use Rattle.facts.specs.Packets.{bit}
-use Rattle.facts.specs.Irq.{attributesOf, info1}
-use Rattle.irq_packets.proofs.Manners.{forced, with-level, without-level}
-use borrow.Author.Needs.{needs}
-use Rattle.irq_packets.proofs.dynamic.Statement.{statement}
+use Rattle.facts.proofs.Words.{List, ℕ, now, needs}
+use Rattle.facts.specs.{bit, attributesOf, info1}
+use Rattle.irq_packets.proofs.{forced, with-level, without-level}
 use Rattle.irq_packets.proofs.dynamic.Tie as tie
 
 -- the packet's two bits
@@ -20,14 +15,8 @@ force c = bit (attributesOf (packet c)) 2
 abbrev level : tie.After-attribute-set → ℕ
 level c = bit (info1 (packet c)) 5
 
-attribute-set-requires : tie.Need-attribute-set-requires
-attribute-set-requires c κs = search needs
-
 returns : tie.Need-returns
 returns c = let b = c .before in forced (force b) (level b) (b .attribute-set .ensures .holds (c .if1 .taken))
-
-info-set-requires : tie.Need-info-set-requires
-info-set-requires c κs = search needs
 
 returns-2 : tie.Need-returns-2
 returns-2 c =
@@ -41,6 +30,6 @@ returns-3 c =
     let b = one .before in
     without-level (force b) (level b) (b .attribute-set .ensures .fails (one .if1 .left)) (c .before .info-set .ensures .fails (c .if2 .left))
 
-pub dynamic-spec : {M : Type 1} → statement M
+pub dynamic-spec : {M : Type 1} → Rattle.irq_packets.proofs.dynamic.Statement.statement M
 dynamic-spec =
-    tie.close (tie.spec attribute-set-requires returns info-set-requires returns-2 returns-3)
+    tie.close (tie.spec (λ c κs. search needs) returns (λ c κs. search needs) returns-2 returns-3)

@@ -1,32 +1,18 @@
 -- `irq_packets::info_asked` meets its contract: one of the three clauses holds, or none.
 -- Assumes nothing.
-use mathlib.Core.Logic.{inl, inr}
-use mathlib.Core.List.{List}
-use Prim.Native.Nat.{ℕ}
-use denote.Ref.{now}
-use Rattle.irq_packets.proofs.Clauses.{info-good}
-use borrow.Author.Needs.{needs}
-use Rattle.irq_packets.proofs.info_asked.Statement.{statement}
+use Rattle.facts.proofs.Words.{inl, inr, List, ℕ, now, needs}
+use Rattle.irq_packets.proofs.{info-good}
 use Rattle.irq_packets.proofs.info_asked.Tie as tie
 
 -- the packet
 abbrev packet : tie.After-neither → List ℕ
 packet c = now (c .before .before .args .p)
 
-neither-requires : tie.Need-neither-requires
-neither-requires c κs = search needs
-
 returns : tie.Need-returns
 returns c = inl (c .before .neither .ensures .holds (c .if1 .taken))
 
-mask-and-level-requires : tie.Need-mask-and-level-requires
-mask-and-level-requires c κs = search needs
-
 returns-2 : tie.Need-returns-2
 returns-2 c = inr (inl (c .before .mask-and-level .ensures .holds (c .if2 .taken)))
-
-mask-of-none-requires : tie.Need-mask-of-none-requires
-mask-of-none-requires c κs = search needs
 
 returns-3 : tie.Need-returns-3
 returns-3 c = inr (inr (c .before .mask-of-none .ensures .holds (c .if3 .taken)))
@@ -38,14 +24,7 @@ returns-4 c =
     info-good (packet (neither .before)) (neither .before .neither .ensures .fails (neither .if1 .left)) (level .before .mask-and-level .ensures .fails (level .if2 .left))
     (c .before .mask-of-none .ensures .fails (c .if3 .left))
 
-pub info-asked-spec : {M : Type 1} → statement M
+pub info-asked-spec : {M : Type 1} → Rattle.irq_packets.proofs.info_asked.Statement.statement M
 info-asked-spec =
     tie.close
-    (tie.spec
-    neither-requires
-    returns
-    mask-and-level-requires
-    returns-2
-    mask-of-none-requires
-    returns-3
-    returns-4)
+    (tie.spec (λ c κs. search needs) returns (λ c κs. search needs) returns-2 (λ c κs. search needs) returns-3 returns-4)

@@ -1,14 +1,9 @@
 -- `keeper::cs_boot` meets its contract: the table is not well formed, or the list's rule rules.
 -- Assumes nothing.
-use mathlib.Core.Path.{subst}
-use mathlib.Core.List.{List}
-use Prim.Native.Nat.{ℕ}
-use borrow.Author.Needs.{needs}
-use denote.Ref.{now}
-use Rattle.layout.specs.Sound.{Accepted}
-use Rattle.scan.specs.Loading.{LoadedIs}
-use Rattle.keeper.proofs.Ends.{boot-unformed, boots, low-place}
-use Rattle.keeper.proofs.cs_boot.Statement.{statement}
+use Rattle.facts.proofs.Words.{subst, List, ℕ, needs, now}
+use Rattle.layout.specs.{Accepted}
+use Rattle.table_test.specs.{LoadedIs}
+use Rattle.keeper.proofs.{boot-unformed, boots, low-place}
 use Rattle.keeper.proofs.cs_boot.Tie as tie
 
 -- where the call began, its table and its list
@@ -39,28 +34,10 @@ told c = c .before .before
 abbrev loaded : tie.After-boot → tie.After-load
 loaded c = told c .before .before
 
-load-requires : tie.Need-load-requires
-load-requires c κs = search needs
-
-enum-told : tie.Need-enum-told
-enum-told c = search needs
-
-enum-told-2 : tie.Need-enum-told-2
-enum-told-2 c = search needs
-
-pack-requires : tie.Need-pack-requires
-pack-requires c κs = search needs
-
-same-length : tie.Need-same-length
-same-length c = search needs
-
 returns : tie.Need-returns
 returns c =
     let k = c .before .before .before in
     boot-unformed (table k) (unformed (c .before)) (list k) (c .pack .result) (c .pack .ensures)
-
-boot-requires : tie.Need-boot-requires
-boot-requires c κs = formed (c .before)
 
 pack-requires-2 : tie.Need-pack-requires-2
 pack-requires-2 c κs =
@@ -68,26 +45,14 @@ pack-requires-2 c κs =
     let k = loaded walked in
     low-place (list k) (table k) (walked .boot .last .0) (walked .boot .result) (walked .boot .ensures)
 
-same-length-2 : tie.Need-same-length-2
-same-length-2 c = search needs
-
 returns-2 : tie.Need-returns-2
 returns-2 c =
     let walked = c .before .before .before in
     let k = loaded walked in
     boots (list k) (table k) (walked .boot .last .0) (walked .boot .result) (c .pack2 .result) (walked .boot .ensures) (c .pack2 .ensures)
 
-pub cs-boot-spec : {M : Type 1} → statement M
+pub cs-boot-spec : {M : Type 1} → Rattle.keeper.proofs.cs_boot.Statement.statement M
 cs-boot-spec =
     tie.close
-    (tie.spec
-    load-requires
-    enum-told
-    enum-told-2
-    pack-requires
-    same-length
-    returns
-    boot-requires
-    pack-requires-2
-    same-length-2
-    returns-2)
+    (tie.spec (λ c κs. search needs) (λ c. search needs) (λ c. search needs) (λ c κs. search needs) (λ c. search needs) returns
+    (λ c κs. formed (c .before)) pack-requires-2 (λ c. search needs) returns-2)

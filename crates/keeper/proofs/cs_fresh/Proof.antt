@@ -1,20 +1,12 @@
 -- `keeper::cs_fresh` meets its contract: the buffer and the count are allowed, or not.
 -- Assumes nothing.
-use mathlib.Core.Path.{_≡_, refl, ap, subst, _∙_}
-use mathlib.Core.Logic.{inl, inr, ⊎-elim}
-use mathlib.Core.List.{List}
-use Prim.Native.Nat.{ℕ}
-use native.Mathlib.Omega.{arith}
-use borrow.Author.Needs.{needs}
-use lib.ListN.{length}
-use denote.Ref.{now}
-use Rattle.facts.specs.Table.{fresh}
-use Rattle.layout.specs.Layout.{image, tableSize}
-use Rattle.answers.specs.Answers.{SizeIs}
-use Rattle.sockets.specs.declared.SocketCount.the-variants.{Allowed}
-use Rattle.sockets.specs.Counts.{SocketsAre}
-use Rattle.promises.specs.Entries.{FreshAllowed}
-use Rattle.keeper.proofs.cs_fresh.Statement.{statement}
+use Rattle.facts.proofs.Words.{_≡_, refl, ap, subst, _∙_, inl, inr, ⊎-elim, List, ℕ, arith, needs, length, now}
+use Rattle.facts.specs.{fresh}
+use Rattle.layout.specs.{image, tableSize}
+use Rattle.service_checks.specs.{SizeIs}
+use Rattle.socket_cards.specs.declared.SocketCount.the-variants.{Allowed}
+use Rattle.socket_cards.specs.{SocketsAre}
+use Rattle.promises.specs.{FreshAllowed}
 use Rattle.keeper.proofs.cs_fresh.Tie as tie
 
 -- where the call began, and its table
@@ -41,21 +33,6 @@ count c = subst (SocketsAre (start (checked (counted c)) .args .sockets)) (c .be
 allowed : (c : tie.After-known-told) → FreshAllowed (start (checked (counted c)) .args .sockets) (table (checked (counted c)))
 allowed c = record { size = right (counted c .before); least = count c .1; most = count c .2 }
 
-sized-requires : tie.Need-sized-requires
-sized-requires c κs = search needs
-
-enum-told : tie.Need-enum-told
-enum-told c = search needs
-
-enum-told-2 : tie.Need-enum-told-2
-enum-told-2 c = search needs
-
-unformed-requires : tie.Need-unformed-requires
-unformed-requires c κs = search needs
-
-same-length : tie.Need-same-length
-same-length c = search needs
-
 returns : tie.Need-returns
 returns c =
     let sized = c .before .before .before in
@@ -65,35 +42,11 @@ returns c =
       refl,
     )
 
-socket-count-requires : tie.Need-socket-count-requires
-socket-count-requires c κs = search needs
-
-enum-known-n : tie.Need-enum-known-n
-enum-known-n c = search needs
-
-enum-told-3 : tie.Need-enum-told-3
-enum-told-3 c = search needs
-
-unformed-requires-2 : tie.Need-unformed-requires-2
-unformed-requires-2 c κs = search needs
-
-same-length-2 : tie.Need-same-length-2
-same-length-2 c = search needs
-
 returns-2 : tie.Need-returns-2
 returns-2 c =
     let counted = c .before .before .before in
     let outside = subst (SocketsAre (start (checked counted) .args .sockets)) (c .before .enum-told3 .given .1) (counted .socket-count .ensures) in
     inr ((λ f. ⊎-elim (λ z. omega (arith, f .least)) (λ l. omega (arith, f .most)) outside), c .unformed2 .ensures, refl)
-
-make-fresh-requires : tie.Need-make-fresh-requires
-make-fresh-requires c κs = right (counted (c .before) .before)
-
-number-requires : tie.Need-number-requires
-number-requires c κs = search needs
-
-same-length-3 : tie.Need-same-length-3
-same-length-3 c = search needs
 
 returns-3 : tie.Need-returns-3
 returns-3 c =
@@ -101,23 +54,9 @@ returns-3 c =
     let told = made .before .before in
     inl (allowed told, c .number .ensures, made .make-fresh .ensures ∙ ap (λ (n : ℕ). image (fresh n)) (count told .0))
 
-pub cs-fresh-spec : {M : Type 1} → statement M
+pub cs-fresh-spec : {M : Type 1} → Rattle.keeper.proofs.cs_fresh.Statement.statement M
 cs-fresh-spec =
     tie.close
-    (tie.spec
-    sized-requires
-    enum-told
-    enum-told-2
-    unformed-requires
-    same-length
-    returns
-    socket-count-requires
-    enum-known-n
-    enum-told-3
-    unformed-requires-2
-    same-length-2
-    returns-2
-    make-fresh-requires
-    number-requires
-    same-length-3
-    returns-3)
+    (tie.spec (λ c κs. search needs) (λ c. search needs) (λ c. search needs) (λ c κs. search needs) (λ c. search needs) returns
+    (λ c κs. search needs) (λ c. search needs) (λ c. search needs) (λ c κs. search needs) (λ c. search needs) returns-2
+    (λ c κs. right (counted (c .before) .before)) (λ c κs. search needs) (λ c. search needs) returns-3)

@@ -1,24 +1,15 @@
 -- `managed_levels::add` meets its contract: each check's answer says which end of the rule it is.
 -- Assumes nothing.
-use mathlib.Core.Path.{_≡_, subst}
-use mathlib.Core.List.{List}
-use mathlib.Core.Logic.{_≢_}
-use Prim.Native.Nat.{ℕ, _+_, _<_}
-use native.Mathlib.Omega.{arith}
-use borrow.Author.Needs.{needs}
-use lib.ListN.{set}
-use denote.Ref.{now}
-use Rattle.facts.specs.Table
-use Rattle.facts.specs.Packets.{byte}
-use Rattle.layout.specs.Reading.{levelPlace}
-use Rattle.layout.proofs.Of.{size-in}
-use Rattle.answers.specs.declared.LevelNumber.the-variants.{Below}
-use Rattle.answers.specs.Answers.{LevelIs}
-use Rattle.answers.specs.declared.Reserve.the-variants.{Mark}
-use Rattle.answers.specs.Answers.{ReserveIs}
-use Rattle.managed_levels.specs.Asked.{ManagingIs}
-use Rattle.managed_levels.proofs.Ends.{add-bits, add-over, add-managed, add-made}
-use Rattle.managed_levels.proofs.add.Statement.{statement}
+use Rattle.facts.proofs.Words.{_≡_, subst, List, _≢_, ℕ, _+_, _<_, arith, needs, set, now}
+use Rattle.facts.specs.{byte, allLevels}
+use Rattle.layout.specs.{levelPlace, levelReservedAt}
+use Rattle.layout.proofs.{size-in}
+use Rattle.irq_levels.specs.declared.LevelNumber.the-variants.{Below}
+use Rattle.irq_levels.specs.{LevelIs}
+use Rattle.managed_changes.specs.declared.Reserve.the-variants.{Mark}
+use Rattle.managed_changes.specs.{ReserveIs}
+use Rattle.managed_levels.specs.{ManagingIs}
+use Rattle.managed_levels.proofs.{add-bits, add-over, add-managed, add-made}
 use Rattle.managed_levels.proofs.add.Tie as tie
 
 -- where the call began, and its table
@@ -51,7 +42,7 @@ level c = c .before .l .given .0 .0
 is-level : (c : tie.After-known-told2) → LevelIs (start (began c) .args .level) (Below (level c))
 is-level c = subst (LevelIs (start (began c) .args .level)) (c .before .l .given .1) (numbered c .below-levels .ensures)
 
-low : (c : tie.After-known-told2) → level c < Table.allLevels
+low : (c : tie.After-known-told2) → level c < allLevels
 low c = omega (arith, is-level c .0, is-level c .1)
 
 -- it is not managed
@@ -63,30 +54,12 @@ free c =
     let k = looked (c .before .before) in
     subst (ManagingIs (table (began k)) (level k)) (c .enum-told3 .given .1) (c .before .before .whether-managed .ensures)
 
-reserve-asked-requires : tie.Need-reserve-asked-requires
-reserve-asked-requires c κs = search needs
-
-enum-known-reserved : tie.Need-enum-known-reserved
-enum-known-reserved c = search needs
-
-enum-told : tie.Need-enum-told
-enum-told c = search needs
-
 returns : tie.Need-returns
 returns c =
     let asks = c .before .before in
     let s = start asks in
     add-bits (table asks) (s .pre) (s .args .level) (s .args .attributes)
     (subst (ReserveIs (s .args .attributes)) (c .enum-told .given .1) (asks .reserve-asked .ensures))
-
-below-levels-requires : tie.Need-below-levels-requires
-below-levels-requires c κs = search needs
-
-enum-known-l : tie.Need-enum-known-l
-enum-known-l c = search needs
-
-enum-told-2 : tie.Need-enum-told-2
-enum-told-2 c = search needs
 
 returns-2 : tie.Need-returns-2
 returns-2 c =
@@ -97,15 +70,6 @@ returns-2 c =
 
 whether-managed-requires : tie.Need-whether-managed-requires
 whether-managed-requires c κs = let k = c .before in (size-in (table (began k)) (start (began k) .pre), low k)
-
-enum-told-3 : tie.Need-enum-told-3
-enum-told-3 c = search needs
-
-enum-told-4 : tie.Need-enum-told-4
-enum-told-4 c = search needs
-
-same-length : tie.Need-same-length
-same-length c = search needs
 
 returns-3 : tie.Need-returns-3
 returns-3 c =
@@ -118,9 +82,6 @@ returns-3 c =
 mark-requires : tie.Need-mark-requires
 mark-requires c κs = let k = looked (c .before .before .before) in (size-in (table (began k)) (start (began k) .pre), low k)
 
-same-length-2 : tie.Need-same-length-2
-same-length-2 c = search needs
-
 returns-4 : tie.Need-returns-4
 returns-4 c =
     let marked = c .before .before in
@@ -131,25 +92,11 @@ returns-4 c =
     let m = told k .before .reserved .given .0 .0 in
     add-made b (s .pre) (s .args .level) (s .args .attributes) (marked .mark .last .0) m (bits (told k) .0) (bits (told k) .1) (is-level k .1)
     (subst (λ (l : ℕ). byte b (levelPlace l) ≢ 1) (is-level k .0) (free told-free))
-    (subst (λ (l : ℕ). marked .mark .last .0 ≡ set (set b (levelPlace l) 1) (levelPlace l + 1) m) (is-level k .0) (marked .mark .ensures))
+    (subst (λ (l : ℕ). marked .mark .last .0 ≡ set (set b (levelPlace l) 1) (levelPlace l + levelReservedAt) m) (is-level k .0) (marked .mark .ensures))
 
-pub add-spec : {M : Type 1} → statement M
+pub add-spec : {M : Type 1} → Rattle.managed_levels.proofs.add.Statement.statement M
 add-spec =
     tie.close
-    (tie.spec
-    reserve-asked-requires
-    enum-known-reserved
-    enum-told
-    returns
-    below-levels-requires
-    enum-known-l
-    enum-told-2
-    returns-2
-    whether-managed-requires
-    enum-told-3
-    enum-told-4
-    same-length
-    returns-3
-    mark-requires
-    same-length-2
+    (tie.spec (λ c κs. search needs) (λ c. search needs) (λ c. search needs) returns (λ c κs. search needs) (λ c. search needs) (λ c. search needs)
+    returns-2 whether-managed-requires (λ c. search needs) (λ c. search needs) (λ c. search needs) returns-3 mark-requires (λ c. search needs)
     returns-4)

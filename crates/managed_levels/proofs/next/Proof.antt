@@ -1,22 +1,17 @@
 -- `managed_levels::next` meets its contract. The invariant: from the number up to `l` no level is managed.
 -- Assumes nothing.
-use mathlib.Core.Path.{subst}
-use Prim.Native.Nat.{_≤_, _-_}
-use native.Mathlib.Omega.{arith}
-use borrow.Author.Needs.{needs}
-use denote.Ref.{now}
-use Rattle.facts.specs.Table
-use Rattle.layout.proofs.Of.{size-in}
-use Rattle.managed_levels.specs.Asked.{ManagingIs}
-use Rattle.managed_levels.proofs.Ends.{NoneFrom, none-more, next-found, next-none}
-use Rattle.managed_levels.proofs.next.Statement.{statement}
+use Rattle.facts.proofs.Words.{subst, _≤_, _-_, arith, needs, now}
+use Rattle.facts.specs.{allLevels}
+use Rattle.layout.proofs.{size-in}
+use Rattle.managed_levels.specs.{ManagingIs}
+use Rattle.managed_levels.proofs.{NoneFrom, none-more, next-found, next-none}
 use Rattle.managed_levels.proofs.next.Tie as tie
 
 abbrev Inv-loop : tie.InvT-loop
 Inv-loop t from l₀ l = (from ≤ l) × NoneFrom t from l
 
 abbrev μ-loop : tie.MeasureT-loop
-μ-loop t from l₀ l = Table.allLevels - l
+μ-loop t from l₀ l = allLevels - l
 
 -- a turn of the loop, where the level is looked at
 abbrev turn : tie.After-whether-managed Inv-loop μ-loop → tie.At-loop Inv-loop μ-loop
@@ -25,14 +20,8 @@ turn c = c .before .before
 abbrev start : tie.At-loop Inv-loop μ-loop → tie.Start Inv-loop μ-loop
 start c = c .before .before
 
-loop-holds : tie.Need-loop-holds Inv-loop μ-loop
-loop-holds c = (omega arith, λ k h m low e. omega arith)
-
 whether-managed-requires : tie.Need-whether-managed-requires Inv-loop μ-loop
 whether-managed-requires c κs = let at = c .before in (size-in (now (start at .args .t)) (start at .pre), omega arith)
-
-enum-told : tie.Need-enum-told Inv-loop μ-loop
-enum-told c = search needs
 
 returns : tie.Need-returns Inv-loop μ-loop
 returns c =
@@ -41,15 +30,6 @@ returns c =
     next-found b (start at .args .from) (at .loop .l) (at .loop .inv .1) (at .loop .inv .0)
     (omega (arith, c .before .before .before .loop-test .taken))
     (subst (ManagingIs b (at .loop .l)) (c .enum-told .given .1) (c .before .before .whether-managed .ensures))
-
-enum-told-2 : tie.Need-enum-told-2 Inv-loop μ-loop
-enum-told-2 c = search needs
-
-add-l : tie.Need-add-l Inv-loop μ-loop
-add-l c = omega arith
-
-loop-less : tie.Need-loop-less Inv-loop μ-loop
-loop-less c = omega arith
 
 loop-again : tie.Need-loop-again Inv-loop μ-loop
 loop-again c =
@@ -65,18 +45,8 @@ returns-2 c =
     let at = c .before in
     next-none (now (start at .args .t)) (start at .args .from) (at .loop .l) (at .loop .inv .1) (omega (arith, c .loop-test .left))
 
-pub next-spec : {M : Type 1} → statement M
+pub next-spec : {M : Type 1} → Rattle.managed_levels.proofs.next.Statement.statement M
 next-spec =
     tie.close
-    (tie.spec
-    Inv-loop
-    μ-loop
-    loop-holds
-    whether-managed-requires
-    enum-told
-    returns
-    enum-told-2
-    add-l
-    loop-less
-    loop-again
-    returns-2)
+    (tie.spec Inv-loop μ-loop (λ c. (omega arith, λ k h m low e. omega arith)) whether-managed-requires (λ c. search needs) returns
+    (λ c. search needs) (λ c. omega arith) (λ c. omega arith) loop-again returns-2)

@@ -1,24 +1,15 @@
 -- `managed_levels::remove` meets its contract: each check's answer says which end of the rule it is.
 -- Assumes nothing.
-use mathlib.Core.Path.{_≡_, subst}
-use mathlib.Core.List.{List}
-use Prim.Native.Nat.{ℕ, _+_, _<_}
-use native.Mathlib.Omega.{arith}
-use borrow.Author.Needs.{needs}
-use lib.ListN.{set}
-use denote.Ref.{now}
-use Rattle.facts.specs.Table
-use Rattle.facts.specs.Packets.{byte}
-use Rattle.facts.specs.Resources.{LevelHeld}
-use Rattle.layout.specs.Reading.{levelPlace}
-use Rattle.layout.proofs.Of.{size-in}
-use Rattle.answers.specs.declared.LevelNumber.the-variants.{Below}
-use Rattle.answers.specs.Answers.{LevelIs}
-use Rattle.holders.specs.Holders.{LevelHoldersAre}
-use Rattle.answers.specs.Answers.{BitsAre}
-use Rattle.managed_levels.specs.Asked.{ManagingIs}
-use Rattle.managed_levels.proofs.Ends.{remove-bits, remove-over, remove-unmanaged, remove-held, remove-made}
-use Rattle.managed_levels.proofs.remove.Statement.{statement}
+use Rattle.facts.proofs.Words.{_≡_, subst, List, ℕ, _+_, _<_, arith, needs, set, now}
+use Rattle.facts.specs.{byte, LevelHeld, allLevels}
+use Rattle.layout.specs.{levelPlace, levelReservedAt}
+use Rattle.layout.proofs.{size-in}
+use Rattle.irq_levels.specs.declared.LevelNumber.the-variants.{Below}
+use Rattle.irq_levels.specs.{LevelIs}
+use Rattle.managed_holders.specs.{LevelHoldersAre}
+use Rattle.managed_changes.specs.{BitsAre}
+use Rattle.managed_levels.specs.{ManagingIs}
+use Rattle.managed_levels.proofs.{remove-bits, remove-over, remove-unmanaged, remove-held, remove-made}
 use Rattle.managed_levels.proofs.remove.Tie as tie
 
 -- where the call began, and its table
@@ -48,7 +39,7 @@ level c = c .before .l .given .0 .0
 is-level : (c : tie.After-known-told) → LevelIs (start (began c) .args .level) (Below (level c))
 is-level c = subst (LevelIs (start (began c) .args .level)) (c .before .l .given .1) (numbered c .below-levels .ensures)
 
-low : (c : tie.After-known-told) → level c < Table.allLevels
+low : (c : tie.After-known-told) → level c < allLevels
 low c = omega (arith, is-level c .0, is-level c .1)
 
 -- it is managed
@@ -74,30 +65,12 @@ nobody c =
     subst (λ (l : ℕ). LevelHeld (start (began k) .pre .facts) l → ⊥) (is-level k .0)
     (subst (LevelHoldersAre (table (began k)) (level k)) (c .enum-told6 .given .1) (c .before .before .of-level .ensures) (start (began k) .pre))
 
-no-bit-requires : tie.Need-no-bit-requires
-no-bit-requires c κs = search needs
-
-enum-told : tie.Need-enum-told
-enum-told c = search needs
-
-enum-told-2 : tie.Need-enum-told-2
-enum-told-2 c = search needs
-
 returns : tie.Need-returns
 returns c =
     let asked = c .before .before in
     let s = start asked in
     remove-bits (table asked) (s .pre) (s .args .level) (s .args .attributes)
     (subst (BitsAre (s .args .attributes)) (c .enum-told2 .given .1) (asked .no-bit .ensures))
-
-below-levels-requires : tie.Need-below-levels-requires
-below-levels-requires c κs = search needs
-
-enum-known-l : tie.Need-enum-known-l
-enum-known-l c = search needs
-
-enum-told-3 : tie.Need-enum-told-3
-enum-told-3 c = search needs
 
 returns-2 : tie.Need-returns-2
 returns-2 c =
@@ -109,15 +82,6 @@ returns-2 c =
 whether-managed-requires : tie.Need-whether-managed-requires
 whether-managed-requires c κs = let k = c .before in (size-in (table (began k)) (start (began k) .pre), low k)
 
-enum-told-4 : tie.Need-enum-told-4
-enum-told-4 c = search needs
-
-enum-told-5 : tie.Need-enum-told-5
-enum-told-5 c = search needs
-
-same-length : tie.Need-same-length
-same-length c = search needs
-
 returns-3 : tie.Need-returns-3
 returns-3 c =
     let k = looked (c .before .before) in
@@ -126,18 +90,6 @@ returns-3 c =
     remove-unmanaged b (s .pre) (s .args .level) (s .args .attributes) (none (clear k)) (is-level k .1)
     (subst (λ (l : ℕ). byte b (levelPlace l) ≡ 1 → ⊥) (is-level k .0)
     (subst (ManagingIs b (level k)) (c .enum-told5 .given .1) (c .before .before .whether-managed .ensures)))
-
-of-level-requires : tie.Need-of-level-requires
-of-level-requires c κs = search needs
-
-enum-told-6 : tie.Need-enum-told-6
-enum-told-6 c = search needs
-
-enum-told-7 : tie.Need-enum-told-7
-enum-told-7 c = search needs
-
-same-length-2 : tie.Need-same-length-2
-same-length-2 c = search needs
 
 returns-4 : tie.Need-returns-4
 returns-4 c =
@@ -150,9 +102,6 @@ returns-4 c =
 mark-requires : tie.Need-mark-requires
 mark-requires c κs = let k = place (c .before .before .before) in (size-in (table (began k)) (start (began k) .pre), low k)
 
-same-length-3 : tie.Need-same-length-3
-same-length-3 c = search needs
-
 returns-5 : tie.Need-returns-5
 returns-5 c =
     let marked = c .before .before in
@@ -162,30 +111,11 @@ returns-5 c =
     let b = table (began k) in
     remove-made b (s .pre) (s .args .level) (s .args .attributes) (marked .mark .last .0) (none (clear k)) (is-level k .1)
     (managed (sought (free .before .before))) (nobody free)
-    (subst (λ (l : ℕ). marked .mark .last .0 ≡ set (set b (levelPlace l) 0) (levelPlace l + 1) 0) (is-level k .0) (marked .mark .ensures))
+    (subst (λ (l : ℕ). marked .mark .last .0 ≡ set (set b (levelPlace l) 0) (levelPlace l + levelReservedAt) 0) (is-level k .0) (marked .mark .ensures))
 
-pub remove-spec : {M : Type 1} → statement M
+pub remove-spec : {M : Type 1} → Rattle.managed_levels.proofs.remove.Statement.statement M
 remove-spec =
     tie.close
-    (tie.spec
-    no-bit-requires
-    enum-told
-    enum-told-2
-    returns
-    below-levels-requires
-    enum-known-l
-    enum-told-3
-    returns-2
-    whether-managed-requires
-    enum-told-4
-    enum-told-5
-    same-length
-    returns-3
-    of-level-requires
-    enum-told-6
-    enum-told-7
-    same-length-2
-    returns-4
-    mark-requires
-    same-length-3
-    returns-5)
+    (tie.spec (λ c κs. search needs) (λ c. search needs) (λ c. search needs) returns (λ c κs. search needs) (λ c. search needs) (λ c. search needs)
+    returns-2 whether-managed-requires (λ c. search needs) (λ c. search needs) (λ c. search needs) returns-3 (λ c κs. search needs)
+    (λ c. search needs) (λ c. search needs) (λ c. search needs) returns-4 mark-requires (λ c. search needs) returns-5)

@@ -1,20 +1,11 @@
 -- `managed_ranges::add` meets its contract: the bits, or the ports that are named, are wrong, or the ports are put in.
 -- Assumes nothing.
-use mathlib.Core.Path.{subst, subst₂}
-use mathlib.Core.List.{List}
-use Prim.Native.Nat.{ℕ}
-use native.Mathlib.Omega.{arith}
-use borrow.Author.Needs.{needs}
-use lib.Dec.{eqb}
-use denote.Ref.{now}
-use Rattle.facts.specs.declared.Asked.{Asked}
-use Rattle.facts.specs.Table.{Facts}
-use Rattle.facts.specs.Resources.{AddBits, reserveBit, rangeAdded, putChecks}
-use Rattle.answers.specs.declared.Reserve.the-variants.{Mark}
-use Rattle.answers.specs.Answers.{ReserveIs}
-use Rattle.managed_ranges.specs.Asked.{NamesPorts, NamedIs, PutsRange}
-use Rattle.managed_ranges.proofs.Ends.{bits-wrong, ports-wrong, own-change}
-use Rattle.managed_ranges.proofs.add.Statement.{statement}
+use Rattle.facts.proofs.Words.{subst, subst₂, List, ℕ, arith, needs, eqb, now}
+use Rattle.facts.specs.{RangeAsked, Facts, AddBits, reserveBit, rangeAdded, putChecks}
+use Rattle.managed_changes.specs.declared.Reserve.the-variants.{Mark}
+use Rattle.managed_changes.specs.{ReserveIs}
+use Rattle.managed_ranges.specs.{NamesPorts, PortsNamedIs, PutsRange}
+use Rattle.managed_ranges.proofs.{bits-wrong, ports-wrong, own-change}
 use Rattle.managed_ranges.proofs.add.Tie as tie
 
 -- where the call began, its table, and what it asks for
@@ -24,7 +15,7 @@ start c = c .before .before
 abbrev table : tie.After-reserve-asked → List ℕ
 table c = now (start c .args .t)
 
-abbrev asked : tie.After-reserve-asked → Asked
+abbrev asked : tie.After-reserve-asked → RangeAsked
 asked c = start c .args .r
 
 -- the bits are an Add's
@@ -50,16 +41,7 @@ count c = c .before .ports .given .0 .1 .0
 ports : (c : tie.After-known-told2) → let r = asked (first (marked c)) in NamesPorts (r .base) (r .count) (r .lines) (base c) (count c)
 ports c =
     let r = asked (first (marked c)) in
-    subst (NamedIs (r .base) (r .count) (r .lines)) (c .before .ports .given .1) (named c .ports-named .ensures)
-
-reserve-asked-requires : tie.Need-reserve-asked-requires
-reserve-asked-requires c κs = search needs
-
-enum-known-reserved : tie.Need-enum-known-reserved
-enum-known-reserved c = search needs
-
-enum-told : tie.Need-enum-told
-enum-told c = search needs
+    subst (PortsNamedIs (r .base) (r .count) (r .lines)) (c .before .ports .given .1) (named c .ports-named .ensures)
 
 returns : tie.Need-returns
 returns c =
@@ -69,23 +51,11 @@ returns c =
     (λ (F : Facts). rangeAdded F (r .base) (r .count) (r .attributes)) (table k) (start k .pre)
     (subst (ReserveIs (r .attributes)) (c .enum-told .given .1) (k .reserve-asked .ensures))
 
-ports-named-requires : tie.Need-ports-named-requires
-ports-named-requires c κs = search needs
-
-enum-known-ports : tie.Need-enum-known-ports
-enum-known-ports c = search needs
-
 put-requires : tie.Need-put-requires
 put-requires c κs =
     let told = c .before in
     let is = ports told in
     (start (first (marked told)) .pre, omega (arith, is .least, is .count-is), omega (arith, is .within, is .base-is, is .count-is))
-
-enum-known-ports-2 : tie.Need-enum-known-ports-2
-enum-known-ports-2 c = search needs
-
-same-length : tie.Need-same-length
-same-length c = search needs
 
 returns-2 : tie.Need-returns-2
 returns-2 c =
@@ -110,20 +80,10 @@ returns-3 c =
     let r = asked k in
     ports-wrong (AddBits (r .attributes)) (r .base) (r .count) (r .lines) (putChecks (r .base) (r .count))
     (λ (F : Facts). rangeAdded F (r .base) (r .count) (r .attributes)) (table k) (start k .pre) (bits told .0) (c .before .ports2 .given .0 .0)
-    (subst (NamedIs (r .base) (r .count) (r .lines)) (c .before .ports2 .given .1) (read .ports-named .ensures))
+    (subst (PortsNamedIs (r .base) (r .count) (r .lines)) (c .before .ports2 .given .1) (read .ports-named .ensures))
 
-pub add-spec : {M : Type 1} → statement M
+pub add-spec : {M : Type 1} → Rattle.managed_ranges.proofs.add.Statement.statement M
 add-spec =
     tie.close
-    (tie.spec
-    reserve-asked-requires
-    enum-known-reserved
-    enum-told
-    returns
-    ports-named-requires
-    enum-known-ports
-    put-requires
-    enum-known-ports-2
-    same-length
-    returns-2
-    returns-3)
+    (tie.spec (λ c κs. search needs) (λ c. search needs) (λ c. search needs) returns (λ c κs. search needs) (λ c. search needs) put-requires
+    (λ c. search needs) (λ c. search needs) returns-2 returns-3)

@@ -1,11 +1,8 @@
 -- `managed_ranges::enter` meets its contract: room is made, and the record is written into it, field by field.
 -- Assumes nothing.
-use native.Mathlib.Omega.{arith}
-use borrow.Author.Needs.{needs}
-use denote.Ref.{now}
-use Rattle.layout.specs.Reading.{rangePlace}
-use Rattle.managed_ranges.proofs.Ends.{enters, enters-length}
-use Rattle.managed_ranges.proofs.enter.Statement.{statement}
+use Rattle.facts.proofs.Words.{arith, needs, now}
+use Rattle.layout.specs.{rangePlace}
+use Rattle.managed_ranges.proofs.{enters, enters-length}
 use Rattle.managed_ranges.proofs.enter.Tie as tie
 
 -- each step, and where the bytes were lent for it
@@ -28,30 +25,6 @@ module _ (c : tie.After-slice-known4) where
   abbrev start : tie.Start
   start = first .before .before .before
 
-mul-at : tie.Need-mul-at
-mul-at c = search needs
-
-add-at : tie.Need-add-at
-add-at c = search needs
-
-make-room-requires : tie.Need-make-room-requires
-make-room-requires c κs = search needs
-
-put-word-requires : tie.Need-put-word-requires
-put-word-requires c κs = search needs
-
-add-put-long : tie.Need-add-put-long
-add-put-long c = search needs
-
-put-long-requires : tie.Need-put-long-requires
-put-long-requires c κs = search needs
-
-add-t : tie.Need-add-t
-add-t c = search needs
-
-slice-write-t : tie.Need-slice-write-t
-slice-write-t c = search needs
-
 same-length : tie.Need-same-length
 same-length c =
     let s = start c in
@@ -68,17 +41,8 @@ returns c =
     (a .count) (a .reserved) (s .pre .0 .0) (omega arith) (omega (arith, s .pre .0 .1, s .pre .0 .2)) (s .pre .1 .0) (s .pre .1 .1)
     (first c .make-room .ensures) (second c .put-word .ensures) (third c .put-long .ensures)
 
-pub enter-spec : {M : Type 1} → statement M
+pub enter-spec : {M : Type 1} → Rattle.managed_ranges.proofs.enter.Statement.statement M
 enter-spec =
     tie.close
-    (tie.spec
-    mul-at
-    add-at
-    make-room-requires
-    put-word-requires
-    add-put-long
-    put-long-requires
-    add-t
-    slice-write-t
-    same-length
-    returns)
+    (tie.spec (λ c. search needs) (λ c. search needs) (λ c κs. search needs) (λ c κs. search needs) (λ c. search needs) (λ c κs. search needs)
+    (λ c. search needs) (λ c. search needs) same-length returns)

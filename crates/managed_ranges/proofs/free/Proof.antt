@@ -1,12 +1,7 @@
 -- `managed_ranges::free` meets its contract: the range before the place, the one after it, or neither has one of the ports.
 -- Assumes nothing.
-use mathlib.Core.List.{List}
-use Prim.Native.Nat.{ℕ}
-use native.Mathlib.Omega.{arith}
-use borrow.Author.Needs.{needs}
-use denote.Ref.{now}
-use Rattle.managed_ranges.proofs.Places.{taken-before, taken-after, untaken}
-use Rattle.managed_ranges.proofs.free.Statement.{statement}
+use Rattle.facts.proofs.Words.{List, ℕ, arith, needs, now}
+use Rattle.managed_ranges.proofs.{taken-before, taken-after, untaken}
 use Rattle.managed_ranges.proofs.free.Tie as tie
 
 -- where the call began
@@ -20,24 +15,12 @@ table c = now (begun c .args .t)
 abbrev tested : tie.Else1 → tie.After-place
 tested c = c .before .before
 
-place-requires : tie.Need-place-requires
-place-requires c κs = search needs
-
-end-before-requires : tie.Need-end-before-requires
-end-before-requires c κs = search needs
-
 returns : tie.Need-returns
 returns c =
     let placed = c .before .before in
     let s = begun placed in
     taken-before (table placed) (s .pre .0 .2) (s .args .base) (s .args .count) (placed .place .result) (placed .place .ensures) (s .pre .1 .0)
     (omega (arith, c .if1 .taken, c .before .end-before .ensures))
-
-start-requires : tie.Need-start-requires
-start-requires c κs = search needs
-
-add-if2 : tie.Need-add-if2
-add-if2 c = search needs
 
 returns-2 : tie.Need-returns-2
 returns-2 c =
@@ -56,14 +39,7 @@ returns-3 c =
     (omega (arith, left .if1 .left, left .before .end-before .ensures)) (c .before .start .result) (c .before .start .ensures)
     (omega (arith, c .if2 .left))
 
-pub free-spec : {M : Type 1} → statement M
+pub free-spec : {M : Type 1} → Rattle.managed_ranges.proofs.free.Statement.statement M
 free-spec =
     tie.close
-    (tie.spec
-    place-requires
-    end-before-requires
-    returns
-    start-requires
-    add-if2
-    returns-2
-    returns-3)
+    (tie.spec (λ c κs. search needs) (λ c κs. search needs) returns (λ c κs. search needs) (λ c. search needs) returns-2 returns-3)

@@ -1,19 +1,11 @@
 -- `managed_ranges::next` meets its contract: the range at the number's place, if there is one.
 -- Assumes nothing.
-use mathlib.Core.Path.{subst₂, sym}
-use mathlib.Core.List.{List}
-use Prim.Native.Nat.{ℕ, _+_, _≤_}
-use native.Mathlib.Omega.{arith}
-use borrow.Author.Needs.{needs}
-use lib.ListN.{length}
-use denote.Ref.{now}
-use Rattle.layout.specs.Layout
-use Rattle.layout.specs.Reading.{rangePlace}
-use Rattle.layout.proofs.Of.{size-in, sound-in}
+use Rattle.facts.proofs.Words.{subst₂, sym, List, ℕ, _+_, _≤_, arith, needs, length, now}
+use Rattle.layout.specs.{rangePlace, rangeSize}
+use Rattle.layout.proofs.{size-in, sound-in}
 use Rattle.managed_ranges.specs.declared.NextRange.the-variants.{At}
-use Rattle.managed_ranges.specs.Asked.{NextRangeIs}
-use Rattle.managed_ranges.proofs.Places.{next-none, next-found}
-use Rattle.managed_ranges.proofs.next.Statement.{statement}
+use Rattle.managed_ranges.specs.{NextRangeIs}
+use Rattle.managed_ranges.proofs.{next-none, next-found}
 use Rattle.managed_ranges.proofs.next.Tie as tie
 
 -- where the call began, and its table
@@ -27,7 +19,7 @@ abbrev counted : tie.Else1 → tie.After-place
 counted c = c .before .before
 
 -- the range at the place stands in the table
-in-table : (c : tie.Else1) → rangePlace (counted c .place .result) + Layout.rangeSize ≤ length (table (counted c))
+in-table : (c : tie.Else1) → rangePlace (counted c .place .result) + rangeSize ≤ length (table (counted c))
 in-table c =
     let b = table (counted c) in
     let a = start (counted c) .pre in
@@ -39,29 +31,11 @@ place-requires c κs =
     let b = now (s .args .t) in
     (size-in b (s .pre), sound-in b (s .pre) .ranges-most, sound-in b (s .pre) .ranges)
 
-byte-requires : tie.Need-byte-requires
-byte-requires c κs = omega (arith, size-in (table c) (start c .pre))
-
 returns : tie.Need-returns
 returns c =
     let placed = c .before .before in
     next-none (table placed) (start placed .args .from) (placed .place .result) (placed .place .ensures)
     (omega (arith, c .if1 .taken, c .before .byte .ensures .0))
-
-mul-at : tie.Need-mul-at
-mul-at c = search needs
-
-add-at : tie.Need-add-at
-add-at c = search needs
-
-word-requires : tie.Need-word-requires
-word-requires c κs = omega (arith, in-table c)
-
-add-long : tie.Need-add-long
-add-long c = search needs
-
-long-requires : tie.Need-long-requires
-long-requires c κs = omega (arith, in-table (c .before))
 
 returns-2 : tie.Need-returns-2
 returns-2 c =
@@ -72,16 +46,8 @@ returns-2 c =
     (next-found b (start placed .args .from) (placed .place .result) (placed .place .ensures)
     (omega (arith, tested .if1 .left, tested .before .byte .ensures .0)))
 
-pub next-spec : {M : Type 1} → statement M
+pub next-spec : {M : Type 1} → Rattle.managed_ranges.proofs.next.Statement.statement M
 next-spec =
     tie.close
-    (tie.spec
-    place-requires
-    byte-requires
-    returns
-    mul-at
-    add-at
-    word-requires
-    add-long
-    long-requires
-    returns-2)
+    (tie.spec place-requires (λ c κs. omega (arith, size-in (table c) (start c .pre))) returns (λ c. search needs) (λ c. search needs)
+    (λ c κs. omega (arith, in-table c)) (λ c. search needs) (λ c κs. omega (arith, in-table (c .before))) returns-2)

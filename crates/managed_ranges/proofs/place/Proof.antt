@@ -1,17 +1,13 @@
 -- `managed_ranges::place` meets its contract. The invariant: the ranges from `i` on have no base below the number.
 -- Assumes nothing.
-use Prim.Native.Nat.{_-_, _≤_}
-use native.Mathlib.Omega.{arith}
-use borrow.Author.Needs.{needs}
-use denote.Ref.{now}
-use Rattle.facts.specs.Table
-use Rattle.layout.specs.Sound.{RangesSound}
-use Rattle.managed_ranges.proofs.Places.{Down, down-none, down-more, down-found, down-end}
-use Rattle.managed_ranges.proofs.place.Statement.{statement}
+use Rattle.facts.proofs.Words.{_-_, _≤_, arith, needs, now}
+use Rattle.facts.specs.{mostRanges}
+use Rattle.layout.specs.{RangesSound}
+use Rattle.managed_ranges.proofs.{Down, down-none, down-more, down-found, down-end}
 use Rattle.managed_ranges.proofs.place.Tie as tie
 
 abbrev Inv-loop : tie.InvT-loop
-Inv-loop t from i₀ i = (i ≤ Table.mostRanges) × ((sound : RangesSound t) → Down t sound from i)
+Inv-loop t from i₀ i = (i ≤ mostRanges) × ((sound : RangesSound t) → Down t sound from i)
 
 abbrev μ-loop : tie.MeasureT-loop
 μ-loop t from i₀ i = i
@@ -23,25 +19,10 @@ start c = c .before .before
 abbrev turn : tie.After-word Inv-loop μ-loop → tie.At-loop Inv-loop μ-loop
 turn c = c .before .before
 
-byte-requires : tie.Need-byte-requires Inv-loop μ-loop
-byte-requires c κs = search needs
-
 loop-holds : tie.Need-loop-holds Inv-loop μ-loop
 loop-holds c =
     let s = start c in
     (omega (arith, c .byte .ensures .0), λ sound. down-none (now (s .args .t)) sound (s .args .from) (c .byte .result) (c .byte .ensures .0))
-
-sub-word : tie.Need-sub-word Inv-loop μ-loop
-sub-word c = omega arith
-
-mul-word : tie.Need-mul-word Inv-loop μ-loop
-mul-word c = omega arith
-
-add-word : tie.Need-add-word Inv-loop μ-loop
-add-word c = omega arith
-
-word-requires : tie.Need-word-requires Inv-loop μ-loop
-word-requires c κs = omega (arith, start (c .before .before) .pre .0)
 
 returns : tie.Need-returns Inv-loop μ-loop
 returns c =
@@ -49,12 +30,6 @@ returns c =
     let s = start (at .before) in
     down-found (now (s .args .t)) (s .pre .2) (s .args .from) (at .loop .i) (at .loop .inv .1 (s .pre .2)) (omega arith)
     (omega (arith, c .if1 .taken, c .before .word .ensures .0))
-
-sub-i : tie.Need-sub-i Inv-loop μ-loop
-sub-i c = omega arith
-
-loop-less : tie.Need-loop-less Inv-loop μ-loop
-loop-less c = omega arith
 
 loop-again : tie.Need-loop-again Inv-loop μ-loop
 loop-again c =
@@ -71,20 +46,8 @@ returns-2 c =
     let s = start (at .before) in
     down-end (now (s .args .t)) (s .pre .2) (s .args .from) (at .loop .i) (at .loop .inv .1 (s .pre .2)) (omega (arith, c .loop-test .left))
 
-pub place-spec : {M : Type 1} → statement M
+pub place-spec : {M : Type 1} → Rattle.managed_ranges.proofs.place.Statement.statement M
 place-spec =
     tie.close
-    (tie.spec
-    Inv-loop
-    μ-loop
-    byte-requires
-    loop-holds
-    sub-word
-    mul-word
-    add-word
-    word-requires
-    returns
-    sub-i
-    loop-less
-    loop-again
-    returns-2)
+    (tie.spec Inv-loop μ-loop (λ c κs. search needs) loop-holds (λ c. omega arith) (λ c. omega arith) (λ c. omega arith)
+    (λ c κs. omega (arith, start (c .before .before) .pre .0)) returns (λ c. omega arith) (λ c. omega arith) loop-again returns-2)

@@ -1,17 +1,11 @@
 -- `managed_ranges::put` meets its contract: a port is managed, there is no room, or the range is entered in its place.
 -- Assumes nothing.
-use mathlib.Core.Path.{subst}
-use mathlib.Core.List.{List}
-use Prim.Native.Nat.{ℕ, _<_}
-use native.Mathlib.Omega.{arith}
-use borrow.Author.Needs.{needs}
-use denote.Ref.{now}
-use Rattle.facts.specs.Table
-use Rattle.layout.specs.Reading.{rangesIn}
-use Rattle.layout.proofs.Of.{size-in, sound-in}
-use Rattle.managed_ranges.specs.Asked.{FreeAt, FreeIs, RoomIs}
-use Rattle.managed_ranges.proofs.Ends.{put-taken, put-full, put-made}
-use Rattle.managed_ranges.proofs.put.Statement.{statement}
+use Rattle.facts.proofs.Words.{subst, List, ℕ, _<_, arith, needs, now}
+use Rattle.facts.specs.{mostRanges}
+use Rattle.layout.specs.{rangesIn}
+use Rattle.layout.proofs.{size-in, sound-in}
+use Rattle.managed_ranges.specs.{FreeAt, FreeIs, RoomIs}
+use Rattle.managed_ranges.proofs.{put-taken, put-full, put-made}
 use Rattle.managed_ranges.proofs.put.Tie as tie
 
 -- where the call began, and its table
@@ -40,7 +34,7 @@ free c =
 abbrev placed : tie.After-has-room → tie.After-known-told
 placed c = c .before .before
 
-room : (c : tie.After-enum-told2) → rangesIn (table (sent (placed (c .before .before)))) < Table.mostRanges
+room : (c : tie.After-enum-told2) → rangesIn (table (sent (placed (c .before .before)))) < mostRanges
 room c = subst (RoomIs (table (sent (placed (c .before .before))))) (c .enum-told2 .given .1) (c .before .before .has-room .ensures)
 
 free-requires : tie.Need-free-requires
@@ -48,15 +42,6 @@ free-requires c κs =
     let s = began c in
     let sound = sound-in (table c) (s .pre .0) in
     ((sound .size, sound .ranges-most, sound .ranges), (s .pre .1, s .pre .2))
-
-enum-known-i : tie.Need-enum-known-i
-enum-known-i c = search needs
-
-enum-told : tie.Need-enum-told
-enum-told c = search needs
-
-same-length : tie.Need-same-length
-same-length c = search needs
 
 returns : tie.Need-returns
 returns c =
@@ -68,15 +53,6 @@ returns c =
 
 has-room-requires : tie.Need-has-room-requires
 has-room-requires c κs = let k = sent (c .before) in size-in (table k) (began k .pre .0)
-
-enum-told-2 : tie.Need-enum-told-2
-enum-told-2 c = search needs
-
-enum-told-3 : tie.Need-enum-told-3
-enum-told-3 c = search needs
-
-same-length-2 : tie.Need-same-length-2
-same-length-2 c = search needs
 
 returns-2 : tie.Need-returns-2
 returns-2 c =
@@ -93,9 +69,6 @@ enter-requires c κs =
     let s = began k in
     ((size-in (table k) (s .pre .0), free at .place .within, room (c .before)), (omega (arith, s .pre .1, s .pre .2), omega (arith, s .pre .2)))
 
-same-length-3 : tie.Need-same-length-3
-same-length-3 c = search needs
-
 returns-3 : tie.Need-returns-3
 returns-3 c =
     let entered = c .before .before in
@@ -107,20 +80,8 @@ returns-3 c =
     (s .pre .1)
     (room left) e (entered .enter .ensures)
 
-pub put-spec : {M : Type 1} → statement M
+pub put-spec : {M : Type 1} → Rattle.managed_ranges.proofs.put.Statement.statement M
 put-spec =
     tie.close
-    (tie.spec
-    free-requires
-    enum-known-i
-    enum-told
-    same-length
-    returns
-    has-room-requires
-    enum-told-2
-    enum-told-3
-    same-length-2
-    returns-2
-    enter-requires
-    same-length-3
-    returns-3)
+    (tie.spec free-requires (λ c. search needs) (λ c. search needs) (λ c. search needs) returns has-room-requires (λ c. search needs)
+    (λ c. search needs) (λ c. search needs) returns-2 enter-requires (λ c. search needs) returns-3)

@@ -1,17 +1,10 @@
 -- `managed_ranges::remove` meets its contract: there is a bit, the ports that are named are wrong, or they are taken out.
 -- Assumes nothing.
-use mathlib.Core.Path.{_≡_, subst, subst₂}
-use mathlib.Core.List.{List}
-use Prim.Native.Nat.{ℕ}
-use borrow.Author.Needs.{needs}
-use denote.Ref.{now}
-use Rattle.facts.specs.declared.Asked.{Asked}
-use Rattle.facts.specs.Table.{Facts}
-use Rattle.facts.specs.Resources.{rangeRemoved, takeChecks}
-use Rattle.answers.specs.Answers.{BitsAre}
-use Rattle.managed_ranges.specs.Asked.{NamesPorts, NamedIs, TakesRange}
-use Rattle.managed_ranges.proofs.Ends.{bits-wrong, ports-wrong, own-change}
-use Rattle.managed_ranges.proofs.remove.Statement.{statement}
+use Rattle.facts.proofs.Words.{_≡_, subst, subst₂, List, ℕ, needs, now}
+use Rattle.facts.specs.{RangeAsked, Facts, rangeRemoved, takeChecks}
+use Rattle.managed_changes.specs.{BitsAre}
+use Rattle.managed_ranges.specs.{NamesPorts, PortsNamedIs, TakesRange}
+use Rattle.managed_ranges.proofs.{bits-wrong, ports-wrong, own-change}
 use Rattle.managed_ranges.proofs.remove.Tie as tie
 
 -- where the call began, its table, and what it asks for
@@ -21,7 +14,7 @@ start c = c .before .before
 abbrev table : tie.After-no-bit → List ℕ
 table c = now (start c .args .t)
 
-abbrev asked : tie.After-no-bit → Asked
+abbrev asked : tie.After-no-bit → RangeAsked
 asked c = start c .args .r
 
 -- there is no bit
@@ -47,16 +40,7 @@ count c = c .before .ports .given .0 .1 .0
 ports : (c : tie.After-known-told) → let r = asked (first (clear c)) in NamesPorts (r .base) (r .count) (r .lines) (base c) (count c)
 ports c =
     let r = asked (first (clear c)) in
-    subst (NamedIs (r .base) (r .count) (r .lines)) (c .before .ports .given .1) (named c .ports-named .ensures)
-
-no-bit-requires : tie.Need-no-bit-requires
-no-bit-requires c κs = search needs
-
-enum-told : tie.Need-enum-told
-enum-told c = search needs
-
-enum-told-2 : tie.Need-enum-told-2
-enum-told-2 c = search needs
+    subst (PortsNamedIs (r .base) (r .count) (r .lines)) (c .before .ports .given .1) (named c .ports-named .ensures)
 
 returns : tie.Need-returns
 returns c =
@@ -65,21 +49,6 @@ returns c =
     bits-wrong (r .attributes ≡ 0) (r .base) (r .count) (r .lines) (takeChecks (r .base) (r .count)) (λ (F : Facts). rangeRemoved F (r .base))
     (table k)
     (start k .pre) (subst (BitsAre (r .attributes)) (c .enum-told2 .given .1) (k .no-bit .ensures))
-
-ports-named-requires : tie.Need-ports-named-requires
-ports-named-requires c κs = search needs
-
-enum-known-ports : tie.Need-enum-known-ports
-enum-known-ports c = search needs
-
-take-requires : tie.Need-take-requires
-take-requires c κs = search needs
-
-enum-known-ports-2 : tie.Need-enum-known-ports-2
-enum-known-ports-2 c = search needs
-
-same-length : tie.Need-same-length
-same-length c = search needs
 
 returns-2 : tie.Need-returns-2
 returns-2 c =
@@ -103,20 +72,10 @@ returns-3 c =
     ports-wrong (r .attributes ≡ 0) (r .base) (r .count) (r .lines) (takeChecks (r .base) (r .count)) (λ (F : Facts). rangeRemoved F (r .base))
     (table k)
     (start k .pre) (none told) (c .before .ports2 .given .0 .0)
-    (subst (NamedIs (r .base) (r .count) (r .lines)) (c .before .ports2 .given .1) (read .ports-named .ensures))
+    (subst (PortsNamedIs (r .base) (r .count) (r .lines)) (c .before .ports2 .given .1) (read .ports-named .ensures))
 
-pub remove-spec : {M : Type 1} → statement M
+pub remove-spec : {M : Type 1} → Rattle.managed_ranges.proofs.remove.Statement.statement M
 remove-spec =
     tie.close
-    (tie.spec
-    no-bit-requires
-    enum-told
-    enum-told-2
-    returns
-    ports-named-requires
-    enum-known-ports
-    take-requires
-    enum-known-ports-2
-    same-length
-    returns-2
-    returns-3)
+    (tie.spec (λ c κs. search needs) (λ c. search needs) (λ c. search needs) returns (λ c κs. search needs) (λ c. search needs)
+    (λ c κs. search needs) (λ c. search needs) (λ c. search needs) returns-2 returns-3)

@@ -1,18 +1,12 @@
 -- `managed_ranges::take` meets its contract: no range is just that, a card answers at a port of it, or it is taken out.
 -- Assumes nothing.
-use mathlib.Core.Path.{subst}
-use mathlib.Core.List.{List}
-use Prim.Native.Nat.{ℕ, _<_}
-use native.Mathlib.Omega.{arith}
-use borrow.Author.Needs.{needs}
-use denote.Ref.{now}
-use Rattle.facts.specs.Table
-use Rattle.layout.specs.Sound.{RangeSound, endBefore}
-use Rattle.layout.proofs.Of.{size-in, sound-in}
+use Rattle.facts.proofs.Words.{subst, List, ℕ, _<_, arith, needs, now}
+use Rattle.facts.specs.{mostRanges}
+use Rattle.layout.specs.{RangeSound, endBefore}
+use Rattle.layout.proofs.{size-in, sound-in}
 use Rattle.managed_ranges.specs.declared.Cards.the-variants.{Silent, Answering}
-use Rattle.managed_ranges.specs.Asked.{FoundAt, FoundIs, CardsAre}
-use Rattle.managed_ranges.proofs.Ends.{take-nowhere, take-held, take-made}
-use Rattle.managed_ranges.proofs.take.Statement.{statement}
+use Rattle.managed_ranges.specs.{FoundAt, FoundIs, CardsAre}
+use Rattle.managed_ranges.proofs.{take-nowhere, take-held, take-made}
 use Rattle.managed_ranges.proofs.take.Tie as tie
 
 -- where the call began, and its table
@@ -37,7 +31,7 @@ found c =
     let k = sent c in
     subst (FoundIs (table k) (began k .args .base) (began k .args .count)) (c .before .i .given .1) (sought c .find .ensures)
 
-in-table : (c : tie.After-known-told) → place c < Table.mostRanges
+in-table : (c : tie.After-known-told) → place c < mostRanges
 in-table c = let k = sent c in omega (arith, found c .listed, sound-in (table k) (began k .pre) .ranges-most)
 
 range : (c : tie.After-known-told) → let k = sent c in RangeSound (table k) (endBefore (table k) (place c)) (place c)
@@ -68,15 +62,6 @@ find-requires c κs =
     let sound = sound-in (table c) (began c .pre) in
     (sound .size, sound .ranges-most, sound .ranges)
 
-enum-known-i : tie.Need-enum-known-i
-enum-known-i c = search needs
-
-enum-told : tie.Need-enum-told
-enum-told c = search needs
-
-same-length : tie.Need-same-length
-same-length c = search needs
-
 returns : tie.Need-returns
 returns c =
     let find = c .before .before in
@@ -90,15 +75,6 @@ cards-at-requires c κs =
     let at = c .before in
     (began (sent at) .pre, omega (arith, range at .within, range at .port, found at .base-is), omega (arith, range at .within, found at .count-is))
 
-enum-told-2 : tie.Need-enum-told-2
-enum-told-2 c = search needs
-
-enum-told-3 : tie.Need-enum-told-3
-enum-told-3 c = search needs
-
-same-length-2 : tie.Need-same-length-2
-same-length-2 c = search needs
-
 returns-2 : tie.Need-returns-2
 returns-2 c =
     let at = placed (c .before .before) in
@@ -106,20 +82,11 @@ returns-2 c =
     let s = began k in
     take-held (table k) (s .pre) (s .args .base) (s .args .count) (place at) (found at) (answering c)
 
-mul-take-out : tie.Need-mul-take-out
-mul-take-out c = omega (arith, in-table (free c))
-
-add-take-out : tie.Need-add-take-out
-add-take-out c = omega (arith, in-table (free c))
-
 take-out-requires : tie.Need-take-out-requires
 take-out-requires c κs =
     let at = free c in
     let k = sent at in
     (omega arith, omega (arith, in-table at), omega (arith, size-in (table k) (began k .pre)), omega arith, omega (arith, found at .listed))
-
-same-length-3 : tie.Need-same-length-3
-same-length-3 c = search needs
 
 returns-3 : tie.Need-returns-3
 returns-3 c =
@@ -131,22 +98,9 @@ returns-3 c =
     take-made (table k) (s .pre) (s .args .base) (s .args .count) (out .take-out .last .0) (place at) (found at) (silent told)
     (out .take-out .ensures)
 
-pub take-spec : {M : Type 1} → statement M
+pub take-spec : {M : Type 1} → Rattle.managed_ranges.proofs.take.Statement.statement M
 take-spec =
     tie.close
-    (tie.spec
-    find-requires
-    enum-known-i
-    enum-told
-    same-length
-    returns
-    cards-at-requires
-    enum-told-2
-    enum-told-3
-    same-length-2
-    returns-2
-    mul-take-out
-    add-take-out
-    take-out-requires
-    same-length-3
-    returns-3)
+    (tie.spec find-requires (λ c. search needs) (λ c. search needs) (λ c. search needs) returns cards-at-requires (λ c. search needs)
+    (λ c. search needs) (λ c. search needs) returns-2 (λ c. omega (arith, in-table (free c))) (λ c. omega (arith, in-table (free c)))
+    take-out-requires (λ c. search needs) returns-3)

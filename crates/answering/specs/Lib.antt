@@ -1,3 +1,0 @@
--- What the contracts of `answering` cite. Assumes nothing.
-pub mod Gaps
-pub mod Rows

@@ -1,2 +1,0 @@
--- What the contracts of `bases` cite. Assumes nothing.
-pub mod Bases

@@ -1,2 +1,0 @@
--- What the boot list comes to. Assumes nothing.
-pub mod Booting

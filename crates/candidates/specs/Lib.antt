@@ -1,2 +1,0 @@
--- What the contracts of `candidates` cite. Assumes nothing.
-pub mod Candidates

@@ -1,0 +1,75 @@
+-- What the checks of RegisterClient and DeregisterClient answer, said of the bytes. Assumes nothing.
+use mathlib.Core.Path.{_≡_}
+use mathlib.Core.Logic.{_⊎_}
+use mathlib.Core.List.{List}
+use Prim.Native.Nat.{ℕ, _+_, _≤_, _<_}
+use Rattle.facts.specs.Table
+use Rattle.facts.specs.Table.{Facts}
+use Rattle.facts.specs.Packets.{word}
+use Rattle.facts.specs.WellFormed.{AttributesAllowed, EventsAllowed}
+use Rattle.facts.specs.Clients.{Register, Deregister}
+use Rattle.layout.specs.Layout
+use Rattle.layout.specs.Reading.{clientsIn, issuedIn, clientPlace, ioPlace, irqPlace}
+use Rattle.layout.specs.Sound.{MaskUsed}
+use Rattle.layout.specs.Changed.{TakenOut}
+use Rattle.layout.specs.Served.{ServedBy}
+use Rattle.service_answers.specs.declared.Answer.{Answer}
+use Rattle.service_answers.specs.Answers.{codeOf, handleOf}
+use Rattle.client_services.specs.declared.ClientAsked.{ClientAsked}
+use Rattle.client_services.specs.declared.ClientAsked.the-variants.{Good, Bad}
+use Rattle.client_services.specs.declared.Room.{Room}
+use Rattle.client_services.specs.declared.Room.the-variants.{Next, Full}
+use Rattle.client_services.specs.declared.Held.{Held}
+use Rattle.client_services.specs.declared.Held.the-variants.{Nothing, Something}
+
+-- the attributes and the event mask of a registration, or one of them is not allowed
+pub record Asks (p : List ℕ) (attributes events : ℕ) : Type 0 where
+  pub attributes-are : attributes ≡ word p 0
+  pub events-are : events ≡ word p 2
+  pub attributes-allowed : AttributesAllowed (word p 0)
+  pub events-allowed : EventsAllowed (word p 2)
+
+abbrev pub AsksFor : List ℕ → ClientAsked → Type 0
+AsksFor p (Good attributes events) = Asks p attributes events
+AsksFor p Bad = (AttributesAllowed (word p 0) → ⊥) ⊎ (AttributesAllowed (word p 0) × (EventsAllowed (word p 2) → ⊥))
+
+-- the place and the handle of the next client, or there is no room
+pub record NextIs (b : List ℕ) (n h : ℕ) : Type 0 where
+  pub place : n ≡ clientsIn b
+  pub room : n < Table.mostClients
+  pub handle : h ≡ issuedIn b + 1
+  pub left : issuedIn b < Table.mostIssued
+
+abbrev pub RoomIs : List ℕ → Room → Type 0
+RoomIs b (Next n h) = NextIs b n (h .0)
+RoomIs b Full = (Table.mostClients ≤ clientsIn b) ⊎ (Table.mostIssued ≤ issuedIn b)
+
+-- a socket's grant is the client's whose handle is h
+abbrev pub GrantIn : List ℕ → ℕ → ℕ → Type 0
+GrantIn b h s = (word b (ioPlace s) ≡ h) ⊎ (word b (irqPlace s) ≡ h)
+
+abbrev pub GrantHeldIn : List ℕ → ℕ → Type 0
+GrantHeldIn b h = (s : ℕ) × (s < Table.mostSockets) × GrantIn b h s
+
+-- the client listed in the place i has a mask
+abbrev pub MaskHeldIn : List ℕ → ℕ → Type 0
+MaskHeldIn b i = (s : ℕ) × (s < Table.mostSockets) × MaskUsed b i s
+
+-- the client listed in the place i, whose handle is h, holds something
+abbrev pub HoldsSome : List ℕ → ℕ → ℕ → Type 0
+HoldsSome b i h = GrantHeldIn b h ⊎ MaskHeldIn b i
+
+abbrev pub HeldIs : List ℕ → ℕ → ℕ → Held → Type 0
+HeldIs b i h Something = HoldsSome b i h
+HeldIs b i h Nothing = HoldsSome b i h → ⊥
+
+-- the client in the place i is taken out
+abbrev pub Withdrawn : List ℕ → List ℕ → ℕ → Type 0
+Withdrawn b b′ i = TakenOut b b′ 1 (clientPlace i) Layout.clientSize Layout.rangesAt
+
+-- RegisterClient and DeregisterClient are served as their rules say: they answer r, and leave the table b′; the packet stays
+abbrev pub RegisterServed : List ℕ → List ℕ → List ℕ → Answer → Type 0
+RegisterServed p b b′ r = ServedBy (λ (F : Facts). Register F 0 p) b b′ p (codeOf r) (handleOf r)
+
+abbrev pub DeregisterServed : ℕ → List ℕ → List ℕ → List ℕ → Answer → Type 0
+DeregisterServed h p b b′ r = ServedBy (λ (F : Facts). Deregister F h p) b b′ p (codeOf r) (handleOf r)

@@ -1,2 +1,0 @@
-mod Ends
-mod Steps

@@ -1,2 +1,0 @@
--- What the contracts of `clients` cite. Assumes nothing.
-pub mod Clients

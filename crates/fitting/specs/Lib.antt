@@ -1,2 +1,0 @@
--- What the contracts of `fitting` cite. Assumes nothing.
-pub mod Fitting

@@ -1,2 +1,0 @@
--- Who holds a resource. Assumes nothing.
-pub mod Holders

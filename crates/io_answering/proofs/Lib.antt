@@ -1,0 +1,7 @@
+-- Where a card answers, the gaps between the managed ranges, and their rows: laws. Assumes nothing.
+pub mod Filling
+pub mod Gaps
+pub mod Walking
+pub use Filling.{filling-start, none-are, filling-more, filling-last, rows-are, leaps-says}
+pub use Gaps.{ends-within, clear-answers, answers-clear, clear-says, own-says, past-unmanaged}
+pub use Walking.{masked, mask-short, masked-behind, reach-filled, Leaping, leaping-start, leaping-more, leaping-end}

@@ -1,0 +1,141 @@
+// Where a card answers: at its own ports and at every port that its lines don't tell from one of them. Whether all of these are managed, by the gaps
+// between the managed ranges; and how far a card is from a base at which it answers in none of those that it answers in.
+use layout::ALL_PORTS;
+use layout::MOST_LINES;
+use layout::RANGE_SIZE;
+use layout::RANGES_AT;
+use layout::RANGES_IN;
+ghost use mathlib.Core.Path.{_≡_};
+ghost use Prim.Native.Nat.{_+_, _≤_, _<_};
+ghost use lib.ListN.{length};
+ghost use Rattle.facts.specs.Table;
+ghost use Rattle.facts.specs.Says.{Says};
+ghost use Rattle.layout.specs.Layout.{tableSize};
+ghost use Rattle.layout.specs.Reading.{rangesIn};
+ghost use Rattle.layout.specs.Sound.{RangesSound};
+ghost use Rattle.io_answering.specs.Gaps.{AllManagedIn};
+ghost use Rattle.io_answering.specs.Rows.{mostCounted, noGaps, LowBits, reachOf, aheadOf, RowsFit, GapsAre, LeapsRows, NoneWider, DecidingIs};
+
+// The gaps stand in two rows of 16-bit numbers, one after the other, so that many are looked at side by side: where each begins, and how many ports it
+// has. There may be one more than ranges; the rows have room for whole eights, and the rest is 0.
+const MOST_GAPS: usize = 40;
+
+pub const ROWS: usize = MOST_GAPS + MOST_GAPS;
+
+// A gap of so many ports or more is one in which every card answers that doesn't decode all lines.
+const MOST_COUNTED: usize = 32768;
+
+// Fills the rows, which have nothing yet, for cards of so many lines; those of one that decodes all, which answers at its own ports alone, keep nothing.
+// `end` is where the ranges passed end, and the gap begins.
+pub fn gap_rows(t: &[u8], lines: usize, rows: &mut [u16; ROWS])
+    requires { ⌜ (length (now t) ≡ tableSize) × (rangesIn (now t) ≤ Table.mostRanges) × RangesSound (now t) ⌝ }
+    requires { ⌜ now rows ≡ noGaps ⌝ }
+    ensures { λ _. ⌜ GapsAre (now (t .entry)) lines (now (rows .exit)) ⌝ }
+{
+    if lines == MOST_LINES {
+        return;
+    }
+    let ranges = table_read::byte(t, RANGES_IN);
+    let mut end = 0;
+    for i in 0..ranges {
+        let start = table_read::word(t, RANGES_AT + i * RANGE_SIZE);
+        rows[i] = (end % ALL_PORTS) as u16;
+        rows[MOST_GAPS + i] = io_ranges::smaller(start - end, MOST_COUNTED) as u16;
+        end = managed_search::range_end(t, i);
+    }
+    rows[ranges] = (end % ALL_PORTS) as u16;
+    rows[MOST_GAPS + ranges] = io_ranges::smaller(ALL_PORTS - end, MOST_COUNTED) as u16;
+}
+
+// How far a gap and so many more ports reach; a gap without a port reaches nowhere.
+fn reach_of(ports: u16, more: u16) -> u16
+    requires { ⌜ (ports ≤ mostCounted) × (more < 256) ⌝ }
+    ensures { λ r. ⌜ r ≡ reachOf ports more ⌝ }
+{
+    if ports == 0 {
+        return 0;
+    }
+    ports + more
+}
+
+// How far a card's last port, which lies so far in the period, has to move to be past a gap and its own other ports past it too; 0 where it answers at no
+// port of the gap.
+fn ahead(base: u16, ports: u16, last: u16, more: u16, ones: u16) -> u16
+    requires { ⌜ (ports ≤ mostCounted) × (last ≤ ones) × (more < 256) × LowBits ones ⌝ }
+    ensures { λ r. ⌜ r ≡ aheadOf base ports last more (ones + 1) ⌝ }
+{
+    let behind = (last + (ones + 1) - (base & ones)) & ones;
+    let reach = reach_of(ports, more);
+    if reach <= behind {
+        return 0;
+    }
+    reach - behind
+}
+
+// How far the first base lies ahead at which a card with so many ports is out of the gaps that it answers in; 0 where it answers in none.
+pub fn leap(rows: &[u16; ROWS], base: usize, count: usize, lines: usize) -> usize
+    requires { ⌜ RowsFit (now rows) × (base ≤ Table.allPorts) × (1 ≤ count) × (count < 256) × (lines < Table.mostLines) ⌝ }
+    ensures { λ r. ⌜ LeapsRows (now (rows .entry)) count lines base r ⌝ }
+{
+    let period = io_ranges::power(lines);
+    let ones = period - 1;
+    let last = (base + count - 1) & ones;
+    let more = count - 1;
+    let mut far: u16 = 0;
+    for i in 0..MOST_GAPS {
+        far = io_ranges::larger_u16(
+            far,
+            ahead(
+                rows[i],
+                rows[MOST_GAPS + i],
+                last as u16,
+                more as u16,
+                ones as u16,
+            ),
+        );
+    }
+    far as usize
+}
+
+fn widest(rows: &[u16; ROWS]) -> u16
+    ensures { λ r. ⌜ NoneWider (now (rows .entry)) r ⌝ }
+{
+    let mut most: u16 = 0;
+    for i in 0..MOST_GAPS {
+        most = io_ranges::larger_u16(most, rows[MOST_GAPS + i]);
+    }
+    most
+}
+
+// Whether a card of so many lines can answer in a gap: not if it decodes all lines, or if no gap has a port.
+pub enum Gapped {
+    Somewhere,
+    Nowhere,
+}
+
+pub fn deciding(rows: &[u16; ROWS], lines: usize) -> Gapped
+    ensures { λ r. ⌜ DecidingIs (now (rows .entry)) lines r ⌝ }
+{
+    if MOST_LINES <= lines {
+        return Gapped::Nowhere;
+    }
+    if widest(rows) == 0 {
+        return Gapped::Nowhere;
+    }
+    Gapped::Somewhere
+}
+
+// Whether the ports are managed, and every other where a card with them answers. One that decodes all lines answers nowhere else.
+pub fn managed(t: &[u8], rows: &[u16; ROWS], base: usize, count: usize, lines: usize) -> bool
+    requires { ⌜ (length (now t) ≡ tableSize) × (rangesIn (now t) ≤ Table.mostRanges) × RangesSound (now t) × GapsAre (now t) lines (now rows) ⌝ }
+    requires { ⌜ (base < Table.allPorts) × (1 ≤ count) × (count < 256) × (lines ≤ Table.mostLines) ⌝ }
+    ensures { λ r. ⌜ Says r (AllManagedIn (now (t .entry)) (record { base = base; count = count; lines = lines })) ⌝ }
+{
+    if lines == MOST_LINES {
+        return managed_search::managed(t, base, count);
+    }
+    if ALL_PORTS < base + count {
+        return false;
+    }
+    leap(rows, base, count, lines) == 0
+}

@@ -1,0 +1,3 @@
+-- The ports of a socket's grant. Assumes nothing.
+pub mod Held
+pub use Held.{meets-held}

@@ -1,2 +1,0 @@
--- Each end of RequestIO and ReleaseIO. Assumes nothing.
-pub mod Ends

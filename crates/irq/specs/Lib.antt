@@ -1,2 +1,0 @@
--- What the contracts of `irq` cite. Assumes nothing.
-pub mod Granting

@@ -1,0 +1,4 @@
+-- What the contracts of `irq_sharers` cite. Assumes nothing.
+pub mod Sharing
+pub use Sharing.{sharerIn, countOf}
+unfoldable pub use Sharing.{sharersIn}

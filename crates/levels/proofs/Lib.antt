@@ -1,3 +1,0 @@
--- The table of the sharing rule: one test over its entries, and its law. Assumes nothing.
-pub mod Table
-pub mod Rule

@@ -1,2 +1,0 @@
--- What the contracts of `lists` cite. Assumes nothing.
-pub mod Parts

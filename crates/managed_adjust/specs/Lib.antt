@@ -1,0 +1,3 @@
+-- What the actions are given and answer. Assumes nothing.
+pub mod Adjusting
+pub use Adjusting.{ServesBy, Reached, Shows}

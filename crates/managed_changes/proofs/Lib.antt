@@ -1,0 +1,3 @@
+-- A change is refused, or made. Assumes nothing.
+pub mod Changing
+pub use Changing.{refused, made}

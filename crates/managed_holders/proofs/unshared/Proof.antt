@@ -1,0 +1,27 @@
+-- `managed_holders::unshared` meets its contract: none of the sockets passed holds one of the ports alone.
+-- Assumes nothing.
+use Rattle.facts.proofs.Words.{_-_, arith}
+use Rattle.facts.specs.{mostSockets}
+use Rattle.table_read.proofs.{so-far-none, NoneYet, none-next, some-found, none-found}
+use Rattle.managed_holders.specs.{AloneIn}
+use Rattle.managed_holders.proofs.unshared.Tie as tie
+
+abbrev Inv-loop : tie.InvT-loop
+Inv-loop t base count s₀ s = NoneYet mostSockets (AloneIn t base count) s
+
+abbrev μ-loop : tie.MeasureT-loop
+μ-loop t base count s₀ s = mostSockets - s
+
+returns : tie.Need-returns Inv-loop μ-loop
+returns c = some-found (omega arith) (c .before .alone-on .ensures) (c .if1 .taken)
+
+loop-again : tie.Need-loop-again Inv-loop μ-loop
+loop-again c = none-next (c .before .before .before .loop .inv) (omega arith) (c .before .alone-on .ensures) (c .if1 .left)
+
+returns-2 : tie.Need-returns-2 Inv-loop μ-loop
+returns-2 c = none-found (c .before .loop .inv) (omega arith)
+
+pub unshared-spec : {M : Type 1} → Rattle.managed_holders.proofs.unshared.Statement.statement M
+unshared-spec =
+    tie.close
+    (tie.spec Inv-loop μ-loop (λ c. so-far-none) (λ c κs. omega arith) returns (λ c. omega arith) (λ c. omega arith) loop-again returns-2)

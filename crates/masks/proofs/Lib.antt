@@ -1,2 +1,0 @@
--- Each end of the services on masks. Assumes nothing.
-mod Ends

@@ -1,2 +1,0 @@
--- What the contracts of `masks` cite. Assumes nothing.
-pub mod Masks

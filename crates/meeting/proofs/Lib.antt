@@ -1,2 +1,0 @@
--- The ports of a socket's grant. Assumes nothing.
-pub mod Held

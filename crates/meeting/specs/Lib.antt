@@ -1,2 +1,0 @@
--- What the contracts of `meeting` cite. Assumes nothing.
-pub mod Meeting

@@ -1,2 +1,0 @@
--- What the contracts of `obstacles` cite. Assumes nothing.
-pub mod Obstacles

@@ -1,2 +1,0 @@
--- Laws over the width. Assumes nothing.
-pub mod Widths

@@ -1,2 +1,0 @@
--- What the packets' fields say. Assumes nothing.
-pub mod Fields

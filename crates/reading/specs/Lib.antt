@@ -1,3 +1,0 @@
--- What the contracts of `reading` cite. Assumes nothing.
-pub mod Finding
-pub mod Sets

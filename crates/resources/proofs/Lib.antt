@@ -1,2 +1,0 @@
--- The ways in which AdjustResourceInfo ends. Assumes nothing.
-pub mod Ends

@@ -1,2 +1,0 @@
--- What the actions are given and answer. Assumes nothing.
-pub mod Adjusting

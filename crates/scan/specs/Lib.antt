@@ -1,2 +1,0 @@
--- What the contracts of `scan` cite. Assumes nothing.
-pub mod Loading

@@ -1,2 +1,0 @@
--- What the contracts of `sharers` cite. Assumes nothing.
-pub mod Sharing

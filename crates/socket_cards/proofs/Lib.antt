@@ -1,0 +1,2 @@
+pub mod Cards
+pub use Cards.{mark-byte, in-table, card-past, card-done}

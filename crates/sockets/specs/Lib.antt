@@ -1,2 +1,0 @@
--- What the contracts of `sockets` cite. Assumes nothing.
-pub mod Counts

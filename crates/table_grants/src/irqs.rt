@@ -1,0 +1,147 @@
+// The IRQ grants: a socket's record, and the company that it keeps with those of the sockets below it.
+use crate::sockets::holder_sound;
+use facts::Socket;
+use layout::ALL_LEVELS;
+use layout::CLIENTS_AT;
+use layout::IO_SIZE;
+use layout::IOS_AT;
+use layout::IRQ_LEVEL_AT;
+use layout::IRQ_MANNER_AT;
+use layout::IRQ_SIZE;
+use layout::IRQS_AT;
+use layout::LEVEL_SIZE;
+use layout::LEVELS_AT;
+use layout::MARKED;
+use layout::MOST_SOCKETS;
+ghost use mathlib.Core.Path.{_≡_};
+ghost use mathlib.Core.Logic.{_≢_};
+ghost use Prim.Native.Nat.{_+_, _<_, _≤_};
+ghost use lib.ListN.{length};
+ghost use Rattle.facts.specs.Table;
+ghost use Rattle.facts.specs.Says.{Says};
+ghost use Rattle.facts.specs.Packets;
+ghost use Rattle.layout.specs.Layout.{tableSize};
+ghost use Rattle.layout.specs.Reading.{clientsIn};
+ghost use Rattle.layout.specs.Sound.{IoPlaceSound, IrqPlaceSound, IrqPairSound, CountsSound, ClientsSound};
+ghost use Rattle.table_read.specs.Sets.{HasJust};
+ghost use Rattle.table_grants.specs.Parts.{HolderSound, PlacesSound, CompanySound, SocketSound, IosSound, IrqsSound};
+ghost use Rattle.table_grants.specs.Company.{HeldBelow, HoldingIs};
+
+// The manners are 0 to 3.
+const LAST_MANNER: usize = 3;
+
+// A level and a manner are one number: the level's manners stand side by side, so that a set of them has a bit for each.
+const ALL_MANNERS: usize = LAST_MANNER + 1;
+
+// Whether the records at two places have a client, and the same one.
+fn same_client(t: &[u8], at: usize, other: usize) -> bool
+    requires { ⌜ (at + 1 < length (now t)) × (other + 1 < length (now t)) ⌝ }
+    ensures { λ r. ⌜ Says r ((Packets.word (now (t .entry)) at ≢ 0) × (Packets.word (now (t .entry)) other ≡ Packets.word (now (t .entry)) at)) ⌝ }
+{
+    let client = table_read::handle(t, at);
+    if client.0 == 0 {
+        return false;
+    }
+    client_record::granted(t, other, client)
+}
+
+// The client and the socket of an IRQ grant, whose record stands at a place: sound where the socket's I/O grant has the same client, as most often.
+fn irq_holder_sound(t: &[u8], at: usize, s: Socket) -> bool
+    requires { ⌜ (length (now t) ≡ tableSize) × (at + 1 < tableSize) × (clientsIn (now t) ≤ Table.mostClients) ⌝ }
+    requires { ⌜ (s .0 < Table.mostSockets) × IoPlaceSound (now t) (s .0) ⌝ }
+    ensures { λ r. ⌜ Says r (HolderSound (now (t .entry)) at (s .0)) ⌝ }
+{
+    let number = s.0;
+    if same_client(t, at, IOS_AT + number * IO_SIZE) {
+        return true;
+    }
+    holder_sound(t, at, s)
+}
+
+// The IRQ grant of the socket `s`, or a record that is all zero.
+fn irq_place_sound(t: &[u8], s: Socket) -> bool
+    requires { ⌜ (length (now t) ≡ tableSize) × (s .0 < Table.mostSockets) × CountsSound (now t) × ClientsSound (now t) ⌝ }
+    requires { ⌜ IoPlaceSound (now t) (s .0) ⌝ }
+    ensures { λ r. ⌜ Says r (IrqPlaceSound (now (t .entry)) (s .0)) ⌝ }
+{
+    let number = s.0;
+    let at = IRQS_AT + number * IRQ_SIZE;
+    if table_read::zero(t, at, at + IRQ_SIZE) {
+        return true;
+    }
+    let level = table_read::byte(t, at + IRQ_LEVEL_AT);
+    if ALL_LEVELS <= level {
+        return false;
+    }
+    if table_read::byte(t, LEVELS_AT + level * LEVEL_SIZE) != MARKED {
+        return false;
+    }
+    if LAST_MANNER < table_read::byte(t, at + IRQ_MANNER_AT) {
+        return false;
+    }
+    irq_holder_sound(t, at, s)
+}
+
+// The level that a grant holds: in its own manner, and in each manner that doesn't go with it.
+pub struct Holding {
+    pub own: u64,
+    pub against: u64,
+}
+
+// What the IRQ grant of the socket `s` holds.
+fn irq_holding(t: &[u8], s: Socket) -> Holding
+    requires { ⌜ (length (now t) ≡ tableSize) × (s .0 < Table.mostSockets) × IrqPlaceSound (now t) (s .0) ⌝ }
+    ensures { λ r. ⌜ HoldingIs (now (t .entry)) (s .0) r ⌝ }
+{
+    let number = s.0;
+    let at = IRQS_AT + number * IRQ_SIZE;
+    if table_read::word(t, at) == 0 {
+        return Holding { own: 0, against: 0 };
+    }
+    let manner = table_read::byte(t, at + IRQ_MANNER_AT);
+    let first = table_read::byte(t, at + IRQ_LEVEL_AT) * ALL_MANNERS;
+    let own = 1 << (first + manner);
+    let against = irq_levels::apart(table_read::manner_of(manner)) << first;
+    Holding { own, against }
+}
+
+// "grants meet only as demand 3 allows": whether no socket below `s` holds its level in a manner that doesn't go with its own.
+fn irq_company_sound(t: &[u8], s: Socket, held: u64) -> bool
+    requires { ⌜ (length (now t) ≡ tableSize) × (s .0 < Table.mostSockets) × PlacesSound (IrqPlaceSound (now t)) (s .0 + 1) ⌝ }
+    requires { ⌜ HasJust held (HeldBelow (now t) (s .0)) ⌝ }
+    ensures { λ r. ⌜ Says r (CompanySound (IrqPairSound (now (t .entry))) (s .0)) ⌝ }
+{
+    let holding = irq_holding(t, s);
+    held & holding.against == 0
+}
+
+// The IRQ record of the socket `s`, and the company that its grant keeps with those below it.
+fn irq_socket_sound(t: &[u8], s: Socket, held: u64) -> bool
+    requires { ⌜ (length (now t) ≡ tableSize) × (s .0 < Table.mostSockets) × CountsSound (now t) × ClientsSound (now t) ⌝ }
+    requires { ⌜ IoPlaceSound (now t) (s .0) × PlacesSound (IrqPlaceSound (now t)) (s .0) × HasJust held (HeldBelow (now t) (s .0)) ⌝ }
+    ensures { λ r. ⌜ Says r (SocketSound (IrqPlaceSound (now (t .entry))) (IrqPairSound (now (t .entry))) (s .0)) ⌝ }
+{
+    if !irq_place_sound(t, s) {
+        return false;
+    }
+    irq_company_sound(t, s, held)
+}
+
+// The IRQ grants of all sockets: `held` are the levels that the grants passed hold, in their manners.
+pub fn irqs_sound(t: &[u8]) -> bool
+    requires { ⌜ (length (now t) ≡ tableSize) × CountsSound (now t) × ClientsSound (now t) × IosSound (now t) ⌝ }
+    ensures { λ r. ⌜ Says r (IrqsSound (now (t .entry))) ⌝ }
+{
+    if table_read::zero(t, IRQS_AT, CLIENTS_AT) {
+        return true;
+    }
+    let mut held: u64 = 0;
+    for s in 0..MOST_SOCKETS {
+        if !irq_socket_sound(t, Socket(s), held) {
+            return false;
+        }
+        let holding = irq_holding(t, Socket(s));
+        held = held | holding.own;
+    }
+    true
+}

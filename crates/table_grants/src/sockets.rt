@@ -1,0 +1,74 @@
+// The sockets: the marks of their cards, and who holds their grants.
+use crate::ios::ios_sound;
+use crate::irqs::irqs_sound;
+use facts::Socket;
+use layout::CARDS_AT;
+use layout::MARKS;
+use layout::MOST_SOCKETS;
+use layout::SOCKETS_IN;
+ghost use mathlib.Core.Path.{_≡_};
+ghost use Prim.Native.Nat.{_+_, _<_, _≤_};
+ghost use lib.ListN.{length};
+ghost use Rattle.facts.specs.Table;
+ghost use Rattle.facts.specs.Says.{Says};
+ghost use Rattle.layout.specs.Layout.{tableSize};
+ghost use Rattle.layout.specs.Reading.{clientsIn};
+ghost use Rattle.layout.specs.Sound.{CountsSound, ClientsSound, RangesSound};
+ghost use Rattle.table_grants.specs.Parts.{HolderSound, CardsMarked, CardsEnd, CardsSound, SocketsSound};
+
+// What is wrong with any card's mark or-ed together, with no early exit.
+fn cards_marked(t: &[u8]) -> bool
+    requires { ⌜ length (now t) ≡ tableSize ⌝ }
+    ensures { λ r. ⌜ Says r (CardsMarked (now (t .entry))) ⌝ }
+{
+    let mut flaws: u8 = 0;
+    for s in 0..MOST_SOCKETS {
+        flaws = flaws | t[CARDS_AT + s] / MARKS;
+    }
+    flaws == 0
+}
+
+// Whether there is no card at a socket from the count on.
+fn cards_end(t: &[u8]) -> bool
+    requires { ⌜ (length (now t) ≡ tableSize) × CountsSound (now t) ⌝ }
+    ensures { λ r. ⌜ Says r (CardsEnd (now (t .entry))) ⌝ }
+{
+    let sockets = table_read::byte(t, SOCKETS_IN);
+    table_read::zero(t, CARDS_AT + sockets, CARDS_AT + MOST_SOCKETS)
+}
+
+// The marks of the cards, which are set at sockets below the count alone.
+fn cards_sound(t: &[u8]) -> bool
+    requires { ⌜ (length (now t) ≡ tableSize) × CountsSound (now t) ⌝ }
+    ensures { λ r. ⌜ Says r (CardsSound (now (t .entry))) ⌝ }
+{
+    if !cards_marked(t) {
+        return false;
+    }
+    cards_end(t)
+}
+
+// "every grant .. has a live client and a socket below the count": the grant of the socket `s`, whose record stands at a place.
+pub fn holder_sound(t: &[u8], at: usize, s: Socket) -> bool
+    requires { ⌜ (length (now t) ≡ tableSize) × (at + 1 < tableSize) × (clientsIn (now t) ≤ Table.mostClients) ⌝ }
+    ensures { λ r. ⌜ Says r (HolderSound (now (t .entry)) at (s .0)) ⌝ }
+{
+    if table_read::byte(t, SOCKETS_IN) <= s.0 {
+        return false;
+    }
+    client_record::live(t, table_read::handle(t, at))
+}
+
+// The cards and the grants of all sockets.
+pub fn sockets_sound(t: &[u8]) -> bool
+    requires { ⌜ (length (now t) ≡ tableSize) × CountsSound (now t) × ClientsSound (now t) × RangesSound (now t) ⌝ }
+    ensures { λ r. ⌜ Says r (SocketsSound (now (t .entry))) ⌝ }
+{
+    if !cards_sound(t) {
+        return false;
+    }
+    if !ios_sound(t) {
+        return false;
+    }
+    irqs_sound(t)
+}

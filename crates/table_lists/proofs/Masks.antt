@@ -1,0 +1,59 @@
+-- A client's masks are sound exactly if each is formed, the first four and the last four, and none is there for a socket from the count on.
+-- Assumes nothing.
+use Rattle.facts.proofs.Words.{_≡_, ap, subst, _∙_, _⊎_, inl, inr, ⊎-elim, List, ℕ, _+_, _-_, _/_, _≤_, _<_, eq-or-lt-of-le, decLt, arith}
+use Rattle.facts.specs.{mostSockets, byte, word}
+use Rattle.layout.specs.{socketsIn, clientPlace, maskPlace, Zero, MaskSound, clientMasksAt}
+use Rattle.table_lists.specs.{MaskFormed, FourFormed, MasksFormed, MasksEnd, MasksSound}
+
+module _ (b : List ℕ) (i : ℕ) where
+  -- each mask is formed exactly if the first four and the last four are
+  pub formed-first : MasksFormed b i → FourFormed b (clientPlace i + clientMasksAt)
+  formed-first m k l = m k (omega arith)
+
+  pub formed-last : MasksFormed b i → FourFormed b (maskPlace i 4)
+  formed-last m k l = subst (λ (p : ℕ). MaskFormed (word b p)) (omega arith) (m (4 + k) (omega arith))
+
+  pub formed-both : FourFormed b (clientPlace i + clientMasksAt) → FourFormed b (maskPlace i 4) → MasksFormed b i
+  formed-both f g s l = below-or-not (decLt s 4)
+    where
+      below-or-not : Dec (s < 4) → MaskFormed (word b (maskPlace i s))
+      below-or-not (yes h) = f s h
+      below-or-not (no h) = subst (λ (p : ℕ). MaskFormed (word b p)) (omega arith) (g (s - 4) (omega arith))
+
+  pub sound-formed : MasksSound b i → MasksFormed b i
+  sound-formed m s l = ⊎-elim inl (λ p. inr (p .0, p .1)) (m s l)
+
+  pub sound-end : MasksSound b i → MasksEnd b i
+  sound-end m s h l = ⊎-elim (λ e. e) (λ p. absurd (omega arith)) (m s l)
+
+  pub formed-sound : MasksFormed b i → MasksEnd b i → MasksSound b i
+  formed-sound m e s l = below-or-not (decLt s (socketsIn b)) (m s l)
+    where
+      below-or-not : Dec (s < socketsIn b) → MaskFormed (word b (maskPlace i s)) → MaskSound b i s
+      below-or-not (yes h) = ⊎-elim inl (λ p. inr (p .0, p .1, h))
+      below-or-not (no h) = λ p. inl (e s (omega arith) l)
+
+  -- the masks from the nth on are 0 exactly if their bytes are
+  module _ (n : ℕ) where
+    pub bytes-masks : Zero b (maskPlace i n) (maskPlace i mostSockets) → (s : ℕ) → n ≤ s → s < mostSockets → word b (maskPlace i s) ≡ 0
+    bytes-masks z s h l =
+        omega (arith, z (maskPlace i s) (omega arith) (omega arith), z (maskPlace i s + 1) (omega arith) (omega arith))
+
+    pub masks-bytes : ((s : ℕ) → n ≤ s → s < mostSockets → word b (maskPlace i s) ≡ 0) → Zero b (maskPlace i n) (maskPlace i mostSockets)
+    masks-bytes m k f l = either-way (eq-or-lt-of-le (omega arith))
+      where
+        s : ℕ
+        s = (k - maskPlace i 0) / 2
+
+        mask : word b (maskPlace i s) ≡ 0
+        mask = m s (omega arith) (omega arith)
+
+        either-way : (maskPlace i s ≡ k) ⊎ (maskPlace i s < k) → byte b k ≡ 0
+        either-way (inl e) = ap (byte b) (omega arith) ∙ low
+          where
+            low : byte b (maskPlace i s) ≡ 0
+            low = omega (arith, mask)
+        either-way (inr h) = ap (byte b) (omega arith) ∙ high
+          where
+            high : byte b (maskPlace i s + 1) ≡ 0
+            high = omega (arith, mask)

@@ -1,0 +1,38 @@
+-- What holds of every number below a bound: how a loop that stops at the first that fails decides it. Assumes nothing.
+use Rattle.facts.proofs.Words.{_≡_, sym, subst, _⊎_, inl, inr, Bool, true, false, not, ℕ, _+_, _≤_, _<_, eq-or-lt-of-le, arith, Says}
+use Rattle.facts.proofs.{says-true, says-yes, says-false-by}
+
+abbrev pub All : ℕ → (ℕ → Type 0) → Type 0
+All n P = (i : ℕ) → i < n → P i
+
+pub all-none : (P : ℕ → Type 0) → All 0 P
+all-none P i l = absurd (omega arith)
+
+pub all-more : {P : ℕ → Type 0} {n : ℕ} → All n P → P n → All (n + 1) P
+all-more {P} {n} a p i l = either-way (eq-or-lt-of-le (omega arith))
+  where
+    either-way : (i ≡ n) ⊎ (i < n) → P i
+    either-way (inl e) = subst P (sym e) p
+    either-way (inr l′) = a i l′
+
+-- what the loop keeps: it has come to i, which is not past n, and each before i is P
+pub record SoFar (n : ℕ) (P : ℕ → Type 0) (i : ℕ) : Type 0 where
+  pub within : i ≤ n
+  pub each : All i P
+
+module _ {n : ℕ} {P : ℕ → Type 0} where
+  pub so-far-none : SoFar n P 0
+  so-far-none = record { within = omega arith; each = all-none P }
+
+  pub so-far-more : {i : ℕ} → SoFar n P i → i < n → P i → SoFar n P (i + 1)
+  so-far-more a h p = record { within = omega arith; each = all-more (a .each) p }
+
+  -- it asks of the next one, and goes on or stops; or it has come to the end
+  pub so-far-next : {r : Bool} {i : ℕ} → SoFar n P i → i < n → Says r (P i) → not r ≡ false → SoFar n P (i + 1)
+  so-far-next a h s e = so-far-more a h (says-yes s e)
+
+  pub so-far-stop : {r : Bool} {i : ℕ} → i < n → Says r (P i) → not r ≡ true → Says false (All n P)
+  so-far-stop {r} {i} h s e = says-false-by s e (λ a. a i h)
+
+  pub so-far-end : {i m : ℕ} → SoFar n P i → m ≤ i → Says true (All m P)
+  so-far-end a h = says-true (λ k l. a .each k (omega arith))

@@ -1,0 +1,14 @@
+-- Laws of what holds below a bound, of bits and sets, and of bytes that are zero. Assumes nothing.
+pub mod Below
+pub mod Bits
+pub mod Sets
+pub mod Some
+pub mod Zeros
+pub mod Quarters
+pub use Below.{All, all-none, all-more, SoFar, so-far-none, so-far-more, so-far-next, so-far-stop, so-far-end}
+pub use Bits.{lowest-bit, higher-bit, no-bit}
+pub use Sets.{one-shifted, one-bit, shifted-bit, shifted-only, bit-below, or-left, or-right, exactly-none, exactly-empty, exactly-one, bit-and}
+pub use Sets.{exactly-both, exactly-as, exactly-more}
+pub use Some.{NoneYet, none-next, some-found, none-found}
+pub use Zeros.{zero-where, or-says, zero-joined, Gathered, gathered-none, gathered-more, gathered-says, place-false, place-says, live-used}
+pub use Quarters.{quarters-none, quarters-more, quarters-says}

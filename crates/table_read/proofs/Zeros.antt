@@ -1,0 +1,81 @@
+-- Numbers or-ed together are zero exactly if each of them is, and so are bytes; and a record of a grant is used or zero. Assumes nothing.
+use Rattle.facts.proofs.Words.{_≡_, _∙_, ap, _⊎_, inr, ⊎-elim, _≢_, List, Bool, false, ℕ, _+_, _≤_, _<_, ℕ-discrete, decLt, arith, eq-eqb, ne-eqb}
+use Rattle.facts.proofs.Words.{bitOr, or-add-and, and-le-l, and-le-r, eqb, Says}
+use Rattle.facts.specs.{byte}
+use Rattle.facts.proofs.{says-true, says-false, says-as, says-eq}
+use Rattle.layout.specs.{Zero, LiveIn, ClientsSound}
+
+or-zero-left : (x y : ℕ) → bitOr x y ≡ 0 → x ≡ 0
+or-zero-left x y e = omega (arith, or-add-and x y, and-le-r x y)
+
+or-zero-right : (x y : ℕ) → bitOr x y ≡ 0 → y ≡ 0
+or-zero-right x y e = omega (arith, or-add-and x y, and-le-l x y)
+
+or-zero : (x y : ℕ) → x ≡ 0 → y ≡ 0 → bitOr x y ≡ 0
+or-zero x y p q = omega (arith, or-add-and x y)
+
+-- a number is zero where what its being zero says is so
+pub zero-where : (n : ℕ) {P : Type 0} → Says (eqb n 0) P → P → n ≡ 0
+zero-where n s p = same-or-not (ℕ-discrete n 0)
+  where
+    same-or-not : Dec (n ≡ 0) → n ≡ 0
+    same-or-not (yes e) = e
+    same-or-not (no d) = absurd (s .fails (ne-eqb n 0 d) p)
+
+pub or-says : (x y : ℕ) {P Q : Type 0} → Says (eqb x 0) P → Says (eqb y 0) Q → Says (eqb (bitOr x y) 0) (P × Q)
+or-says x y p q =
+    says-as (says-eq (bitOr x y) 0)
+    (λ e. (p .holds (eq-eqb x 0 (or-zero-left x y e)), q .holds (eq-eqb y 0 (or-zero-right x y e))))
+    (λ h. or-zero x y (zero-where x p (h .0)) (zero-where y q (h .1)))
+
+-- a stretch of two parts is zero exactly if both are
+module _ (b : List ℕ) (from mid to : ℕ) (f : from ≤ mid) (l : mid ≤ to) where
+  pub zero-joined : Zero b from mid → Zero b mid to → Zero b from to
+  zero-joined z z′ i h m = below-or-not (decLt i mid)
+    where
+      below-or-not : Dec (i < mid) → byte b i ≡ 0
+      below-or-not (yes n) = z i h n
+      below-or-not (no n) = z′ i (omega arith) m
+
+  zero-before : Zero b from to → Zero b from mid
+  zero-before z i h m = z i h (omega arith)
+
+  zero-after : Zero b from to → Zero b mid to
+  zero-after z i h m = z i (omega arith) m
+
+-- the number is zero exactly if the bytes from one place up to another are
+pub record Gathered (b : List ℕ) (from to all : ℕ) : Type 0 where
+  pub says : Says (eqb all 0) (Zero b from to)
+
+pub gathered-none : (b : List ℕ) (from to : ℕ) → to ≡ from → Gathered b from to 0
+gathered-none b from to e = record { says = says-true (λ i f l. absurd (omega arith)) }
+
+pub gathered-joined : (b : List ℕ) (from mid to x y : ℕ) → from ≤ mid → mid ≤ to → Gathered b from mid x → Gathered b mid to y
+    → Gathered b from to (bitOr x y)
+gathered-joined b from mid to x y f l g g′ =
+    record {
+      says = says-as (or-says x y (g .says) (g′ .says)) (λ z. zero-joined b from mid to f l (z .0) (z .1))
+          (λ z. (zero-before b from mid to f l z, zero-after b from mid to f l z));
+    }
+
+pub gathered-more : (b : List ℕ) (from i next all : ℕ) → from ≤ i → next ≡ i + 1 → Gathered b from i all
+    → Gathered b from next (bitOr all (byte b i))
+gathered-more b from i next all h e g = gathered-joined b from i next all (byte b i) h (omega arith) g here
+  where
+    here : Gathered b i next (byte b i)
+    here = record { says = says-as (says-eq (byte b i) 0) (λ z k f l. ap (byte b) (omega arith) ∙ z) (λ z. z i (omega arith) (omega arith)) }
+
+pub gathered-says : (b : List ℕ) (from i to all : ℕ) → i ≡ to → Gathered b from i all → Says (eqb all 0) (Zero b from to)
+gathered-says b from i to all s g = rw s at (g .says)
+
+-- a record that is zero, or is used and is P: where it isn't zero, P decides
+module _ {Zeroed Used P : Type 0} (not-zero : Zeroed → ⊥) where
+  pub place-false : (P → ⊥) → Says false (Zeroed ⊎ (Used × P))
+  place-false n = says-false (⊎-elim not-zero (λ p. n (p .1)))
+
+  pub place-says : {r : Bool} {Q : Type 0} → Says r Q → (Q → Used × P) → (P → Q) → Says r (Zeroed ⊎ (Used × P))
+  place-says s f g = says-as s (λ q. inr (f q)) (⊎-elim (λ z. absurd (not-zero z)) (λ p. g (p .1)))
+
+-- the handle of a live client is not 0
+pub live-used : (b : List ℕ) {h : ℕ} → ClientsSound b → LiveIn b h → h ≢ 0
+live-used b s l e = omega (arith, s (l .0) (l .1) .over, l .2, e)

@@ -1,0 +1,2 @@
+pub mod Writing
+pub use Writing.{Moved, MovedUp, RoomMade, Cleared}
