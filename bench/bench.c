@@ -162,8 +162,9 @@ static void put_irq_back(void)
 
 static void put_mask_back(void)
 {
-    size_t at = AT_CLIENTS + CLIENT_SIZE * (last_client - 1u) + CLIENT_MASKS + 2 * LAST_SOCKET;
-    memcpy(table + at, other + at, 2);
+    size_t at =
+        AT_CLIENTS + CLIENT_SIZE * (last_client - 1u) + CLIENT_MASKS + MASK_SIZE * LAST_SOCKET;
+    memcpy(table + at, other + at, MASK_SIZE);
 }
 
 static void bad_handle(void)
@@ -396,80 +397,114 @@ enum {
     HELD = 1 << ONE_HOLDER | 1 << ALL_HELD,
     BARRED = 1 << ALL_BARRED,
     GAPS = 1 << GAPPED,
-    IMAGES = 1 << REPEATED,
-    NOT_HELD = EVERYWHERE & ~HELD & ~BARRED & ~GAPS & ~IMAGES
+    ALIASES = 1 << REPEATED,
+    NOT_HELD = EVERYWHERE & ~HELD & ~BARRED & ~GAPS & ~ALIASES,
+    LAST_OF_16 = 1 << ALL_HELD | BARRED | GAPS | ALIASES /* the last client is the 16th */
 };
 
-/* The first rows, which others are held against. */
+/* The rows that others are held against, by name; the rest follow them. */
 enum { MEMCMP, REFUSED, FRESH_CALL, BAD_HANDLE, BAD_HANDLE_A_PLACE_FREE };
 
 static const struct call {
     const char *name;
     void (*once)(void);
-    unsigned calls;
-    bool full;        /* on the table without a place for what may be asked */
-    unsigned on;      /* which tables */
-    uint32_t answer;  /* what it has to answer, or another thing was timed */
-    double bar;       /* at most so many times another row; 0 for none */
-    unsigned against; /* that row */
+    bool pair;             /* two calls: the time of one is told */
+    bool full;             /* on the table without a place for what may be asked */
+    bool after_fresh;      /* cs_fresh is timed with it, and its own time is taken off */
+    unsigned on;           /* which tables */
+    uint32_t answer;       /* what it has to answer, or another thing was timed */
+    double bar;            /* at most so many times another row; 0 for none */
+    unsigned against;      /* that row */
+    const char *yardstick; /* what it is called where others are held against it */
 } calls[] = {
-    {"memcmp of 8,192 equal bytes", memcmp_8192, 1, true, EVERYWHERE, 0, 0, 0},
-    {"RegisterClient refused with OUT_OF_RESOURCE", refused, 1, true, EVERYWHERE,
-     CS_OUT_OF_RESOURCE, 0, 0},
-    {"cs_fresh", fresh, 1, true, BOOTED, CS_SUCCESS, 0, 0},
-    {"RequestIRQ refused with BAD_HANDLE", bad_handle, 1, true, HELD, CS_BAD_HANDLE, 0, 0},
-    {"RequestIRQ refused with BAD_HANDLE, a place free", bad_handle, 1, false, HELD, CS_BAD_HANDLE,
-     0, 0},
-    {"RegisterClient, DeregisterClient, a place free", pair, 2, false, NOT_HELD, CS_SUCCESS, 0, 0},
-    {"cs_card_in", card_in, 1, true, EVERYWHERE, CS_SUCCESS, 0, 0},
-    {"cs_sharers", sharers, 1, true, EVERYWHERE, CS_SUCCESS, 0, 0},
-    {"First range", first_range, 1, true, MANAGED, CS_SUCCESS, 1.2, REFUSED},
-    {"Next range, the last", next_range, 1, true, MANAGED, CS_SUCCESS, 1.2, REFUSED},
-    {"First level", first_level, 1, true, MANAGED, CS_SUCCESS, 1.2, REFUSED},
-    {"Next level, the last", next_level, 1, true, MANAGED, CS_SUCCESS, 1.2, REFUSED},
-    {"Remove, Add of a range", range_pair, 2, true, MANAGED, CS_SUCCESS, 0, 0},
-    {"Remove, Add of a level", level_pair, 2, true, MANAGED, CS_SUCCESS, 0, 0},
-    {"RequestIRQ", ask_irq, 1, false, HELD, CS_SUCCESS, 1.2, BAD_HANDLE_A_PLACE_FREE},
-    {"RequestIRQ refused with BAD_IRQ", ask_irq_that_never_fits, 1, false, HELD, CS_BAD_IRQ, 1.2,
-     BAD_HANDLE_A_PLACE_FREE},
-    {"RequestIRQ refused with IN_USE", ask_irq, 1, true, HELD, CS_IN_USE, 1.2, BAD_HANDLE},
-    {"ReleaseIRQ", give_irq_back, 1, true, HELD, CS_SUCCESS, 1.2, BAD_HANDLE},
-    {"ReleaseIRQ refused with BAD_IRQ", give_irq_back, 1, false, HELD, CS_BAD_IRQ, 1.2,
-     BAD_HANDLE_A_PLACE_FREE},
-    {"ReleaseIRQ refused with BAD_ATTRIBUTE", give_another_type_back, 1, true, HELD,
-     CS_BAD_ATTRIBUTE, 1.2, BAD_HANDLE},
-    {"RequestIO", ask_ports, 1, false, HELD, CS_SUCCESS, NAMED_BAR, BAD_HANDLE_A_PLACE_FREE},
-    {"RequestIO refused with BAD_BASE", ask_unmanaged_ports, 1, false, HELD, CS_BAD_BASE, NAMED_BAR,
-     BAD_HANDLE_A_PLACE_FREE},
-    {"RequestIO refused with IN_USE, ports held", ask_held_ports, 1, false, HELD, CS_IN_USE,
-     NAMED_BAR, BAD_HANDLE_A_PLACE_FREE},
-    {"RequestIO refused with IN_USE", ask_ports, 1, true, HELD, CS_IN_USE, NAMED_BAR, BAD_HANDLE},
-    {"RequestIO of any 8 ports", ask_any_ports, 1, false, HELD, CS_SUCCESS, SEARCH_BAR, MEMCMP},
-    {"RequestIO of any 255 ports, IN_USE", ask_any_255_ports, 1, false, HELD | BARRED, CS_IN_USE,
-     SEARCH_BAR, MEMCMP},
-    {"RequestIO of any port, IN_USE", ask_any_port, 1, false, BARRED, CS_IN_USE, SEARCH_BAR,
-     MEMCMP},
-    {"RequestIO of any 6 ports by 15 lines", ask_any_6_ports_by_15, 1, false, GAPS, CS_SUCCESS,
-     SEARCH_BAR, MEMCMP},
-    {"RequestIO of any port by 14 lines, IN_USE", ask_any_port_by_14, 1, false, GAPS, CS_IN_USE,
-     SEARCH_BAR, MEMCMP},
-    {"cs_sharers of a table that is long to look at", sharers, 1, true, IMAGES, CS_SUCCESS,
-     LOOK_BAR, MEMCMP},
-    {"RequestIO by 11 lines", ask_repeated_ports, 1, false, IMAGES, CS_SUCCESS, LOOK_BAR, MEMCMP},
-    {"RequestIO by 11 lines, a port short, BAD_BASE", ask_ports_a_port_short, 1, false, IMAGES,
-     CS_BAD_BASE, LOOK_BAR, MEMCMP},
-    {"ReleaseIO", give_ports_back, 1, true, HELD, CS_SUCCESS, NAMED_BAR, BAD_HANDLE},
-    {"ReleaseIO refused with BAD_BASE", give_ports_back, 1, false, HELD, CS_BAD_BASE, NAMED_BAR,
-     BAD_HANDLE_A_PLACE_FREE},
-    {"RequestSocketMask", ask_mask, 1, false, HELD, CS_SUCCESS, 1.2, BAD_HANDLE_A_PLACE_FREE},
-    {"RequestSocketMask refused with IN_USE", ask_mask, 1, true, HELD, CS_IN_USE, 1.2, BAD_HANDLE},
-    {"ReleaseSocketMask", give_mask_back, 1, true, HELD, CS_SUCCESS, 1.2, BAD_HANDLE},
-    {"ReleaseSocketMask refused with BAD_SOCKET", give_mask_back, 1, false, HELD, CS_BAD_SOCKET,
-     1.2, BAD_HANDLE_A_PLACE_FREE},
-    {"boot list of 48 in order", boot_in_order, 1, true, BOOTED, CS_SUCCESS, 12, REFUSED},
-    {"boot list of 48, mixed", boot_mixed, 1, true, BOOTED, CS_SUCCESS, 12, REFUSED},
-    {"boot list of 48, descending", boot_descending, 1, true, BOOTED, CS_SUCCESS, 12, REFUSED},
-    {"plain C: the table read and checked", plain_c, 1, true, EVERYWHERE, CS_SUCCESS, 0, 0},
+    /* clang-format off */
+    [MEMCMP] = {.name = "memcmp of 8,192 equal bytes", .once = memcmp_8192, .full = true,
+                .on = EVERYWHERE, .answer = 0, .yardstick = "memcmp"},
+    [REFUSED] = {.name = "RegisterClient refused with OUT_OF_RESOURCE",
+                 .once = refused, .full = true, .on = EVERYWHERE, .answer = CS_OUT_OF_RESOURCE,
+                 .yardstick = "refused"},
+    [FRESH_CALL] = {.name = "cs_fresh", .once = fresh, .full = true,
+                    .on = BOOTED, .answer = CS_SUCCESS},
+    [BAD_HANDLE] = {.name = "RequestIRQ refused with BAD_HANDLE", .once = bad_handle, .full = true,
+                    .on = HELD, .answer = CS_BAD_HANDLE, .yardstick = "bad handle"},
+    [BAD_HANDLE_A_PLACE_FREE] = {.name = "RequestIRQ refused with BAD_HANDLE, a place free",
+                                 .once = bad_handle, .on = HELD, .answer = CS_BAD_HANDLE,
+                                 .yardstick = "bad handle"},
+    {.name = "RegisterClient, DeregisterClient, a place free", .once = pair, .pair = true,
+     .on = NOT_HELD, .answer = CS_SUCCESS},
+    {.name = "cs_card_in", .once = card_in, .full = true,
+     .on = EVERYWHERE, .answer = CS_SUCCESS},
+    {.name = "cs_sharers", .once = sharers, .full = true,
+     .on = EVERYWHERE, .answer = CS_SUCCESS},
+    {.name = "First range", .once = first_range, .full = true,
+     .on = MANAGED, .answer = CS_SUCCESS, .bar = 1.2, .against = REFUSED},
+    {.name = "Next range, the last", .once = next_range, .full = true,
+     .on = MANAGED, .answer = CS_SUCCESS, .bar = 1.2, .against = REFUSED},
+    {.name = "First level", .once = first_level, .full = true,
+     .on = MANAGED, .answer = CS_SUCCESS, .bar = 1.2, .against = REFUSED},
+    {.name = "Next level, the last", .once = next_level, .full = true,
+     .on = MANAGED, .answer = CS_SUCCESS, .bar = 1.2, .against = REFUSED},
+    {.name = "Remove, Add of a range", .once = range_pair, .pair = true, .full = true,
+     .on = MANAGED, .answer = CS_SUCCESS},
+    {.name = "Remove, Add of a level", .once = level_pair, .pair = true, .full = true,
+     .on = MANAGED, .answer = CS_SUCCESS},
+    {.name = "RequestIRQ", .once = ask_irq,
+     .on = HELD, .answer = CS_SUCCESS, .bar = 1.2, .against = BAD_HANDLE_A_PLACE_FREE},
+    {.name = "RequestIRQ refused with BAD_IRQ", .once = ask_irq_that_never_fits,
+     .on = HELD, .answer = CS_BAD_IRQ, .bar = 1.2, .against = BAD_HANDLE_A_PLACE_FREE},
+    {.name = "RequestIRQ refused with IN_USE", .once = ask_irq, .full = true,
+     .on = HELD, .answer = CS_IN_USE, .bar = 1.2, .against = BAD_HANDLE},
+    {.name = "ReleaseIRQ", .once = give_irq_back, .full = true,
+     .on = HELD, .answer = CS_SUCCESS, .bar = 1.2, .against = BAD_HANDLE},
+    {.name = "ReleaseIRQ refused with BAD_IRQ", .once = give_irq_back,
+     .on = HELD, .answer = CS_BAD_IRQ, .bar = 1.2, .against = BAD_HANDLE_A_PLACE_FREE},
+    {.name = "ReleaseIRQ refused with BAD_ATTRIBUTE", .once = give_another_type_back, .full = true,
+     .on = HELD, .answer = CS_BAD_ATTRIBUTE, .bar = 1.2, .against = BAD_HANDLE},
+    {.name = "RequestIO", .once = ask_ports,
+     .on = HELD, .answer = CS_SUCCESS, .bar = NAMED_BAR, .against = BAD_HANDLE_A_PLACE_FREE},
+    {.name = "RequestIO refused with BAD_BASE", .once = ask_unmanaged_ports,
+     .on = HELD, .answer = CS_BAD_BASE, .bar = NAMED_BAR, .against = BAD_HANDLE_A_PLACE_FREE},
+    {.name = "RequestIO refused with IN_USE, ports held", .once = ask_held_ports,
+     .on = HELD, .answer = CS_IN_USE, .bar = NAMED_BAR, .against = BAD_HANDLE_A_PLACE_FREE},
+    {.name = "RequestIO refused with IN_USE", .once = ask_ports, .full = true,
+     .on = HELD, .answer = CS_IN_USE, .bar = NAMED_BAR, .against = BAD_HANDLE},
+    {.name = "RequestIO of any 8 ports", .once = ask_any_ports,
+     .on = HELD, .answer = CS_SUCCESS, .bar = SEARCH_BAR, .against = MEMCMP},
+    {.name = "RequestIO of any 255 ports, IN_USE", .once = ask_any_255_ports,
+     .on = HELD | BARRED, .answer = CS_IN_USE, .bar = SEARCH_BAR, .against = MEMCMP},
+    {.name = "RequestIO of any port, IN_USE", .once = ask_any_port,
+     .on = BARRED, .answer = CS_IN_USE, .bar = SEARCH_BAR, .against = MEMCMP},
+    {.name = "RequestIO of any 6 ports by 15 lines", .once = ask_any_6_ports_by_15,
+     .on = GAPS, .answer = CS_SUCCESS, .bar = SEARCH_BAR, .against = MEMCMP},
+    {.name = "RequestIO of any port by 14 lines, IN_USE", .once = ask_any_port_by_14,
+     .on = GAPS, .answer = CS_IN_USE, .bar = SEARCH_BAR, .against = MEMCMP},
+    {.name = "cs_sharers of a table that is long to look at", .once = sharers, .full = true,
+     .on = ALIASES, .answer = CS_SUCCESS, .bar = LOOK_BAR, .against = MEMCMP},
+    {.name = "RequestIO by 11 lines", .once = ask_repeated_ports,
+     .on = ALIASES, .answer = CS_SUCCESS, .bar = LOOK_BAR, .against = MEMCMP},
+    {.name = "RequestIO by 11 lines, a port short, BAD_BASE", .once = ask_ports_a_port_short,
+     .on = ALIASES, .answer = CS_BAD_BASE, .bar = LOOK_BAR, .against = MEMCMP},
+    {.name = "ReleaseIO", .once = give_ports_back, .full = true,
+     .on = HELD, .answer = CS_SUCCESS, .bar = NAMED_BAR, .against = BAD_HANDLE},
+    {.name = "ReleaseIO refused with BAD_BASE", .once = give_ports_back,
+     .on = HELD, .answer = CS_BAD_BASE, .bar = NAMED_BAR, .against = BAD_HANDLE_A_PLACE_FREE},
+    {.name = "RequestSocketMask", .once = ask_mask,
+     .on = HELD, .answer = CS_SUCCESS, .bar = 1.2, .against = BAD_HANDLE_A_PLACE_FREE},
+    {.name = "RequestSocketMask refused with IN_USE", .once = ask_mask, .full = true,
+     .on = HELD, .answer = CS_IN_USE, .bar = 1.2, .against = BAD_HANDLE},
+    {.name = "ReleaseSocketMask", .once = give_mask_back, .full = true,
+     .on = HELD, .answer = CS_SUCCESS, .bar = 1.2, .against = BAD_HANDLE},
+    {.name = "ReleaseSocketMask refused with BAD_SOCKET", .once = give_mask_back,
+     .on = HELD, .answer = CS_BAD_SOCKET, .bar = 1.2, .against = BAD_HANDLE_A_PLACE_FREE},
+    {.name = "boot list of 48 in order", .once = boot_in_order, .full = true,
+     .after_fresh = true, .on = BOOTED, .answer = CS_SUCCESS, .bar = 12, .against = REFUSED},
+    {.name = "boot list of 48, mixed", .once = boot_mixed, .full = true,
+     .after_fresh = true, .on = BOOTED, .answer = CS_SUCCESS, .bar = 12, .against = REFUSED},
+    {.name = "boot list of 48, descending", .once = boot_descending, .full = true,
+     .after_fresh = true, .on = BOOTED, .answer = CS_SUCCESS, .bar = 12, .against = REFUSED},
+    {.name = "plain C: the table read and checked", .once = plain_c, .full = true,
+     .on = EVERYWHERE, .answer = CS_SUCCESS},
+    /* clang-format on */
 };
 enum { CALLS = sizeof calls / sizeof *calls };
 
@@ -478,17 +513,16 @@ static bool timed_on(unsigned which, unsigned call)
     return (calls[call].on >> which & 1) != 0;
 }
 
-static bool after_fresh(unsigned call)
-{
-    return calls[call].on == BOOTED && call != FRESH_CALL;
-}
-
 /* ---- The tables, without a place for a client, and on the held and barred ones for
    a grant and a mask of the last socket; and with one ---- */
 
-static const char *const table_names[TABLES] = {"fresh",  "16 clients", "one range",
-                                                "full",   "one holder", "all held",
-                                                "barred", "gaps",       "images"};
+static const char *const table_names[TABLES] = {
+    [FRESH] = "fresh",           [SIXTEEN_CLIENTS] = "16 clients",
+    [ONE_RANGE] = "one range",   [FULL] = "full",
+    [ONE_HOLDER] = "one holder", [ALL_HELD] = "all held",
+    [ALL_BARRED] = "barred",     [GAPPED] = "gaps",
+    [REPEATED] = "aliases",
+};
 static uint8_t images[TABLES][2][CS_TABLE_SIZE];
 
 static void only_clients(struct model *m, unsigned clients)
@@ -614,7 +648,7 @@ static void lay_out(unsigned which, const struct call *call)
     memcpy(other, table, sizeof other);
     ranges = which == FULL ? CS_RANGES : 1;
     levels = which == FULL ? CS_LEVELS : 2;
-    last_client = which == ALL_HELD || which >= ALL_BARRED ? CS_CLIENTS : 1;
+    last_client = (LAST_OF_16 >> which & 1) != 0 ? CS_CLIENTS : 1;
     ports = (struct ports_of){(uint16_t)grant_base(which, LAST_SOCKET),
                               (uint16_t)grant_base(which, LAST_SOCKET - 1), 0xFF00};
     fits = which == ALL_HELD ? (struct wish){CS_IRQ_EXCLUSIVE, 0xFF00}
@@ -646,7 +680,7 @@ static double time_batch(unsigned which, const struct call *call)
                 (unsigned long)answered);
         exit(2);
     }
-    return taken / BATCH / call->calls;
+    return taken / BATCH / (call->pair ? 2 : 1);
 }
 
 static double samples[TABLES][CALLS][REPETITIONS];
@@ -676,16 +710,13 @@ static void take_samples(void)
 static void print_bar(const struct call *call, double taken, const double *medians)
 {
     if (call->bar > 0)
-        printf("  at most %.1f x %s: %s", call->bar,
-               call->against == MEMCMP    ? "memcmp"
-               : call->against == REFUSED ? "refused"
-                                          : "bad handle",
+        printf("  at most %.1f x %s: %s", call->bar, calls[call->against].yardstick,
                taken / medians[call->against] <= call->bar ? "met" : "NOT MET");
 }
 
 static void print_row(unsigned which, unsigned call, const double *medians)
 {
-    double taken = medians[call] - (after_fresh(call) ? medians[FRESH_CALL] : 0);
+    double taken = medians[call] - (calls[call].after_fresh ? medians[FRESH_CALL] : 0);
     printf("%-10s  %-48s %8.2f x memcmp %6.2f x refused %9.0f ns", table_names[which],
            calls[call].name, taken / medians[MEMCMP], taken / medians[REFUSED], taken);
     print_bar(&calls[call], taken, medians);

@@ -453,7 +453,7 @@ static bool mask_word_low(struct chance *c, const struct model *m, uint8_t *imag
     if (m->clients == 0)
         return false;
     uint8_t *record = image + AT_CLIENTS + CLIENT_SIZE * pick(c, m->clients);
-    uint8_t *mask = record + CLIENT_MASKS + 2 * pick(c, m->sockets);
+    uint8_t *mask = record + CLIENT_MASKS + MASK_SIZE * pick(c, m->sockets);
     uint32_t word = 1 + pick(c, MASK_HELD - 1);
     mask[0] = (uint8_t)word;
     mask[1] = (uint8_t)(word >> 8);

@@ -252,10 +252,10 @@ void boot_bytes(void)
     put_record(&list, CS_RESOURCE_IRQ, CS_RESERVE, 4, 0);
     lend_fresh(1);
     must_boot(boot(&list), CS_IN_USE, 4);
-    table_must_have(2, two, sizeof two);
-    table_must_have(13 + 2 * 3, reserved, 2);
-    table_must_have(13 + 2 * 4, managed, 2);
-    table_must_have(517, ranges, sizeof ranges);
+    table_must_have(AT_RANGE_COUNT, two, sizeof two);
+    table_must_have(AT_LEVELS + LEVEL_SIZE * 3, reserved, sizeof reserved);
+    table_must_have(AT_LEVELS + LEVEL_SIZE * 4, managed, sizeof managed);
+    table_must_have(AT_RANGES, ranges, sizeof ranges);
 }
 
 /* ---- As long as a list can be ---- */
@@ -339,9 +339,9 @@ static void mixed_stay(unsigned place)
             managed[mixed(i)] = 1;
         else
             ranges++;
-    table_must_have(2, &ranges, 1);
+    table_must_have(AT_RANGE_COUNT, &ranges, 1);
     for (unsigned level = 0; level < CS_LEVELS; level++)
-        table_must_have(13 + 2 * level, &managed[level], 1);
+        table_must_have(AT_LEVELS + LEVEL_SIZE * level + LEVEL_MANAGED, &managed[level], 1);
 }
 
 /* So many good records, and then nothing, a record broken off, or a refused one
@@ -447,7 +447,8 @@ static void boot_refused_unformed(void)
 
 void boot_unformed(void)
 {
-    static const size_t lengths[] = {0, 1, 8191, 8193, 8192 + 65536};
+    static const size_t lengths[] = {0, 1, CS_TABLE_SIZE - 1, CS_TABLE_SIZE + 1,
+                                     CS_TABLE_SIZE + 65536};
     static uint8_t bytes[MOST_LENT];
     struct model m;
     model_fresh(&m, 8);

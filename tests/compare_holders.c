@@ -242,9 +242,9 @@ static void removed_unless(bool in_use, uint32_t base, uint32_t count)
 
 /* A grant at 6F8 that decodes ten lines answers at 2F8 too; its own ports hold
    6F8 alone. K2: "Remove is IN_USE if a live grant holds or is repeated at any port
-   of the range." At nine lines or fewer an image is below 2F8 and another between
-   300 and 6F7; at fifteen or fewer one is above 6FF. */
-void images_hold_nothing(void)
+   of the range." At nine lines or fewer there are aliases below 2F8 and between
+   300 and 6F7; at fifteen or fewer there are some above 6FF. */
+void aliases_hold_nothing(void)
 {
     for (uint8_t lines = 4; lines <= 16; lines++) {
         struct model m;

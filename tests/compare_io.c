@@ -1,5 +1,6 @@
 #include "check.h"
 #include "compare.h"
+#include "layout.h"
 #include "resources.h"
 #include "sockets.h"
 
@@ -333,21 +334,21 @@ void io_2f8_and_6f8(void)
         }
 }
 
-/* 1340 to 1347 are held. What is asked for begins so far from 1340, or from one
-   of its images, which come every two to the smaller count of lines: those at both
-   ends of the ports. */
+/* 1340 to 1347 are held. What is asked for begins so far from 1340, or from one of
+   its aliases. These come every two to the smaller count of lines; those at both ends
+   of the ports are tried. */
 static void ask_near(uint8_t held, uint8_t asked, uint8_t count, int from)
 {
     unsigned smaller = held < asked ? held : asked;
-    for (uint32_t image = 0x1340 % (1u << smaller); image <= 0xFF00; image += 1u << smaller) {
-        if (image > 0x2000 && image < 0xE000)
+    for (uint32_t alias = 0x1340 % (1u << smaller); alias <= 0xFF00; alias += 1u << smaller) {
+        if (alias > 0x2000 && alias < 0xE000)
             continue;
-        met_by_lines(ports(0x1340, 8, held), ports((uint16_t)((int)image + from), count, asked),
+        met_by_lines(ports(0x1340, 8, held), ports((uint16_t)((int)alias + from), count, asked),
                      from < 8 && from + count > 0);
     }
 }
 
-void io_images(void)
+void io_aliases(void)
 {
     static const uint8_t lines[] = {9, 10, 12, 16}, counts[] = {1, 2, 8, 9, 255};
     static const int before[] = {-2, -1, 0, 1}, after[] = {6, 7, 8, 9};
@@ -434,7 +435,7 @@ static void n8(void)
     io_granted(1, 0, 0x300, 8, ALONE, 16);
     must_be(ask_call(CS_REQUEST_IO, 1, asked, sizeof asked), CS_SUCCESS, 1);
     packet_must_be(left, sizeof left);
-    table_must_have(45, both, sizeof both);
+    table_must_have(AT_IO, both, sizeof both);
 }
 
 /* "302 to 30C managed: base 0, 5 ports, 16 lines gives 308." */
@@ -447,7 +448,7 @@ static void n9(void)
     must_be(add_range(SHORT, 0x302, 11), CS_SUCCESS, GIVEN);
     must_be(ask_call(CS_REQUEST_IO, 1, asked, sizeof asked), CS_SUCCESS, 1);
     packet_must_be(left, sizeof left);
-    table_must_have(45, grant, sizeof grant);
+    table_must_have(AT_IO, grant, sizeof grant);
 }
 
 void io_cases(void)

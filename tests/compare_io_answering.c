@@ -11,7 +11,7 @@
    is IN_USE if a live grant holds or is repeated at any port of the range. The order
    by reserve looks at the range's own ports alone." */
 
-/* ---- One port at the edge of an image ---- */
+/* ---- One port at the edge of a block of aliases ---- */
 
 struct card {
     uint16_t base;
@@ -30,8 +30,8 @@ static const struct card aligned[] = {
 };
 enum { ALIGNED = sizeof aligned / sizeof *aligned };
 
-/* The same where the ports lie on both sides of a multiple of two to the lines: their
-   images begin before port 0, or end past FFFF, and are cut there. */
+/* The same where the ports lie on both sides of a multiple of two to the lines. A block
+   of their aliases would begin before port 0 or end past FFFF: it is cut there. */
 static const struct card around[] = {
     {0x7FFE, 4, 15}, {0x7F81, 255, 15}, {0x3FE, 8, 10}, {0x7FF, 2, 10},
     {0xFBFC, 8, 10}, {0xFFF, 2, 12},    {0x1FF, 2, 9},  {0xFD80, 255, 9},
@@ -39,7 +39,9 @@ static const struct card around[] = {
 };
 enum { AROUND = sizeof around / sizeof *around };
 
-/* A port of an image or one beside it; the card answers there or not. */
+/* A card answers in blocks of ports: its own, and as many aliases every two to the lines
+   below and above. An edge is the first or last port of a block, where the card answers,
+   or the port beside it, where it does not. */
 struct edge {
     const struct card *card;
     uint32_t port;
@@ -47,8 +49,8 @@ struct edge {
 };
 typedef void on_edge(const struct edge *e);
 
-/* The image of a card's ports that begins here, perhaps before 0. */
-static void edges_of_image(const struct card *card, int32_t start, on_edge *try)
+/* The block that begins here, perhaps before 0. */
+static void edges_of_block(const struct card *card, int32_t start, on_edge *try)
 {
     int32_t end = start + card->count;
     struct edge first = {card, (uint32_t)(start < 0 ? 0 : start), true};
@@ -62,7 +64,8 @@ static void edges_of_image(const struct card *card, int32_t start, on_edge *try)
         try(&after);
 }
 
-/* The lowest two images, the two around the ports themselves, the highest two. */
+/* The lowest two blocks, the card's own ports and the blocks beside them, the highest
+   two. */
 static void edges_of_card(const struct card *card, on_edge *try)
 {
     int32_t modulus = 1 << card->lines, lowest = card->base % modulus, highest;
@@ -74,7 +77,7 @@ static void edges_of_card(const struct card *card, on_edge *try)
     for (int32_t start = lowest; start <= highest; start += modulus)
         if (start <= lowest + modulus || start >= highest - modulus ||
             (start >= card->base - modulus && start <= card->base + modulus))
-            edges_of_image(card, start, try);
+            edges_of_block(card, start, try);
 }
 
 static void on_all_edges(on_edge *try)
@@ -239,25 +242,25 @@ static const struct {
     uint8_t count, lines;
     uint16_t base;
 } choices[] = {
-    {"its own ports are unreserved, its image is reserved",
+    {"its own ports are unreserved, their aliases are reserved",
      {{0x100, 8, true}, {0x8100, 8, false}}, 8, 15, 0x8100},
     {"the other way round",
      {{0x100, 8, false}, {0x8100, 8, true}}, 8, 15, 0x100},
     {"all reserved: the lowest",
      {{0x100, 8, true}, {0x8100, 8, true}}, 8, 15, 0x100},
-    {"every port below 400 is reserved, and an image of each above",
+    {"every port below 400 is reserved, and has an alias above",
      {{0, 0x400, true}, {0x400, 0xFC00, false}}, 8, 10, 0x400},
-    {"an image lacks its first port: the next one",
+    {"the first port's alias is missing: the next one",
      {{0x100, 8, false}, {0x200, 8, false}, {0x8101, 7, false}, {0x8200, 8, false}}, 8, 15, 0x200},
-    {"an image lacks its last port: the next one",
+    {"the last port's alias is missing: the next one",
      {{0x100, 8, false}, {0x200, 8, false}, {0x8100, 7, false}, {0x8200, 8, false}}, 8, 15, 0x200},
     {"the last port isn't asked for",
      {{0x100, 8, false}, {0x200, 8, false}, {0x8100, 7, false}, {0x8200, 8, false}}, 7, 15, 0x100},
-    {"the unreserved one lacks its image: a reserved one",
+    {"the unreserved one lacks its aliases: a reserved one",
      {{0x100, 8, false}, {0x200, 8, true}, {0x8200, 8, true}}, 8, 15, 0x200},
-    {"an image above is missing", {{0x100, 8, false}}, 8, 15, 0},
-    {"an image below is missing", {{0x8100, 8, false}}, 8, 15, 0},
-    {"two ranges make an image",
+    {"the aliases above are missing", {{0x100, 8, false}}, 8, 15, 0},
+    {"the aliases below are missing", {{0x8100, 8, false}}, 8, 15, 0},
+    {"the aliases lie in two ranges",
      {{0x100, 8, false}, {0x8100, 3, false}, {0x8103, 5, true}}, 8, 15, 0x100},
     {"port 0 is missing, of every even port", {{1, 0xFFFF, false}}, 1, 1, 1},
     {"port FFFF is missing, of every odd port", {{0, 0xFFFF, false}}, 1, 1, 2},
@@ -273,7 +276,7 @@ static const struct {
 };
 /* clang-format on */
 
-void io_choice_by_images(void)
+void io_choice_by_aliases(void)
 {
     for (size_t i = 0; i < sizeof choices / sizeof *choices; i++) {
         struct model m;
@@ -381,7 +384,7 @@ enum { WORLDS = 500, QUESTIONS = 40 };
 /* How often what was asked for came about, by cards of fewer than 16 lines. */
 static struct {
     unsigned long named, chosen; /* granted */
-    unsigned long by_images;     /* BAD_BASE: the ports themselves are managed */
+    unsigned long by_aliases;    /* BAD_BASE: the ports themselves are managed */
     unsigned long none;          /* IN_USE: no candidate */
     unsigned long kept;          /* Remove is IN_USE: no port of the range is held */
     unsigned long removed;       /* beside grants */
@@ -405,12 +408,12 @@ static bool some_held(const struct model *m, const struct range *r)
     return false;
 }
 
-/* Near an end of a range, or an image of that; or any managed port. */
+/* Near an end of a range, or an alias of that; or any managed port. */
 static uint16_t some_base(struct chance *c, const struct model *m, uint8_t lines, uint8_t count)
 {
     const struct range *r = &m->range[pick(c, m->ranges)];
-    uint32_t edge = one_in(c, 2) ? r->base : r->base + r->count, image = pick(c, 4) << lines;
-    uint32_t below = one_in(c, 2) ? count : 0, near = edge + image - below + pick(c, 3) - 1;
+    uint32_t edge = one_in(c, 2) ? r->base : r->base + r->count, above = pick(c, 4) << lines;
+    uint32_t below = one_in(c, 2) ? count : 0, near = edge + above - below + pick(c, 3) - 1;
     uint32_t base = one_in(c, 4) ? r->base + pick(c, r->count) : near;
     return (uint16_t)(base % CS_PORTS == 0 ? 1 : base);
 }
@@ -425,7 +428,7 @@ static void count_request(const struct model *before, const struct card *card, u
         return;
     }
     seen.named += code == CS_SUCCESS;
-    seen.by_images += code == CS_BAD_BASE && all_managed(before, card->base, card->count);
+    seen.by_aliases += code == CS_BAD_BASE && all_managed(before, card->base, card->count);
 }
 
 static void ask_for_ports(struct chance *c, uint8_t socket)
@@ -488,8 +491,8 @@ void io_answering_worlds(void)
     }
     must_hold("named ports were granted", seen.named >= 500);
     must_hold("ports were chosen", seen.chosen >= 500);
-    must_hold("managed ports were refused for their images", seen.by_images >= 500);
+    must_hold("managed ports were refused for their aliases", seen.by_aliases >= 500);
     must_hold("there was no candidate", seen.none >= 200);
-    must_hold("a range was kept for an image alone", seen.kept >= 200);
+    must_hold("a range was kept for an alias alone", seen.kept >= 200);
     must_hold("a range was removed", seen.removed >= 200);
 }

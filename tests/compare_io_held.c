@@ -1,5 +1,6 @@
 #include "check.h"
 #include "compare.h"
+#include "layout.h"
 #include "resources.h"
 #include "sets.h"
 #include "sockets.h"
@@ -248,7 +249,7 @@ static struct shown by(uint8_t attributes, uint16_t holder)
 }
 
 /* Remove, First and Next (35H) beside grants that calls made. A grant at ten lines
-   holds its own ports alone, and none of their images: 706 is one of 306. But it
+   holds its own ports alone, and none of their aliases: 706 is one of 306. But it
    keeps the ranges of both, and its card needs both. */
 void io_keeps_its_ranges(void)
 {
@@ -315,15 +316,21 @@ void io_holders_shown(void)
 
 /* ---- Bytes, from docs/LAYOUT.md ---- */
 
+/* The I/O grants of all sockets. */
+static void io_grants_are(const uint8_t by_hand[CS_SOCKETS][IO_SIZE])
+{
+    table_must_have(AT_IO, (const uint8_t *)by_hand, CS_SOCKETS * IO_SIZE);
+}
+
 /* The first and the last client, socket and port; bits 2 and 3 are in no byte. A
    refusal leaves every byte; what is compared with the model says so too. */
 void io_bytes(void)
 {
-    static const uint8_t none[88] = {0};
-    static const uint8_t last[88] = {[77] = 0xFF, 0xFF, 0xFF, 0xFF, 1, 12, 1};
-    static const uint8_t both[88] = {
-        1, 0, 1, 0, 255, 16, 0, [77] = 0xFF, 0xFF, 0xFF, 0xFF, 1, 12, 1};
-    static const uint8_t first[88] = {1, 0, 1, 0, 255, 16, 0};
+    static const uint8_t none[CS_SOCKETS][IO_SIZE] = {{0}};
+    static const uint8_t last[CS_SOCKETS][IO_SIZE] = {[7] = {0xFF, 0xFF, 0xFF, 0xFF, 1, 12, 1}};
+    static const uint8_t both[CS_SOCKETS][IO_SIZE] = {
+        [0] = {1, 0, 1, 0, 255, 16, 0}, [7] = {0xFF, 0xFF, 0xFF, 0xFF, 1, 12, 1}};
+    static const uint8_t first[CS_SOCKETS][IO_SIZE] = {[0] = {1, 0, 1, 0, 255, 16, 0}};
     static const uint8_t head[] = {8, 2, 1, 0xFF, 0xFF, 1, 1, 1, 1, 1, 1, 1, 1};
     static const uint8_t client[] = {0xFF, 0xFF, 4, 0, 0, 0}, range[] = {0, 0, 0, 0, 1, 0, 0};
     struct model m;
@@ -332,21 +339,21 @@ void io_bytes(void)
     m.issued = m.client[1].handle = 0xFFFF;
     lend_set(&m);
     must_be(add_range(LONG, 0, 65536), CS_SUCCESS, GIVEN);
-    table_must_have(45, none, 88);
+    io_grants_are(none);
     io_granted(0xFFFF, 7, 0xFFFF, 1, FIRST_SHARED | 12, 12);
-    table_must_have(45, last, 88);
+    io_grants_are(last);
     io_refused(1, 0, 0x0FFF, 1, ALONE, 16, CS_IN_USE);
     io_refused(1, 0, 0xFF02, 255, ALONE, 16, CS_BAD_BASE);
-    table_must_have(45, last, 88);
+    io_grants_are(last);
     io_granted(1, 0, 1, 255, ALONE | 12, 16);
-    table_must_have(45, both, 88);
-    table_must_have(0, head, sizeof head);
-    table_must_have(165 + 22, client, sizeof client);
-    table_must_have(517, range, sizeof range);
+    io_grants_are(both);
+    table_must_have(AT_SOCKETS, head, sizeof head);
+    table_must_have(AT_CLIENTS + CLIENT_SIZE, client, sizeof client);
+    table_must_have(AT_RANGES, range, sizeof range);
     io_released(0xFFFF, 7, 0xFFFF, 1);
-    table_must_have(45, first, 88);
+    io_grants_are(first);
     io_released(1, 0, 1, 255);
-    table_must_have(45, none, 88);
+    io_grants_are(none);
 }
 
 /* full_set's ranges 100, 140, 180 and 1C0 of 16 ports are held, their first eight

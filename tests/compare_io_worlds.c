@@ -6,7 +6,7 @@
 #include "sockets.h"
 
 /* RequestIO and ReleaseIO by chance. In a small world, of few ports and few lines,
-   most ranges are near each other or each other's images; in a large one counts
+   most ranges are near each other or each other's aliases; in a large one counts
    and lines are any. Grants are made by the calls themselves. A card of few lines
    answers at many ports: in most small worlds the ports beyond are managed too.
    compare_io_answering.c has more of such. */
@@ -96,14 +96,14 @@ static void count_request(const struct model *before, const struct io_grant *wis
     seen.by_lines += code == CS_IN_USE && !holds_one(before, wish);
 }
 
-/* Near a grant's base or an image of it, where there is a grant; else any port. */
+/* Near a grant's base or an alias of it, where there is a grant; else any port. */
 static uint32_t some_base(struct chance *c, const struct model *m, const struct world *w)
 {
     const struct io_grant *g = &m->io[pick(c, CS_SOCKETS)];
     if (!g->live || one_in(c, 3))
         return w->low + pick(c, w->ports + 2);
-    uint32_t image = g->base + (pick(c, 4) << g->lines);
-    return image + pick(c, 5) - 2;
+    uint32_t alias = g->base + (pick(c, 4) << g->lines);
+    return alias + pick(c, 5) - 2;
 }
 
 static uint8_t some_lines(struct chance *c, const struct world *w)

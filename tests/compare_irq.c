@@ -1,5 +1,6 @@
 #include "check.h"
 #include "compare.h"
+#include "layout.h"
 #include "resources.h"
 #include "sets.h"
 #include "sockets.h"
@@ -576,12 +577,18 @@ void irq_cases(void)
 
 /* ---- Bytes, from docs/LAYOUT.md ---- */
 
+/* The IRQ grants of all sockets. */
+static void irq_grants_are(const uint8_t by_hand[CS_SOCKETS][IRQ_SIZE])
+{
+    table_must_have(AT_IRQ, (const uint8_t *)by_hand, CS_SOCKETS * IRQ_SIZE);
+}
+
 /* A refusal leaves every byte; what is compared with the model says so too. */
 void irq_bytes(void)
 {
-    static const uint8_t before[32] = {0};
-    static const uint8_t one[32] = {[28] = 2, [30] = 15, [31] = 3};
-    static const uint8_t two[32] = {[0] = 1, [3] = 1, [28] = 2, [30] = 15, [31] = 3};
+    static const uint8_t before[CS_SOCKETS][IRQ_SIZE] = {{0}};
+    static const uint8_t one[CS_SOCKETS][IRQ_SIZE] = {[7] = {2, 0, 15, 3}};
+    static const uint8_t two[CS_SOCKETS][IRQ_SIZE] = {[0] = {1, 0, 0, 1}, [7] = {2, 0, 15, 3}};
     static const uint8_t head[] = {8, 2, 0, 2, 0}, levels[] = {1, 0}, reserved[] = {1, 1};
     lend_fresh(8);
     must_be(register_one(), CS_SUCCESS, 1);
@@ -590,20 +597,20 @@ void irq_bytes(void)
     must_be(adjust_irq(CS_ACTION_ADD, CS_RESERVE, 15), CS_SUCCESS, GIVEN);
     must_be(ask_card_in(0), CS_SUCCESS, 0);
     must_be(ask_card_in(7), CS_SUCCESS, 0);
-    table_must_have(133, before, 32);
+    irq_grants_are(before);
     pulse_granted(2, 7, 6, 0xCF, 0, 15);
-    table_must_have(133, one, 32);
+    irq_grants_are(one);
     irq_refused(1, 0, 0, 0x2F, 0, CS_BAD_IRQ);
-    table_must_have(133, one, 32);
+    irq_grants_are(one);
     irq_granted(1, 0, 1, 0x20, 0, 0);
-    table_must_have(133, two, 32);
-    table_must_have(0, head, sizeof head);
-    table_must_have(13, levels, sizeof levels);
-    table_must_have(43, reserved, sizeof reserved);
+    irq_grants_are(two);
+    table_must_have(AT_SOCKETS, head, sizeof head);
+    table_must_have(AT_LEVELS, levels, sizeof levels);
+    table_must_have(AT_LEVELS + LEVEL_SIZE * 15, reserved, sizeof reserved);
     must_be(release_irq(1, 0, 1, 0), CS_SUCCESS, 1);
-    table_must_have(133, one, 32);
+    irq_grants_are(one);
     must_be(release_irq(2, 7, 2, 15), CS_SUCCESS, 2);
-    table_must_have(133, before, 32);
+    irq_grants_are(before);
 }
 
 /* full_set's levels are shared by two sockets each, 0 to 3. Each grant is given

@@ -1,5 +1,6 @@
 #include "check.h"
 #include "compare.h"
+#include "layout.h"
 #include "sets.h"
 #include "sockets.h"
 
@@ -130,7 +131,7 @@ void masks_move(void)
 {
     static const uint8_t third[] = {3, 0, 4, 0, 0x80, 0, 0, 0, 0x55, 0x15, 0,
                                     0, 0, 0, 0, 0,    0, 0, 0, 0,    0xFF, 0x1F};
-    static const uint8_t none[22] = {0};
+    static const uint8_t none[CLIENT_SIZE] = {0};
     lend_fresh(8);
     for (uint16_t client = 1; client <= 3; client++)
         must_be(register_one(), CS_SUCCESS, client);
@@ -139,13 +140,13 @@ void masks_move(void)
     must_be(request_mask(3, 1, 0x0555), CS_SUCCESS, 3);
     must_be(request_mask(3, 7, 0x0FFF), CS_SUCCESS, 3);
     must_be(request_mask(1, 1, 0x0AAA), CS_SUCCESS, 1);
-    table_must_have(165 + 2 * 22, third, sizeof third);
+    table_must_have(AT_CLIENTS + CLIENT_SIZE * 2, third, sizeof third);
     must_be(deregister(2), CS_SUCCESS, 2);
-    table_must_have(165 + 22, third, sizeof third);
-    table_must_have(165 + 2 * 22, none, sizeof none);
+    table_must_have(AT_CLIENTS + CLIENT_SIZE, third, sizeof third);
+    table_must_have(AT_CLIENTS + CLIENT_SIZE * 2, none, sizeof none);
     must_be(release_mask(1, 1), CS_SUCCESS, 1);
     must_be(deregister(1), CS_SUCCESS, 1);
-    table_must_have(165, third, sizeof third);
+    table_must_have(AT_CLIENTS, third, sizeof third);
     must_be(request_mask(3, 1, 0), CS_IN_USE, 0);
     must_be(release_mask(3, 1), CS_SUCCESS, 3);
     must_be(release_mask(3, 7), CS_SUCCESS, 3);

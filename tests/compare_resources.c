@@ -1,5 +1,6 @@
 #include "check.h"
 #include "compare.h"
+#include "layout.h"
 #include "resources.h"
 #include "sets.h"
 
@@ -589,8 +590,8 @@ void resource_cases(void)
     }
 }
 
-/* Bytes by docs/LAYOUT.md: marks of levels from 13 on, the number of ranges at 2,
-   ranges of 7 bytes from 517 on, in order of base. */
+/* Bytes by docs/LAYOUT.md: the number of ranges, ranges in order of base, and the
+   marks of levels. */
 void resource_bytes(void)
 {
     static const uint8_t two[] = {2}, one[] = {1}, managed[] = {1, 0}, reserved[] = {1, 1},
@@ -600,19 +601,19 @@ void resource_bytes(void)
     lend_fresh(1);
     must_be(adjust_io(LONG, CS_ACTION_ADD, 0x300, 16, CS_RESERVE, 16), CS_SUCCESS, GIVEN);
     must_be(add_range(SHORT, 0x2F8, 8), CS_SUCCESS, GIVEN);
-    table_must_have(2, two, sizeof two);
-    table_must_have(517, ranges, sizeof ranges);
+    table_must_have(AT_RANGE_COUNT, two, sizeof two);
+    table_must_have(AT_RANGES, ranges, sizeof ranges);
     must_be(add_level(0), CS_SUCCESS, GIVEN);
     must_be(adjust_irq(CS_ACTION_ADD, CS_RESERVE, 15), CS_SUCCESS, GIVEN);
-    table_must_have(13, managed, 2);
-    table_must_have(43, reserved, 2);
+    table_must_have(AT_LEVELS, managed, sizeof managed);
+    table_must_have(AT_LEVELS + LEVEL_SIZE * 15, reserved, sizeof reserved);
     must_be(remove_level(15), CS_SUCCESS, GIVEN);
-    table_must_have(43, neither, 2);
+    table_must_have(AT_LEVELS + LEVEL_SIZE * 15, neither, sizeof neither);
     must_be(remove_range(SHORT, 0x2F8, 8), CS_SUCCESS, GIVEN);
     must_be(remove_range(SHORT, 0x300, 16), CS_SUCCESS, GIVEN);
     must_be(adjust_io(LONG, CS_ACTION_ADD, 0, 65536, CS_RESERVE, 16), CS_SUCCESS, GIVEN);
-    table_must_have(2, one, sizeof one);
-    table_must_have(517, whole, sizeof whole);
+    table_must_have(AT_RANGE_COUNT, one, sizeof one);
+    table_must_have(AT_RANGES, whole, sizeof whole);
 }
 
 /* Clients, cards and sharers beside what is managed. */

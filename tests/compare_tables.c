@@ -380,7 +380,7 @@ static struct io_grant some_ports(struct chance *c, uint32_t most)
     return ports(0, count, lines);
 }
 
-/* Two I/O grants near each other or near an image of each other. */
+/* Two I/O grants near each other or near an alias of each other. */
 void meeting_grants(void)
 {
     struct chance c = {13};
@@ -389,9 +389,9 @@ void meeting_grants(void)
         struct io_grant a = some_ports(&c, 255), b = some_ports(&c, one_in(&c, 2) ? 8 : 255);
         unsigned smaller = a.lines < b.lines ? a.lines : b.lines;
         a.base = (uint16_t)(1 + pick(&c, CS_PORTS - 256));
-        uint32_t image = a.base + (pick(&c, CS_PORTS) << smaller);
+        uint32_t alias = a.base + (pick(&c, CS_PORTS) << smaller);
         uint32_t beside = one_in(&c, 2) ? a.count : 0u - b.count;
-        b.base = (uint16_t)(image + beside + pick(&c, 5) - 2);
+        b.base = (uint16_t)(alias + beside + pick(&c, 5) - 2);
         a.shared = one_in(&c, 3);
         b.shared = one_in(&c, 3);
         m.io[0] = a;

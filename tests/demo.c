@@ -3,7 +3,7 @@
  *
  * A table of two sockets, the levels and ports that it manages, two cards and
  * clients that come and go; then four lessons: a handle is not a slot, a refusal
- * tidies nothing, a card answers at more ports than it is given, ports whose
+ * changes nothing, a card answers at more ports than it is given, ports whose
  * numbers differ can still be the same port.
  */
 #include <stdbool.h>
@@ -219,9 +219,9 @@ static void a_handle_is_not_a_slot(void)
 /* Level 5 is reserved, so both clients get level 3, and share it. Refused on the
    way: a client of two types, a shared level for one alone, an interrupt of no
    type, and that a client leaves while it holds something. */
-static void a_refusal_tidies_nothing(void)
+static void a_refusal_changes_nothing(void)
 {
-    puts("\nA refusal tidies nothing: table and packet keep every byte.");
+    puts("\nA refusal changes nothing: table and packet keep every byte.");
     register_client(CS_IO_CLIENT | CS_MEMORY_CLIENT);
     request_irq(2, 0, CS_IRQ_DYNAMIC, LEVEL_3 | LEVEL_5);
     request_irq(3, 1, CS_IRQ_EXCLUSIVE, LEVEL_3);
@@ -283,7 +283,7 @@ int main(void)
     tell_code("Card in, socket 1", cs_card_in(table, sizeof table, 1));
     tell_code("Card in, socket 2", cs_card_in(table, sizeof table, 2));
     a_handle_is_not_a_slot();
-    a_refusal_tidies_nothing();
+    a_refusal_changes_nothing();
     more_ports_than_given();
     the_same_port();
     a_card_goes();

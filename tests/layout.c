@@ -59,7 +59,7 @@ static void put_client(uint8_t *at, const struct client *c)
     put_word(at + CLIENT_EVENTS, c->event_mask);
     for (unsigned s = 0; s < CS_SOCKETS; s++)
         if (c->masks[s].held)
-            put_word(at + CLIENT_MASKS + 2 * s, MASK_HELD + c->masks[s].events);
+            put_word(at + CLIENT_MASKS + MASK_SIZE * s, MASK_HELD + c->masks[s].events);
 }
 
 static void put_range(uint8_t *at, const struct range *r)
@@ -154,7 +154,7 @@ static struct client get_client(const uint8_t *at)
         .event_mask = word(at + CLIENT_EVENTS),
     };
     for (unsigned s = 0; s < CS_SOCKETS; s++)
-        c.masks[s] = get_mask(at + CLIENT_MASKS + 2 * s);
+        c.masks[s] = get_mask(at + CLIENT_MASKS + MASK_SIZE * s);
     return c;
 }
 

@@ -32,8 +32,8 @@ enum { CLIENT_HANDLE = 0, CLIENT_ATTRIBUTES = 2, CLIENT_EVENTS = 4, CLIENT_MASKS
 enum { CLIENT_SIZE = 22 };
 enum { RANGE_BASE = 0, RANGE_COUNT = 2, RANGE_RESERVED = 6, RANGE_SIZE = 7 };
 
-/* A mask's word: 0 for none, else this plus its events. */
-enum { MASK_HELD = 4096 };
+/* A mask in a client's record is a word: 0 for none, else MASK_HELD plus its events. */
+enum { MASK_SIZE = 2, MASK_HELD = 4096 };
 
 /* The image of a set within the limits; the set need not be well formed. */
 void model_image(const struct model *m, uint8_t out[CS_TABLE_SIZE]);

@@ -144,12 +144,13 @@ static bool ports_managed(const struct model *m, uint32_t base, uint32_t count, 
 }
 
 /* A card answers at "each port that equals a granted one modulo two to the lines"
-   (K2): at the granted ports and at their images, as many ports that begin two to the
-   lines lower or higher, and so on. The lowest image may begin before 0, the highest
-   end past FFFF: there are no such ports. With 16 lines the granted ports are all.
-   Of the image that begins here, whether all ports are managed, and whether one is in
-   this range. */
-static bool image_managed(const struct model *m, const struct io_grant *g, int32_t start)
+   (K2): at the granted ports and at their aliases. These lie in blocks of as many ports
+   as were granted; each block begins two to the lines after the one before. The lowest
+   may begin before 0, the highest may end past FFFF: there are no such ports. With 16
+   lines the granted ports are the only block.
+   Of the block that begins here: are all its ports managed, and is one of them in this
+   range? */
+static bool block_managed(const struct model *m, const struct io_grant *g, int32_t start)
 {
     bool unreserved;
     int32_t end = start + g->count < CS_PORTS ? start + g->count : CS_PORTS;
@@ -158,21 +159,21 @@ static bool image_managed(const struct model *m, const struct io_grant *g, int32
     return end <= start || ports_managed(m, (uint32_t)start, (uint32_t)(end - start), &unreserved);
 }
 
-static bool image_in(const struct io_grant *g, int32_t start, const struct range *r)
+static bool block_in(const struct io_grant *g, int32_t start, const struct range *r)
 {
     return start < (int32_t)(r->base + r->count) && (int32_t)r->base < start + g->count;
 }
 
-/* K2: each such port "must be managed too". Most images are within the range in which
+/* K2: each such port "must be managed too". Most blocks are within the range in which
    the one before begins. */
-static bool images_managed(const struct model *m, const struct io_grant *g)
+static bool answering_managed(const struct model *m, const struct io_grant *g)
 {
     const struct range *r = NULL;
     int32_t modulus = (int32_t)1 << g->lines;
     for (int32_t start = g->base % modulus - modulus; start < CS_PORTS; start += modulus) {
         if (r != NULL && start + g->count <= (int32_t)(r->base + r->count))
             continue;
-        if (!image_managed(m, g, start))
+        if (!block_managed(m, g, start))
             return false;
         r = start < 0 ? NULL : range_of(m, (uint32_t)start);
     }
@@ -184,7 +185,7 @@ static bool answers_in(const struct io_grant *g, const struct range *r)
 {
     int32_t modulus = (int32_t)1 << g->lines;
     for (int32_t start = g->base % modulus - modulus; start < CS_PORTS; start += modulus)
-        if (image_in(g, start, r))
+        if (block_in(g, start, r))
             return true;
     return false;
 }
@@ -232,7 +233,7 @@ static uint32_t next_multiple(const struct model *m, uint32_t from, uint32_t ste
 static bool is_fit(const struct model *m, const struct io_grant *wish, bool unfit[CS_PORTS])
 {
     bool *mark = &unfit[wish->base % ((uint32_t)1 << wish->lines)];
-    *mark = *mark || in_the_way(m, wish, true) || !images_managed(m, wish);
+    *mark = *mark || in_the_way(m, wish, true) || !answering_managed(m, wish);
     return !*mark;
 }
 
@@ -289,7 +290,7 @@ static uint32_t place_io(const struct model *m, struct io_grant *wish, bool firs
         wish->base = (uint16_t)base;
         return base == 0 ? CS_IN_USE : CS_SUCCESS;
     }
-    if (base + wish->count > CS_PORTS || !images_managed(m, wish))
+    if (base + wish->count > CS_PORTS || !answering_managed(m, wish))
         return CS_BAD_BASE;
     return in_the_way(m, wish, first_shared) ? CS_IN_USE : CS_SUCCESS;
 }
@@ -1003,7 +1004,7 @@ static bool io_grant_good(const struct model *m, unsigned socket)
     const struct io_grant *g = &m->io[socket];
     return socket < m->sockets && is_live(m, g->client) && g->base >= 1 &&
            lines_allowed(g->lines) && count_allowed(g->count, g->lines) &&
-           (uint32_t)g->base + g->count <= CS_PORTS && images_managed(m, g);
+           (uint32_t)g->base + g->count <= CS_PORTS && answering_managed(m, g);
 }
 
 /* "grants meet only as demand 3 allows": both share. */

@@ -36,7 +36,7 @@ static const struct {
     {0x6F8, 8, 16, 0x700, false},
     {0xFFF8, 8, 16, 0, false},
     {0xFFF8, 8, 16, 0xFFFF, true},
-    /* 15 lines: one image, 8000 above or below. */
+    /* 15 lines: each port has one alias, 8000 above or below. */
     {0x6F8, 8, 15, NO_GAP, false},
     {0x6F8, 8, 15, 0x86F7, false},
     {0x6F8, 8, 15, 0x86F8, true},
@@ -75,7 +75,7 @@ static const struct {
     {0xFFFF, 1, 10, 0, false},
     {0xFFFF, 1, 10, 0x3FF, true},
     /* Ports on both sides of 400: 0 to 5, 3FE to 405 and on, FBFE to FC05, FFFE and
-       FFFF, where the last image is cut. */
+       FFFF, where the last block of aliases is cut. */
     {0x3FE, 8, 10, NO_GAP, false},
     {0x3FE, 8, 10, 0, true},
     {0x3FE, 8, 10, 5, true},
@@ -160,28 +160,28 @@ static const struct {
     uint8_t count, lines;
     uint16_t base;
 } choices[] = {
-    {"a reserved image makes no difference",
+    {"reserved aliases make no difference",
      {{0x100, 8, true}, {0x8100, 8, false}}, 8, 15, 0x8100},
-    {"nor an unreserved one",
+    {"nor unreserved ones",
      {{0x100, 8, false}, {0x8100, 8, true}}, 8, 15, 0x100},
     {"both reserved, the lowest",
      {{0x100, 8, true}, {0x8100, 8, true}}, 8, 15, 0x100},
-    {"images below are reserved, at 10 lines",
+    {"aliases below are reserved, at 10 lines",
      {{0, 0x400, true}, {0x400, 0xFC00, false}}, 8, 10, 0x400},
-    {"the first port of an image is missing",
+    {"the first port's alias is missing",
      {{0x100, 8, false}, {0x200, 8, false}, {0x8101, 7, false}, {0x8200, 8, false}}, 8, 15, 0x200},
-    {"the last one",
+    {"the last port's",
      {{0x100, 8, false}, {0x200, 8, false}, {0x8100, 7, false}, {0x8200, 8, false}}, 8, 15, 0x200},
-    {"a reserved one, if the unreserved one's image is missing",
+    {"a reserved one, if the unreserved one's aliases are missing",
      {{0x100, 8, false}, {0x200, 8, true}, {0x8200, 8, true}}, 8, 15, 0x200},
     {"no candidate", {{0x100, 8, false}, {0x8100, 7, false}}, 8, 15, 0},
     {"one port fewer", {{0x100, 8, false}, {0x8100, 7, false}}, 7, 15, 0x100},
-    {"the image below is missing", {{0x8100, 8, false}}, 8, 15, 0},
+    {"the aliases below are missing", {{0x8100, 8, false}}, 8, 15, 0},
     {"the same at 16 lines", {{0x8100, 8, false}}, 8, 16, 0x8100},
     {"port 0 is missing", {{1, 0xFFFF, false}}, 1, 10, 1},
-    {"and is an image of every second port", {{1, 0xFFFF, false}}, 1, 1, 1},
+    {"and is an alias of every second port", {{1, 0xFFFF, false}}, 1, 1, 1},
     {"port FFFF is missing", {{0, 0xFFFF, false}}, 1, 1, 2},
-    {"and is an image of one of any two", {{0, 0xFFFF, false}}, 2, 1, 0},
+    {"and is an alias of one of any two", {{0, 0xFFFF, false}}, 2, 1, 0},
     {"of one of any four", {{0, 0xFFFF, false}}, 4, 2, 0},
     {"and not of the first three", {{0, 0xFFFF, false}}, 3, 2, 4},
     {"2F8 is missing, at 9 lines", {{0, 0x2F8, false}, {0x2F9, 0xFD07, false}}, 255, 9, 0x100},
@@ -190,7 +190,7 @@ static const struct {
 };
 /* clang-format on */
 
-static void choice_by_images(void)
+static void choice_by_aliases(void)
 {
     for (size_t i = 0; i < sizeof choices / sizeof *choices; i++) {
         struct model m;
@@ -215,7 +215,7 @@ static void given_6f8(void)
     add_io(&m, 0x6F8, 8);
     expect_code("6F8 alone", request_io_code(&m, 0, 0x6F8, 8, 0, 10), CS_BAD_BASE);
     long_io(&m, CS_ACTION_ADD, 0x700, 0xF900);
-    expect_code("all images but 2F8", request_io_code(&m, 0, 0x6F8, 8, 0, 10), CS_BAD_BASE);
+    expect_code("all aliases but 2F8", request_io_code(&m, 0, 0x6F8, 8, 0, 10), CS_BAD_BASE);
     expect_code("any base", request_io_code(&m, 0, 0, 8, 0, 10), CS_IN_USE);
     expect_code("16 lines", request_io_code(&m, 1, 0x6F8, 8, 0, 16), CS_SUCCESS);
     expect_code("held too", request_io_code(&m, 0, 0x6F8, 8, 0, 10), CS_BAD_BASE);
@@ -241,9 +241,9 @@ static bool shown_free(struct model *m, uint16_t above)
 }
 
 /* "Remove is IN_USE if a live grant holds or is repeated at any port of the range."
-   6F8 is held at ten lines: 2F8 and AF8 are images, and none is below 2F8 or
+   6F8 is held at ten lines: 2F8 and AF8 are aliases, and none is below 2F8 or
    between 300 and 6F7. */
-static void removed_beside_images(void)
+static void removed_beside_aliases(void)
 {
     struct model m;
     ready(&m);
@@ -259,18 +259,18 @@ static void removed_beside_images(void)
     expect("2FF is shown free", shown_free(&m, 0x2FE));
     expect("6F8 is not", !shown_free(&m, 0x300));
     expect("700 is shown free", shown_free(&m, 0x6F8));
-    expect_code("an image's first", long_io(&m, CS_ACTION_REMOVE, 0x2F8, 1), CS_IN_USE);
-    expect_code("its middle", long_io(&m, CS_ACTION_REMOVE, 0x2F9, 6), CS_IN_USE);
-    expect_code("its last", long_io(&m, CS_ACTION_REMOVE, 0x2FF, 1), CS_IN_USE);
+    expect_code("the first alias", long_io(&m, CS_ACTION_REMOVE, 0x2F8, 1), CS_IN_USE);
+    expect_code("those between", long_io(&m, CS_ACTION_REMOVE, 0x2F9, 6), CS_IN_USE);
+    expect_code("the last one", long_io(&m, CS_ACTION_REMOVE, 0x2FF, 1), CS_IN_USE);
     expect_code("the held one", long_io(&m, CS_ACTION_REMOVE, 0x6F8, 8), CS_IN_USE);
-    expect_code("images above", long_io(&m, CS_ACTION_REMOVE, 0x700, 0xF900), CS_IN_USE);
+    expect_code("aliases above", long_io(&m, CS_ACTION_REMOVE, 0x700, 0xF900), CS_IN_USE);
     expect_code("no such range", long_io(&m, CS_ACTION_REMOVE, 0x2F8, 8), CS_BAD_BASE);
-    expect_code("below all images", long_io(&m, CS_ACTION_REMOVE, 1, 0x2F7), CS_SUCCESS);
+    expect_code("below all aliases", long_io(&m, CS_ACTION_REMOVE, 1, 0x2F7), CS_SUCCESS);
     expect_code("between two", long_io(&m, CS_ACTION_REMOVE, 0x300, 0x3F8), CS_SUCCESS);
     expect("still a table", well_formed(&m));
     release_io_code(&m, 0, 0x6F8, 8);
-    expect_code("an image then", long_io(&m, CS_ACTION_REMOVE, 0x2F8, 1), CS_SUCCESS);
-    expect_code("images above then", long_io(&m, CS_ACTION_REMOVE, 0x700, 0xF900), CS_SUCCESS);
+    expect_code("an alias then", long_io(&m, CS_ACTION_REMOVE, 0x2F8, 1), CS_SUCCESS);
+    expect_code("aliases above then", long_io(&m, CS_ACTION_REMOVE, 0x700, 0xF900), CS_SUCCESS);
 }
 
 /* ---- By its letter ---- */
@@ -356,8 +356,8 @@ static void answering_by_letter(void)
 void answering_cases(void)
 {
     one_port_missing();
-    choice_by_images();
+    choice_by_aliases();
     given_6f8();
-    removed_beside_images();
+    removed_beside_aliases();
     answering_by_letter();
 }

@@ -810,9 +810,9 @@ int main(void)
     boot_codes();
     boot_places();
     range_limit();
-    io_cases();
-    answering_cases();
-    log_cases();
+#define CASES(function) function();
+    OTHER_CASES(CASES)
+#undef CASES
     runs();
     printf("model_cases: %lu checks, %lu differ\n", checks, failed);
     return failed == 0 ? 0 : 1;

@@ -29,13 +29,15 @@ uint32_t request_io_base(struct model *m, uint8_t socket, uint16_t base, uint8_t
                          uint8_t attributes, uint8_t lines, uint16_t *given);
 uint32_t release_io_code(struct model *m, uint8_t socket, uint16_t base, uint8_t ports);
 
-/* model_io_cases.c: ports, RequestIO and ReleaseIO */
-void io_cases(void);
+/* The cases of the other files, in the order in which they run. A row makes the
+   prototype below and the call in model_cases.c. */
+#define OTHER_CASES(CASES)                                                                         \
+    CASES(io_cases)        /* model_io_cases.c: ports, RequestIO and ReleaseIO */                  \
+    CASES(answering_cases) /* model_answering_cases.c: K2, the ports at which a card answers */    \
+    CASES(log_cases)       /* log_cases.c: what stands after a log, which log.c works out */
 
-/* model_answering_cases.c: K2, the ports at which a card answers */
-void answering_cases(void);
-
-/* log_cases.c: what stands after a log, which log.c works out */
-void log_cases(void);
+#define CASES(function) void function(void);
+OTHER_CASES(CASES)
+#undef CASES
 
 #endif

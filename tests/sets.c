@@ -420,8 +420,8 @@ static void release_irq_packet(struct chance *c, const struct model *m, struct r
     r->handle = one_in(c, 4) || !g->live ? r->handle : g->client;
 }
 
-/* A managed port, a granted one or an image of it, one near the image of a range's
-   end, or another. */
+/* A managed port, a granted one or an alias of it, one near an alias of a range's end,
+   or another. */
 static uint32_t some_base(struct chance *c, const struct model *m, uint8_t lines)
 {
     const struct io_grant *g = &m->io[pick(c, CS_SOCKETS)];

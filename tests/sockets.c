@@ -1,5 +1,7 @@
 #include "sockets.h"
 
+#include "layout.h"
+
 void ready_set(struct model *m, uint16_t managed, uint16_t reserved)
 {
     model_fresh(m, CS_SOCKETS);
@@ -127,7 +129,7 @@ uint8_t first_level(uint16_t levels, uint16_t reserved)
 void irq_grant_bytes(unsigned socket, uint16_t client, uint8_t level, uint8_t manner)
 {
     uint8_t by_hand[] = {(uint8_t)client, (uint8_t)(client >> 8), level, manner};
-    table_must_have(133 + 4 * socket, by_hand, sizeof by_hand);
+    table_must_have(AT_IRQ + IRQ_SIZE * socket, by_hand, sizeof by_hand);
 }
 
 void no_irq_grant_bytes(unsigned socket)
@@ -216,10 +218,10 @@ void io_not_released(uint16_t client, uint8_t socket, uint16_t base, uint8_t cou
 void io_grant_bytes(unsigned socket, uint16_t client, uint16_t base, uint8_t count, uint8_t lines,
                     bool shared)
 {
-    uint8_t by_hand[11] = {
+    uint8_t by_hand[IO_SIZE] = {
         (uint8_t)client, (uint8_t)(client >> 8), (uint8_t)base, (uint8_t)(base >> 8), count, lines,
         shared};
-    table_must_have(45 + 11 * socket, by_hand, sizeof by_hand);
+    table_must_have(AT_IO + IO_SIZE * socket, by_hand, sizeof by_hand);
 }
 
 void no_io_grant_bytes(unsigned socket)
@@ -245,5 +247,6 @@ uint32_t release_mask(uint16_t client, uint8_t socket)
 void mask_bytes(unsigned place, unsigned socket, uint16_t word)
 {
     uint8_t by_hand[] = {(uint8_t)word, (uint8_t)(word >> 8)};
-    table_must_have(165 + 22 * place + 6 + 2 * socket, by_hand, sizeof by_hand);
+    table_must_have(AT_CLIENTS + CLIENT_SIZE * place + CLIENT_MASKS + MASK_SIZE * socket, by_hand,
+                    sizeof by_hand);
 }
