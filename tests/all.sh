@@ -16,9 +16,10 @@ trap 'rm -rf "$held"' EXIT
     echo "$proved" >"$held/status"
 } | awk -v count="$held/count" 'NR > 1 { print line; fflush() } { line = $0 } END { print line >count }'
 count=$(cat "$held/count")
+proved=$(cat "$held/status")
 
-if [ "$(cat "$held/status")" -ne 0 ] || ! echo "$count" | grep -qE '^[0-9]+ passed, 0 failed$'; then
-    echo "all: rt ci failed: $count"
+if [ "$proved" -ne 0 ] || ! echo "$count" | grep -qE '^[0-9]+ passed, 0 failed$'; then
+    echo "all: rt ci failed with status $proved; its last line was '$count'"
     exit 1
 fi
 
