@@ -22,49 +22,49 @@ abbrev packet : tie.After-byte → List ℕ
 packet c = now (start c .args .p)
 
 -- from where it looks
-looks : (c : tie.After-from) → FromIs (actionOf (packet (c .before))) (levelGiven (packet (c .before))) (c .from .result)
-looks c =
+from-given : (c : tie.After-from) → FromIs (actionOf (packet (c .before))) (levelGiven (packet (c .before))) (c .from .result)
+from-given c =
     subst₂ (λ (x y : ℕ). FromIs x y (c .from .result)) (start (c .before) .pre .2 .action-is) (c .before .byte .ensures .0) (c .from .ensures)
 
 -- the level that comes next
-abbrev asked : tie.After-known-told → tie.After-next
-asked c = c .before .before .before
+abbrev search-of-level : tie.After-known-told → tie.After-next
+search-of-level c = c .before .before .before
 
-abbrev began : tie.After-known-told → tie.After-byte
-began c = asked c .before .before
+abbrev call-of-level : tie.After-known-told → tie.After-byte
+call-of-level c = search-of-level c .before .before
 
 abbrev level : tie.After-known-told → ℕ
 level c = c .before .l .given .0 .0
 
-found : (c : tie.After-known-told) → NextLevelIs (table (began c)) (asked c .before .from .result) (At (level c))
-found c = subst (NextLevelIs (table (began c)) (asked c .before .from .result)) (c .before .l .given .1) (asked c .next .ensures)
+level-next : (c : tie.After-known-told) → NextLevelIs (table (call-of-level c)) (search-of-level c .before .from .result) (At (level c))
+level-next c = subst (NextLevelIs (table (call-of-level c)) (search-of-level c .before .from .result)) (c .before .l .given .1) (search-of-level c .next .ensures)
 
-low : (c : tie.After-known-told) → level c < allLevels
-low c = let a = start (began c) .pre .0 in a .formed .levels (level c) (found c a .fits .0)
+level-below : (c : tie.After-known-told) → level c < allLevels
+level-below c = let a = start (call-of-level c) .pre .0 in a .formed .levels (level c) (level-next c a .fits .0)
 
 returns : tie.Need-returns
 returns c =
     let next = c .before .before in
     let read = next .before .before in
     let s = start read in
-    level-none (table read) (packet read) (s .pre .0) 0 (next .before .from .result) (looks (next .before))
+    level-none (table read) (packet read) (s .pre .0) 0 (next .before .from .result) (from-given (next .before))
     (subst (NextLevelIs (table read) (next .before .from .result)) (c .enum-told .given .1) (next .next .ensures))
 
 returns-2 : tie.Need-returns-2
 returns-2 c =
     let shown = c .before in
     let told = shown .before .before in
-    let read = began told in
+    let read = call-of-level told in
     let s = start read in
     let p = packet read in
     let l = level told in
-    level-shown (table read) p (s .pre .0) 0 (asked told .before .from .result) (looks (asked told .before)) l (shown .before .of-level .result) _
-    (c .handle-shown .result) (found told) (shown .before .of-level .ensures) (c .handle-shown .ensures)
+    level-shown (table read) p (s .pre .0) 0 (search-of-level told .before .from .result) (from-given (search-of-level told .before)) l (shown .before .of-level .result) _
+    (c .handle-shown .result) (level-next told) (shown .before .of-level .ensures) (c .handle-shown .ensures)
     (ap (λ (x : ℕ). set (set p 2 x) 3 l) (shown .attributes-shown .ensures))
 
 pub show-level-spec : {M : Type 1} → Rattle.managed_adjust.proofs.show_level.Statement.statement M
 show-level-spec =
     tie.close
     (tie.spec (λ c κs. search needs) (λ c. search needs) (λ c κs. search needs) (λ c κs. search needs) (λ c. search needs) (λ c. search needs)
-    (λ c. search needs) returns (λ c κs. search needs) (λ c κs. search needs) (λ c. search needs) (λ c. omega (arith, low (c .before .before)))
+    (λ c. search needs) returns (λ c κs. search needs) (λ c κs. search needs) (λ c. search needs) (λ c. omega (arith, level-below (c .before .before)))
     (λ c. search needs) (λ c κs. search needs) (λ c. search needs) returns-2)

@@ -20,39 +20,39 @@ abbrev table : tie.After-reserve-asked → List ℕ
 table c = now (start c .args .t)
 
 -- the bits are an Add's
-abbrev asked : tie.After-known-told → tie.After-reserve-asked
-asked c = c .before .before .before
+abbrev check-of-bits : tie.After-known-told → tie.After-reserve-asked
+check-of-bits c = c .before .before .before
 
-bits : (c : tie.After-known-told) → ReserveIs (start (asked c) .args .attributes) (Mark (c .before .reserved .given .0 .0))
-bits c = subst (ReserveIs (start (asked c) .args .attributes)) (c .before .reserved .given .1) (asked c .reserve-asked .ensures)
+bits : (c : tie.After-known-told) → ReserveIs (start (check-of-bits c) .args .attributes) (Mark (c .before .reserved .given .0 .0))
+bits c = subst (ReserveIs (start (check-of-bits c) .args .attributes)) (c .before .reserved .given .1) (check-of-bits c .reserve-asked .ensures)
 
 -- the level is one of a table's
-abbrev numbered : tie.After-known-told2 → tie.After-below-levels
-numbered c = c .before .before .before
+abbrev check-of-level : tie.After-known-told2 → tie.After-below-levels
+check-of-level c = c .before .before .before
 
-abbrev told : tie.After-known-told2 → tie.After-known-told
-told c = numbered c .before
+abbrev bits-of-level : tie.After-known-told2 → tie.After-known-told
+bits-of-level c = check-of-level c .before
 
-abbrev began : tie.After-known-told2 → tie.After-reserve-asked
-began c = asked (told c)
+abbrev call-of-level : tie.After-known-told2 → tie.After-reserve-asked
+call-of-level c = check-of-bits (bits-of-level c)
 
 abbrev level : tie.After-known-told2 → ℕ
 level c = c .before .l .given .0 .0
 
-is-level : (c : tie.After-known-told2) → LevelIs (start (began c) .args .level) (Below (level c))
-is-level c = subst (LevelIs (start (began c) .args .level)) (c .before .l .given .1) (numbered c .below-levels .ensures)
+is-level : (c : tie.After-known-told2) → LevelIs (start (call-of-level c) .args .level) (Below (level c))
+is-level c = subst (LevelIs (start (call-of-level c) .args .level)) (c .before .l .given .1) (check-of-level c .below-levels .ensures)
 
-low : (c : tie.After-known-told2) → level c < allLevels
-low c = omega (arith, is-level c .0, is-level c .1)
+level-below : (c : tie.After-known-told2) → level c < allLevels
+level-below c = omega (arith, is-level c .0, is-level c .1)
 
 -- it is not managed
-abbrev looked : tie.After-whether-managed → tie.After-known-told2
-looked c = c .before .before
+abbrev level-of-look : tie.After-whether-managed → tie.After-known-told2
+level-of-look c = c .before .before
 
-free : (c : tie.After-enum-told3) → let k = looked (c .before .before) in byte (table (began k)) (levelPlace (level k)) ≢ 1
-free c =
-    let k = looked (c .before .before) in
-    subst (ManagingIs (table (began k)) (level k)) (c .enum-told3 .given .1) (c .before .before .whether-managed .ensures)
+unmanaged : (c : tie.After-enum-told3) → let k = level-of-look (c .before .before) in byte (table (call-of-level k)) (levelPlace (level k)) ≢ 1
+unmanaged c =
+    let k = level-of-look (c .before .before) in
+    subst (ManagingIs (table (call-of-level k)) (level k)) (c .enum-told3 .given .1) (c .before .before .whether-managed .ensures)
 
 returns : tie.Need-returns
 returns c =
@@ -64,34 +64,34 @@ returns c =
 returns-2 : tie.Need-returns-2
 returns-2 c =
     let told = c .before .before .before in
-    let s = start (asked told) in
-    add-over (table (asked told)) (s .pre) (s .args .level) (s .args .attributes) (bits told .0)
+    let s = start (check-of-bits told) in
+    add-over (table (check-of-bits told)) (s .pre) (s .args .level) (s .args .attributes) (bits told .0)
     (subst (LevelIs (s .args .level)) (c .enum-told2 .given .1) (c .before .before .below-levels .ensures))
 
 whether-managed-requires : tie.Need-whether-managed-requires
-whether-managed-requires c κs = let k = c .before in (size-in (table (began k)) (start (began k) .pre), low k)
+whether-managed-requires c κs = let k = c .before in (size-in (table (call-of-level k)) (start (call-of-level k) .pre), level-below k)
 
 returns-3 : tie.Need-returns-3
 returns-3 c =
-    let k = looked (c .before .before) in
-    let s = start (began k) in
-    let here = subst (ManagingIs (table (began k)) (level k)) (c .enum-told4 .given .1) (c .before .before .whether-managed .ensures) in
-    add-managed (table (began k)) (s .pre) (s .args .level) (s .args .attributes) (bits (told k) .0) (is-level k .1)
-    (subst (λ (l : ℕ). byte (table (began k)) (levelPlace l) ≡ 1) (is-level k .0) here)
+    let k = level-of-look (c .before .before) in
+    let s = start (call-of-level k) in
+    let here = subst (ManagingIs (table (call-of-level k)) (level k)) (c .enum-told4 .given .1) (c .before .before .whether-managed .ensures) in
+    add-managed (table (call-of-level k)) (s .pre) (s .args .level) (s .args .attributes) (bits (bits-of-level k) .0) (is-level k .1)
+    (subst (λ (l : ℕ). byte (table (call-of-level k)) (levelPlace l) ≡ 1) (is-level k .0) here)
 
 mark-requires : tie.Need-mark-requires
-mark-requires c κs = let k = looked (c .before .before .before) in (size-in (table (began k)) (start (began k) .pre), low k)
+mark-requires c κs = let k = level-of-look (c .before .before .before) in (size-in (table (call-of-level k)) (start (call-of-level k) .pre), level-below k)
 
 returns-4 : tie.Need-returns-4
 returns-4 c =
     let marked = c .before .before in
     let told-free = marked .before .before in
-    let k = looked (told-free .before .before) in
-    let s = start (began k) in
-    let b = table (began k) in
-    let m = told k .before .reserved .given .0 .0 in
-    add-made b (s .pre) (s .args .level) (s .args .attributes) (marked .mark .last .0) m (bits (told k) .0) (bits (told k) .1) (is-level k .1)
-    (subst (λ (l : ℕ). byte b (levelPlace l) ≢ 1) (is-level k .0) (free told-free))
+    let k = level-of-look (told-free .before .before) in
+    let s = start (call-of-level k) in
+    let b = table (call-of-level k) in
+    let m = bits-of-level k .before .reserved .given .0 .0 in
+    add-made b (s .pre) (s .args .level) (s .args .attributes) (marked .mark .last .0) m (bits (bits-of-level k) .0) (bits (bits-of-level k) .1) (is-level k .1)
+    (subst (λ (l : ℕ). byte b (levelPlace l) ≢ 1) (is-level k .0) (unmanaged told-free))
     (subst (λ (l : ℕ). marked .mark .last .0 ≡ set (set b (levelPlace l) 1) (levelPlace l + levelReservedAt) m) (is-level k .0) (marked .mark .ensures))
 
 pub add-spec : {M : Type 1} → Rattle.managed_levels.proofs.add.Statement.statement M
