@@ -84,8 +84,11 @@ socket-of-look c = c .before .before
 abbrev socket-of-card : tie.After-enum-told6 → tie.After-known-told
 socket-of-card c = socket-of-look (c .before .before)
 
-card-present : (c : tie.After-enum-told6) → byte (table (call-of-socket (socket-of-card c))) (cardsAt + socket (socket-of-card c)) ≡ 1
-card-present c = subst (CardIs (table (call-of-socket (socket-of-card c))) (socket (socket-of-card c))) (c .enum-told6 .given .1) (c .before .before .card-at .ensures)
+abbrev call-of-card : tie.After-enum-told6 → tie.After-sized
+call-of-card c = call-of-socket (socket-of-card c)
+
+card-present : (c : tie.After-enum-told6) → byte (table (call-of-card c)) (cardsAt + socket (socket-of-card c)) ≡ 1
+card-present c = subst (CardIs (table (call-of-card c)) (socket (socket-of-card c))) (c .enum-told6 .given .1) (c .before .before .card-at .ensures)
 
 -- the attributes are good
 abbrev check-of-attributes : tie.After-enum-told8 → tie.After-attributes-asked
@@ -94,8 +97,11 @@ check-of-attributes c = c .before .before
 abbrev card-of-attributes : tie.After-enum-told8 → tie.After-enum-told6
 card-of-attributes c = check-of-attributes c .before .before
 
-attributes-good : (c : tie.After-enum-told8) → IoAttributesBad (packet (call-of-socket (socket-of-card (card-of-attributes c)))) → ⊥
-attributes-good c = subst (AttributesAre (packet (call-of-socket (socket-of-card (card-of-attributes c))))) (c .enum-told8 .given .1) (check-of-attributes c .attributes-asked .ensures)
+abbrev call-of-attributes : tie.After-enum-told8 → tie.After-sized
+call-of-attributes c = call-of-card (card-of-attributes c)
+
+attributes-good : (c : tie.After-enum-told8) → IoAttributesBad (packet (call-of-attributes c)) → ⊥
+attributes-good c = subst (AttributesAre (packet (call-of-attributes c))) (c .enum-told8 .given .1) (check-of-attributes c .attributes-asked .ensures)
 
 -- the port counts are good
 abbrev check-of-sizes : tie.After-enum-told10 → tie.After-sizes-asked
@@ -104,9 +110,12 @@ check-of-sizes c = c .before .before
 abbrev attributes-of-sizes : tie.After-enum-told10 → tie.After-enum-told8
 attributes-of-sizes c = check-of-sizes c .before .before
 
-sizes-good : (c : tie.After-enum-told10) → IoSizeBad (packet (call-of-socket (socket-of-card (card-of-attributes (attributes-of-sizes c))))) → ⊥
+abbrev call-of-sizes : tie.After-enum-told10 → tie.After-sized
+call-of-sizes c = call-of-attributes (attributes-of-sizes c)
+
+sizes-good : (c : tie.After-enum-told10) → IoSizeBad (packet (call-of-sizes c)) → ⊥
 sizes-good c =
-    subst (SizesAre (packet (call-of-socket (socket-of-card (card-of-attributes (attributes-of-sizes c)))))) (c .enum-told10 .given .1) (check-of-sizes c .sizes-asked .ensures)
+    subst (SizesAre (packet (call-of-sizes c))) (c .enum-told10 .given .1) (check-of-sizes c .sizes-asked .ensures)
 
 -- the socket has no grant
 abbrev check-of-place : tie.After-enum-told12 → tie.After-place-of
@@ -118,22 +127,31 @@ sizes-of-place c = check-of-place c .before .before
 abbrev socket-of-place : tie.After-enum-told12 → tie.After-known-told
 socket-of-place c = socket-of-card (card-of-attributes (attributes-of-sizes (sizes-of-place c)))
 
-place-free : (c : tie.After-enum-told12) → IoUsed (table (call-of-socket (socket-of-place c))) (socket (socket-of-place c)) → ⊥
-place-free c = subst (PlaceIs (table (call-of-socket (socket-of-place c))) (socket (socket-of-place c))) (c .enum-told12 .given .1) (check-of-place c .place-of .ensures)
+abbrev call-of-place : tie.After-enum-told12 → tie.After-sized
+call-of-place c = call-of-socket (socket-of-place c)
+
+place-free : (c : tie.After-enum-told12) → IoUsed (table (call-of-place c)) (socket (socket-of-place c)) → ⊥
+place-free c = subst (PlaceIs (table (call-of-place c)) (socket (socket-of-place c))) (c .enum-told12 .given .1) (check-of-place c .place-of .ensures)
 
 -- a base is sought
 abbrev place-of-choice : tie.After-taken → tie.After-enum-told12
 place-of-choice c = c .before .before .before
 
+abbrev call-of-choice : tie.After-taken → tie.After-sized
+call-of-choice c = call-of-place (place-of-choice c)
+
 abbrev choice-of-base : tie.After-known-told2 → tie.After-taken
 choice-of-base c = c .before .before .before
+
+abbrev call-of-base : tie.After-known-told2 → tie.After-sized
+call-of-base c = call-of-choice (choice-of-base c)
 
 abbrev base-at : tie.After-known-told2 → ℕ
 base-at c = c .before .taken2 .given .0 .0
 
-base-taken : (c : tie.After-known-told2) → let k = call-of-socket (socket-of-place (place-of-choice (choice-of-base c))) in BaseIs (table k) (packet k) (base.At (base-at c))
+base-taken : (c : tie.After-known-told2) → let k = call-of-base c in BaseIs (table k) (packet k) (base.At (base-at c))
 base-taken c =
-    let k = call-of-socket (socket-of-place (place-of-choice (choice-of-base c))) in
+    let k = call-of-base c in
     subst (BaseIs (table k) (packet k)) (c .before .taken2 .given .1) (choice-of-base c .taken .ensures)
 
 -- the grant is entered, and the packet says it; both lent slices come back

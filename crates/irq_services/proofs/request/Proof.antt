@@ -84,8 +84,11 @@ socket-of-look c = c .before .before
 abbrev socket-of-card : tie.After-enum-told6 → tie.After-known-told
 socket-of-card c = socket-of-look (c .before .before)
 
-card-present : (c : tie.After-enum-told6) → byte (table (call-of-socket (socket-of-card c))) (cardsAt + socket (socket-of-card c)) ≡ 1
-card-present c = subst (CardIs (table (call-of-socket (socket-of-card c))) (socket (socket-of-card c))) (c .enum-told6 .given .1) (c .before .before .card-at .ensures)
+abbrev call-of-card : tie.After-enum-told6 → tie.After-sized
+call-of-card c = call-of-socket (socket-of-card c)
+
+card-present : (c : tie.After-enum-told6) → byte (table (call-of-card c)) (cardsAt + socket (socket-of-card c)) ≡ 1
+card-present c = subst (CardIs (table (call-of-card c)) (socket (socket-of-card c))) (c .enum-told6 .given .1) (c .before .before .card-at .ensures)
 
 -- the attributes are good
 abbrev check-of-attributes : tie.After-enum-told8 → tie.After-attributes-asked
@@ -94,8 +97,11 @@ check-of-attributes c = c .before .before
 abbrev card-of-attributes : tie.After-enum-told8 → tie.After-enum-told6
 card-of-attributes c = check-of-attributes c .before .before
 
-attributes-good : (c : tie.After-enum-told8) → IrqAttributesBad (packet (call-of-socket (socket-of-card (card-of-attributes c)))) → ⊥
-attributes-good c = subst (AttributesAre (packet (call-of-socket (socket-of-card (card-of-attributes c))))) (c .enum-told8 .given .1) (check-of-attributes c .attributes-asked .ensures)
+abbrev call-of-attributes : tie.After-enum-told8 → tie.After-sized
+call-of-attributes c = call-of-card (card-of-attributes c)
+
+attributes-good : (c : tie.After-enum-told8) → IrqAttributesBad (packet (call-of-attributes c)) → ⊥
+attributes-good c = subst (AttributesAre (packet (call-of-attributes c))) (c .enum-told8 .given .1) (check-of-attributes c .attributes-asked .ensures)
 
 -- IRQInfo1 and IRQInfo2 are good
 abbrev check-of-info : tie.After-enum-told10 → tie.After-info-asked
@@ -104,9 +110,12 @@ check-of-info c = c .before .before
 abbrev attributes-of-info : tie.After-enum-told10 → tie.After-enum-told8
 attributes-of-info c = check-of-info c .before .before
 
-info-good : (c : tie.After-enum-told10) → IrqInfoBad (packet (call-of-socket (socket-of-card (card-of-attributes (attributes-of-info c))))) → ⊥
+abbrev call-of-info : tie.After-enum-told10 → tie.After-sized
+call-of-info c = call-of-attributes (attributes-of-info c)
+
+info-good : (c : tie.After-enum-told10) → IrqInfoBad (packet (call-of-info c)) → ⊥
 info-good c =
-    subst (InfoIs (packet (call-of-socket (socket-of-card (card-of-attributes (attributes-of-info c)))))) (c .enum-told10 .given .1) (check-of-info c .info-asked .ensures)
+    subst (InfoIs (packet (call-of-info c))) (c .enum-told10 .given .1) (check-of-info c .info-asked .ensures)
 
 -- the socket has no grant
 abbrev check-of-place : tie.After-enum-told12 → tie.After-place-of
@@ -118,27 +127,36 @@ info-of-place c = check-of-place c .before .before
 abbrev socket-of-place : tie.After-enum-told12 → tie.After-known-told
 socket-of-place c = socket-of-card (card-of-attributes (attributes-of-info (info-of-place c)))
 
-place-free : (c : tie.After-enum-told12) → IrqUsed (table (call-of-socket (socket-of-place c))) (socket (socket-of-place c)) → ⊥
-place-free c = subst (PlaceIs (table (call-of-socket (socket-of-place c))) (socket (socket-of-place c))) (c .enum-told12 .given .1) (check-of-place c .place-of .ensures)
+abbrev call-of-place : tie.After-enum-told12 → tie.After-sized
+call-of-place c = call-of-socket (socket-of-place c)
+
+place-free : (c : tie.After-enum-told12) → IrqUsed (table (call-of-place c)) (socket (socket-of-place c)) → ⊥
+place-free c = subst (PlaceIs (table (call-of-place c)) (socket (socket-of-place c))) (c .enum-told12 .given .1) (check-of-place c .place-of .ensures)
 
 -- a level is taken
 abbrev place-of-choice : tie.After-choose → tie.After-enum-told12
 place-of-choice c = c .before .before .before
 
+abbrev call-of-choice : tie.After-choose → tie.After-sized
+call-of-choice c = call-of-place (place-of-choice c)
+
 abbrev choice-of-level : tie.After-known-told2 → tie.After-choose
 choice-of-level c = c .before .before .before
+
+abbrev call-of-level : tie.After-known-told2 → tie.After-sized
+call-of-level c = call-of-choice (choice-of-level c)
 
 abbrev level : tie.After-known-told2 → ℕ
 level c = c .before .level .given .0 .0
 
-level-taken : (c : tie.After-known-told2) → let k = call-of-socket (socket-of-place (place-of-choice (choice-of-level c))) in LevelTaken (start k .pre .facts) (packet k) (level c)
+level-taken : (c : tie.After-known-told2) → let k = call-of-level c in LevelTaken (start k .pre .facts) (packet k) (level c)
 level-taken c =
-    let k = call-of-socket (socket-of-place (place-of-choice (choice-of-level c))) in
+    let k = call-of-level c in
     subst (TakenIs (table k) (packet k)) (c .before .level .given .1) (choice-of-level c .choose .ensures) (start k .pre)
 
 level-below : (c : tie.After-known-told2) → level c < allLevels
 level-below c =
-    let k = call-of-socket (socket-of-place (place-of-choice (choice-of-level c))) in
+    let k = call-of-level c in
     let a = start k .pre in
     a .formed .levels (level c) (taken-fits (a .facts) (a .formed) (packet k) (level c) (level-taken c) .managed)
 

@@ -76,8 +76,11 @@ socket-of-look c = c .before .before
 abbrev socket-of-card : tie.After-enum-told5 → tie.After-known-told2
 socket-of-card c = socket-of-look (c .before .before)
 
-card-present : (c : tie.After-enum-told5) → byte (table (call-of-socket (socket-of-card c))) (cardsAt + socket (socket-of-card c)) ≡ 1
-card-present c = subst (CardIs (table (call-of-socket (socket-of-card c))) (socket (socket-of-card c))) (c .enum-told5 .given .1) (c .before .before .card-at .ensures)
+abbrev call-of-card : tie.After-enum-told5 → tie.After-sized
+call-of-card c = call-of-socket (socket-of-card c)
+
+card-present : (c : tie.After-enum-told5) → byte (table (call-of-card c)) (cardsAt + socket (socket-of-card c)) ≡ 1
+card-present c = subst (CardIs (table (call-of-card c)) (socket (socket-of-card c))) (c .enum-told5 .given .1) (c .before .before .card-at .ensures)
 
 -- the event mask is allowed
 abbrev check-of-events : tie.After-known-told3 → tie.After-events-asked
@@ -86,11 +89,14 @@ check-of-events c = c .before .before .before
 abbrev socket-of-events : tie.After-known-told3 → tie.After-known-told2
 socket-of-events c = socket-of-card (check-of-events c .before)
 
+abbrev call-of-events : tie.After-known-told3 → tie.After-sized
+call-of-events c = call-of-socket (socket-of-events c)
+
 abbrev events : tie.After-known-told3 → ℕ
 events c = c .before .events .given .0 .0
 
-events-allowed : (c : tie.After-known-told3) → let p = packet (call-of-socket (socket-of-events c)) in (events c ≡ word p 2) × EventsAllowed (word p 2)
-events-allowed c = subst (EventsAre (packet (call-of-socket (socket-of-events c)))) (c .before .events .given .1) (check-of-events c .events-asked .ensures)
+events-allowed : (c : tie.After-known-told3) → let p = packet (call-of-events c) in (events c ≡ word p 2) × EventsAllowed (word p 2)
+events-allowed c = subst (EventsAre (packet (call-of-events c))) (c .before .events .given .1) (check-of-events c .events-asked .ensures)
 
 -- its mask is looked at
 abbrev events-of-look : tie.After-mask-of → tie.After-known-told3
