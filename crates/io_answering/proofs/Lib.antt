@@ -4,4 +4,4 @@ pub mod Gaps
 pub mod Walking
 pub use Filling.{filling-start, none-are, filling-more, filling-last, rows-are, leaps-says}
 pub use Gaps.{ends-within, clear-answers, answers-clear, clear-says, own-says, past-unmanaged}
-pub use Walking.{masked, mask-short, masked-behind, reach-filled, Leaping, leaping-start, leaping-more, leaping-end}
+pub use Walking.{masked, ones-short, masked-behind, reach-filled, Leaping, leaping-start, leaping-more, leaping-end}

@@ -13,10 +13,10 @@ masked n ones m =
     ap (bitAnd n) e ∙ and-mask n (m .lines) ∙ ap (λ (k : ℕ). n % k) (sym (m .is))
 
 -- the period is at most half of all ports
-pub mask-short : (ones : ℕ) → LowBits ones → ones + 1 ≤ 2 ^ 15
-mask-short ones m = let l : m .lines ≤ 15 = omega (arith, m .fewer) in omega (arith, m .is, pow-mono l)
+pub ones-short : (ones : ℕ) → LowBits ones → ones + 1 ≤ 2 ^ 15
+ones-short ones m = let l : m .lines ≤ 15 = omega (arith, m .fewer) in omega (arith, m .is, pow-mono l)
 
--- the distance behind, by masks
+-- the distance behind, by the low bits
 pub masked-behind : (base last ones : ℕ) → LowBits ones
     → bitAnd (last + (ones + 1) - bitAnd base ones) ones ≡ (last + (ones + 1) - base % (ones + 1)) % (ones + 1)
 masked-behind base last ones m =

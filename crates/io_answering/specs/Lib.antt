@@ -2,4 +2,4 @@
 pub mod Gaps
 pub mod Rows
 pub use Gaps.{startAt, gapIn, MeetsGap, AllManagedIn}
-pub use Rows.{mostGaps, mostCounted, noGaps, rowAt, RowsFit, MeetsRows, GapsAre, LowBits, reachOf, aheadOf, portsFrom, LeapsRows, DecidingIs}
+pub use Rows.{mostGaps, mostCounted, noGaps, rowAt, RowsFit, MeetsRows, GapsAre, LowBits, reachOf, aheadOf, portsFrom, LeapsRows, GappedIs}

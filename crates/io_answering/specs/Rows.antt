@@ -76,6 +76,6 @@ abbrev pub NoneWider : List ℕ → ℕ → Type 0
 NoneWider rows r = (i : ℕ) → i < mostGaps → rowAt rows i .count ≤ r
 
 -- a card of so many lines can answer in a gap: they aren't all. Or it can't: they are, or no gap has a port
-abbrev pub DecidingIs : List ℕ → ℕ → Gapped → Type 0
-DecidingIs rows lines Somewhere = lines < Table.mostLines
-DecidingIs rows lines Nowhere = (Table.mostLines ≤ lines) ⊎ ((i : ℕ) → i < mostGaps → rowAt rows i .count ≡ 0)
+abbrev pub GappedIs : List ℕ → ℕ → Gapped → Type 0
+GappedIs rows lines Somewhere = lines < Table.mostLines
+GappedIs rows lines Nowhere = (Table.mostLines ≤ lines) ⊎ ((i : ℕ) → i < mostGaps → rowAt rows i .count ≡ 0)

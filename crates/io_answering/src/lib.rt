@@ -14,7 +14,7 @@ ghost use Rattle.layout.specs.Layout.{tableSize};
 ghost use Rattle.layout.specs.Reading.{rangesIn};
 ghost use Rattle.layout.specs.Sound.{RangesSound};
 ghost use Rattle.io_answering.specs.Gaps.{AllManagedIn};
-ghost use Rattle.io_answering.specs.Rows.{mostCounted, noGaps, LowBits, reachOf, aheadOf, RowsFit, GapsAre, LeapsRows, NoneWider, DecidingIs};
+ghost use Rattle.io_answering.specs.Rows.{mostCounted, noGaps, LowBits, reachOf, aheadOf, RowsFit, GapsAre, LeapsRows, NoneWider, GappedIs};
 
 // The gaps stand in two rows of 16-bit numbers, one after the other, so that many are looked at side by side: where each begins, and how many ports it
 // has. There may be one more than ranges; the rows have room for whole eights, and the rest is 0.
@@ -113,8 +113,8 @@ pub enum Gapped {
     Nowhere,
 }
 
-pub fn deciding(rows: &[u16; ROWS], lines: usize) -> Gapped
-    ensures { λ r. ⌜ DecidingIs (now (rows .entry)) lines r ⌝ }
+pub fn can_answer(rows: &[u16; ROWS], lines: usize) -> Gapped
+    ensures { λ r. ⌜ GappedIs (now (rows .entry)) lines r ⌝ }
 {
     if MOST_LINES <= lines {
         return Gapped::Nowhere;

@@ -219,7 +219,7 @@ pub fn choose(t: &[u8], p: &[u8]) -> TakenBase
     let step = align(count);
     let mut rows: [u16; ROWS] = [0; ROWS];
     io_answering::gap_rows(t, lines, &mut rows);
-    let gapped = io_answering::deciding(&rows, lines);
+    let gapped = io_answering::can_answer(&rows, lines);
     let known = io_obstacles::passed(t, &rows, count, lines, gapped, step);
     if io_obstacles::everywhere(known) {
         return TakenBase::Nothing;

@@ -2,7 +2,7 @@
 use Rattle.facts.proofs.Words.{⊎-elim, List, ℕ, _≤_, arith}
 use Rattle.io_answering.specs.declared.Gapped.{Gapped}
 use Rattle.io_answering.specs.declared.Gapped.the-variants.{Somewhere, Nowhere}
-use Rattle.io_answering.specs.{RowsFit, GapsAre, DecidingIs, portsFrom}
+use Rattle.io_answering.specs.{RowsFit, GapsAre, GappedIs, portsFrom}
 use Rattle.io_obstacles.specs.{InRows, GapsWithin, GapLines, Decides}
 
 -- no gap is looked at
@@ -15,7 +15,7 @@ gap-decides rows count lines most x Somewhere m d = d
 gap-decides rows count lines most x Nowhere m d = absurd m
 
 -- a gap that is met has a port, so that a card can answer there
-pub gap-lines : (b rows : List ℕ) (count lines : ℕ) (r : Gapped) → GapsAre b lines rows → DecidingIs rows lines r → GapLines b rows count lines r
+pub gap-lines : (b rows : List ℕ) (count lines : ℕ) (r : Gapped) → GapsAre b lines rows → GappedIs rows lines r → GapLines b rows count lines r
 gap-lines b rows count lines Somewhere gaps few =
     record {
       within = record {

@@ -139,11 +139,12 @@ pub record Opened (all : List Stretch) (rows : List ℕ) (more : Stretch) (count
   pub barred : (y : ℕ) → Multiple step y → from ≤ y → y < r → LiesIn all rows more count lines gapped y
   pub free : r + count ≤ end → LiesIn all rows more count lines gapped r → ⊥
 
--- no more lines decide, of any grant, whether ports decoded by so many meet it, nor of the gaps
+-- where a gap can be met, so many lines decide it, and they are no more than r
 abbrev pub Decides : ℕ → Gapped → ℕ → Type 0
 Decides lines Somewhere r = lines ≤ r
 Decides lines Nowhere r = Unit {0}
 
+-- no more lines decide, of any grant, whether ports decoded by so many meet it, nor of the gaps
 pub record LinesMet (b : List ℕ) (lines : ℕ) (gapped : Gapped) (r : ℕ) : Type 0 where
   pub most : r ≤ Table.mostLines
   pub gaps : Decides lines gapped r

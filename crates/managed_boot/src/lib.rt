@@ -1,5 +1,5 @@
-// The boot list: "a lent slice of resource records, added in order", on a table that is the image of a well-formed set. `walk` goes along the slice; `managed_boot`
-// takes a list that is lent as bytes, some records at a time, out into an array and lends that to `walk`.
+// The boot list: "a lent slice of resource records, added in order", on a table that is the image of a well-formed set. `walk` goes along the slice;
+// `boot` takes a list that is lent as bytes, some records at a time, out into an array and lends that to `walk`.
 use facts::Code;
 use facts::IO_RESOURCE;
 use facts::IRQ_RESOURCE;

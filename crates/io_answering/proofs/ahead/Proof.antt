@@ -1,13 +1,13 @@
--- `io_answering::ahead` meets its contract: masks take the remainders.
+-- `io_answering::ahead` meets its contract: the low bits are the remainders.
 -- Assumes nothing.
 use Rattle.facts.proofs.Words.{_≡_, ap, sym, _∙_, ℕ, _+_, _-_, _≤_, _<_, mod-lt, arith, needs, bitAnd}
 use Rattle.io_answering.specs.{reachOf, aheadOf}
-use Rattle.io_answering.proofs.{masked, mask-short, masked-behind}
+use Rattle.io_answering.proofs.{masked, ones-short, masked-behind}
 use Rattle.io_answering.proofs.ahead.Tie as tie
 
 -- the period is short, and the base lies within it
 short : (s : tie.Start) → s .args .ones + 1 ≤ 32768
-short s = mask-short (s .args .ones) (s .pre .3)
+short s = ones-short (s .args .ones) (s .pre .3)
 
 within : (s : tie.Start) → bitAnd (s .args .base) (s .args .ones) < s .args .ones + 1
 within s =

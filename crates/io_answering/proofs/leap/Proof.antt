@@ -28,14 +28,14 @@ period c =
 whole : (c : tie.At-loop Inv-loop μ-loop) → c .before .power .result - 1 + 1 ≡ 2 ^ start c .args .lines
 whole c = omega (arith, period (c .before) .0, c .before .power .ensures)
 
-masks : (c : tie.At-loop Inv-loop μ-loop) → LowBits (c .before .power .result - 1)
-masks c = record { lines = start c .args .lines; fewer = start c .pre .4; is = whole c }
+low-bits : (c : tie.At-loop Inv-loop μ-loop) → LowBits (c .before .power .result - 1)
+low-bits c = record { lines = start c .args .lines; fewer = start c .pre .4; is = whole c }
 
 remainder : (c : tie.At-loop Inv-loop μ-loop)
     → let a = start c .args in bitAnd (a .base + a .count - 1) (c .before .power .result - 1) ≡ (a .base + a .count - 1) % 2 ^ a .lines
 remainder c =
     let a = start c .args in
-    masked (a .base + a .count - 1) _ (masks c) ∙ ap (λ (n : ℕ). (a .base + a .count - 1) % n) (whole c)
+    masked (a .base + a .count - 1) _ (low-bits c) ∙ ap (λ (n : ℕ). (a .base + a .count - 1) % n) (whole c)
 
 last : (c : tie.At-loop Inv-loop μ-loop)
     → let a = start c .args in bitAnd (a .base + a .count - 1) (c .before .power .result - 1) ≤ c .before .power .result - 1
@@ -59,7 +59,7 @@ cast-ahead : tie.Need-cast-ahead Inv-loop μ-loop
 cast-ahead c = let k = turn c in omega (arith, last k, period (k .before) .1)
 
 ahead-requires : tie.Need-ahead-requires Inv-loop μ-loop
-ahead-requires c κs = let k = turn c in let s = start k in (s .pre .0 .counts (k .loop .i) (omega (arith, c .before .before .loop-test .taken)), last k, omega (arith, s .pre .3), masks k)
+ahead-requires c κs = let k = turn c in let s = start k in (s .pre .0 .counts (k .loop .i) (omega (arith, c .before .before .loop-test .taken)), last k, omega (arith, s .pre .3), low-bits k)
 
 add-i : tie.Need-add-i Inv-loop μ-loop
 add-i c = let at = c .before .before in omega (arith, at .before .before .loop-test .taken)

@@ -56,19 +56,19 @@ nothing c known bars =
     bars)
 
 -- where the rows were filled, which are the table's, and the lines told that decide of the gaps
-abbrev filled : tie.After-deciding → tie.After-gap-rows
+abbrev filled : tie.After-can-answer → tie.After-gap-rows
 filled c = c .before .before
 
-abbrev rows : tie.After-deciding → List ℕ
+abbrev rows : tie.After-can-answer → List ℕ
 rows c = filled c .gap-rows .last .1 .1 .0
 
-abbrev told : tie.After-deciding → tie.After-align
+abbrev told : tie.After-can-answer → tie.After-align
 told c = filled c .before .before
 
-gapped : (c : tie.After-deciding) → let k = told c in GapLines (table k) (rows c) (count k) (lines k) (c .deciding .result)
+gapped : (c : tie.After-can-answer) → let k = told c in GapLines (table k) (rows c) (count k) (lines k) (c .can-answer .result)
 gapped c =
     let k = told c in
-    gap-lines (table k) (rows c) (count k) (lines k) (c .deciding .result) (filled c .gap-rows .ensures) (c .deciding .ensures)
+    gap-lines (table k) (rows c) (count k) (lines k) (c .can-answer .result) (filled c .gap-rows .ensures) (c .can-answer .ensures)
 
 gap-rows-requires : tie.Need-gap-rows-requires
 gap-rows-requires c κs =
