@@ -1,6 +1,6 @@
 #!/bin/sh
-# types.sh: programs that take a handle, a socket, a place or a count for one
-# another. Such an edit never reaches the prover: the compiler has to refuse
+# types.sh: programs that take a handle, a socket, a seat, a place or a count for
+# one another. Such an edit never reaches the prover: the compiler has to refuse
 # each for its types, at the line that was changed.
 set -eu
 # shellcheck source=tests/toolchain.sh
@@ -49,30 +49,30 @@ refused() {
 
 refused client_services lib.rt 'holds(t, i, h)' 'holds(t, i, i)' Handle usize
 refused client_services lib.rt 'enter(t, n, handle,' 'enter(t, handle, n,' usize Handle
-refused client_services lib.rt 'grant_on(t, Socket(s), h)' 'grant_on(t, h, h)' Socket Handle
-refused table_grants ios.rt 'io_pair_sound(t, s, Socket(u))' 'io_pair_sound(t, s, u)' Socket usize
-refused irq_sharers lib.rt 'sharer(t, level, Socket(s))' 'sharer(t, level, s)' Socket usize
+refused client_services lib.rt 'grant_on(t, Seat(s), h)' 'grant_on(t, h, h)' Seat Handle
+refused table_grants ios.rt 'io_pair_sound(t, s, Seat(u))' 'io_pair_sound(t, s, u)' Seat usize
+refused irq_sharers lib.rt 'sharer(t, level, Seat(s))' 'sharer(t, level, s)' Seat usize
 refused keeper lib.rt 'client_services::deregister(table, h, packet)' \
     'client_services::deregister(table, Socket(3), packet)' Handle Socket
 refused keeper lib.rt 'irq_sharers::pack(irq_sharers::of_level(table, level))' \
     'service_answers::pack(irq_sharers::of_level(table, level))' Answer SharerCount
 refused keeper lib.rt 'facts::number(socket_cards::card(table, socket, present))' \
     'service_answers::pack(socket_cards::card(table, socket, present))' Answer Code
-refused managed_holders lib.rt 'better(t, what, best, Socket(s))' 'better(t, what, best, s)' Socket usize
+refused managed_holders lib.rt 'level_at(t, l, Seat(s))' 'level_at(t, l, s)' Seat usize
 refused managed_boot lib.rt 'return Booted::Stopped(place, code)' 'return Booted::Stopped(code, place)' usize Code
 refused keeper lib.rt 'managed_boot::pack(managed_boot::boot(table, records))' \
     'service_answers::pack(managed_boot::boot(table, records))' Answer Booted
-refused socket_masks lib.rt 'write(t, i, socket, 0)' 'write(t, socket, i, 0)' usize Socket
-refused irq_services lib.rt 'grant_of(t, socket, h, table_read::byte(p, ASSIGNED_AT))' \
-    'grant_of(t, h, socket, table_read::byte(p, ASSIGNED_AT))' Socket Handle
-refused irq_services lib.rt 'enter(t, socket, h, level, irq_levels::manner_byte(manner))' \
-    'enter(t, socket, level, h, irq_levels::manner_byte(manner))' Handle usize
-refused irq_fitting lib.rt 'levels_at(t, p, m, Socket(s))' 'levels_at(t, p, m, s)' Socket usize
+refused socket_masks lib.rt 'write(t, i, seat, 0)' 'write(t, seat, i, 0)' usize Seat
+refused irq_services lib.rt 'grant_of(t, seat, h, level)' 'grant_of(t, h, seat, level)' Seat Handle
+refused irq_services lib.rt 'enter(t, seat, h, level, irq_levels::manner_byte(manner))' \
+    'enter(t, seat, level, h, irq_levels::manner_byte(manner))' Handle usize
+refused irq_fitting lib.rt 'levels_at(t, asked, Seat(s))' 'levels_at(t, asked, s)' Seat usize
 refused keeper lib.rt 'irq_services::request(table, h, packet)' \
     'irq_services::request(table, handle, packet)' Handle u16
-refused io_obstacles lib.rt 'met(t, Socket(s), count, lines, most)' 'met(t, s, count, lines, most)' Socket usize
-refused io_bases lib.rt 'stands(t, p, Socket(s))' 'stands(t, p, s)' Socket usize
-refused io_services lib.rt 'grant_of(t, socket, h, base, count)' 'grant_of(t, h, socket, base, count)' Socket Handle
-refused io_services lib.rt 'enter_asked(t, socket, h, base, p)' 'enter_asked(t, socket, base, h, p)' Handle usize
+refused io_bars lib.rt 'seats::held(t, Seat(s))' 'seats::held(t, s)' Seat usize
+refused io_bases lib.rt 'stands(t, asked, Seat(s))' 'stands(t, asked, s)' Seat usize
+refused io_services lib.rt 'grant_of(t, seat, h, base, count)' 'grant_of(t, h, seat, base, count)' Seat Handle
+refused io_services lib.rt 'enter_asked(t, seat, h, base, asked, p)' \
+    'enter_asked(t, seat, base, h, asked, p)' Handle usize
 refused keeper lib.rt 'io_services::request(table, h, packet)' \
     'io_services::request(table, handle, packet)' Handle u16

@@ -14,8 +14,8 @@ use Rattle.facts.specs.Sets.{_∈_}
 use Rattle.facts.specs.Ports.{Meet}
 use Rattle.facts.specs.Levels.{Together}
 use Rattle.facts.specs.Checks.{Passed}
-use Rattle.facts.specs.Irq.{Fits, NoLevelFits, assignedIrq, irqAheadChecks}
-use Rattle.facts.specs.Io.{NotAllManaged, InTheWay, Candidate, NoCandidate, baseAsked, ioAheadChecks}
+use Rattle.facts.specs.Irq.{irqAsked, Fits, NoLevelFits, assignedIrq, irqAheadChecks}
+use Rattle.facts.specs.Io.{ioAsked, NotAllManaged, InTheWay, Candidate, NoCandidate, baseAsked, ioAheadChecks}
 use Rattle.facts.specs.Boot.{recordSize, recordsIn, recordsAdded}
 use Rattle.facts.specs.Services.{requestIrq, requestIo, serviceNumber}
 use Rattle.layout.specs.Layout.{image}
@@ -50,21 +50,21 @@ pub record OfBoot (r : List ℕ) (k : Code) (i : ℕ) (b b′ : List ℕ) : Type
 
 -- of RequestIRQ, where the checks ahead pass: F is what the table says
 pub record OfIrq (F : Facts) (p : List ℕ) (k : Code) (q : List ℕ) : Type 0 where
-  pub refused : (k ≢ Success) ↔ NoLevelFits F p
-  pub bad-irq : (k ≡ BadIrq) ↔ NoLevelFits F p
-  pub fits : k ≡ Success → Fits F p (assignedIrq q)
+  pub refused : (k ≢ Success) ↔ NoLevelFits F (irqAsked p)
+  pub bad-irq : (k ≡ BadIrq) ↔ NoLevelFits F (irqAsked p)
+  pub fits : k ≡ Success → Fits F (irqAsked p) (assignedIrq q)
 
 -- of RequestIO, where the checks ahead pass, with a named base and with base 0
 pub record OfIoNamed (F : Facts) (p : List ℕ) (k : Code) (q : List ℕ) : Type 0 where
-  pub refused : (k ≢ Success) ↔ (NotAllManaged F p ⊎ InTheWay F p)
-  pub bad-base : (k ≡ BadBase) ↔ NotAllManaged F p
-  pub in-use : (k ≡ InUse) ↔ ((NotAllManaged F p → ⊥) × InTheWay F p)
+  pub refused : (k ≢ Success) ↔ (NotAllManaged F (ioAsked p) ⊎ InTheWay F (ioAsked p))
+  pub bad-base : (k ≡ BadBase) ↔ NotAllManaged F (ioAsked p)
+  pub in-use : (k ≡ InUse) ↔ ((NotAllManaged F (ioAsked p) → ⊥) × InTheWay F (ioAsked p))
   pub kept : baseAsked q ≡ baseAsked p
 
 pub record OfIoChosen (F : Facts) (p : List ℕ) (k : Code) (q : List ℕ) : Type 0 where
-  pub refused : (k ≢ Success) ↔ NoCandidate F p
-  pub in-use : (k ≡ InUse) ↔ NoCandidate F p
-  pub fits : k ≡ Success → Candidate F p (baseAsked q)
+  pub refused : (k ≢ Success) ↔ NoCandidate F (ioAsked p)
+  pub in-use : (k ≡ InUse) ↔ NoCandidate F (ioAsked p)
+  pub fits : k ≡ Success → Candidate F (ioAsked p) (baseAsked q)
 
 -- after a run: es is the log, first call to last, and b are the table's bytes
 pub record AfterRun (sockets : ℕ) (es : List Event) (b : List ℕ) : Type 0 where

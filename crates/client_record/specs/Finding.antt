@@ -7,15 +7,14 @@ use Rattle.layout.specs.Sound.{LiveIn}
 use Rattle.client_record.specs.declared.ClientFound.{ClientFound}
 use Rattle.client_record.specs.declared.ClientFound.the-variants.{At, Nobody}
 
--- i is the first client listed whose handle is h
-pub record FirstAt (b : List ℕ) (h i : ℕ) : Type 0 where
+-- the client h is listed in the place i
+pub record ListedAt (b : List ℕ) (h i : ℕ) : Type 0 where
   pub listed : i < clientsIn b
   pub handle : handleIn b i ≡ h
-  pub first : (k : ℕ) → k < i → handleIn b k ≡ h → ⊥
 
--- where the search finds the handle h, or that nobody listed has it
+-- where the search finds the client h, or that nobody listed has this handle
 abbrev pub Finds : List ℕ → ℕ → ClientFound → Type 0
-Finds b h (At i) = FirstAt b h i
+Finds b h (At i) = ListedAt b h i
 Finds b h Nobody = LiveIn b h → ⊥
 
 -- the client h is listed in the place h - 1

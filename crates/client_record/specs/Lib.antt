@@ -1,3 +1,3 @@
 -- What the contracts of `client_record` cite. Assumes nothing.
 pub mod Finding
-pub use Finding.{FirstAt, Finds}
+pub use Finding.{ListedAt, Finds}

@@ -1,21 +1,20 @@
-// A client's record: found by its handle, live or not, its masks, which attributes are allowed; and whose a grant is.
+// A client's record: found by its handle, its masks, which attributes are allowed.
 use facts::Handle;
-use facts::Socket;
+use facts::Seat;
 use layout::CLIENT_MASKS_AT;
 use layout::CLIENT_SIZE;
 use layout::CLIENTS_AT;
 use layout::CLIENTS_IN;
 use layout::MASK_SIZE;
 ghost use mathlib.Core.Path.{_≡_};
-ghost use Prim.Native.Nat.{_+_, _<_, _≤_};
+ghost use Prim.Native.Nat.{_<_, _≤_};
 ghost use lib.ListN.{length};
 ghost use Rattle.facts.specs.Table;
 ghost use Rattle.facts.specs.Says.{Says};
-ghost use Rattle.facts.specs.Packets;
 ghost use Rattle.facts.specs.WellFormed.{AttributesAllowed};
 ghost use Rattle.layout.specs.Layout.{tableSize};
 ghost use Rattle.layout.specs.Reading.{clientsIn};
-ghost use Rattle.layout.specs.Sound.{LiveIn, MaskUsed};
+ghost use Rattle.layout.specs.Sound.{MaskUsed};
 ghost use Rattle.client_record.specs.Finding.{Finds, ByNumber};
 
 // A client's attributes are five bits, of which the lowest three say its type.
@@ -36,14 +35,14 @@ pub fn attributes_allowed(a: usize) -> bool
     }
 }
 
-// What a search for a client finds.
+// What a search for a client finds: the place in which it is listed.
 pub enum ClientFound {
     At(usize),
     Nobody,
 }
 
-// The first client listed whose handle is `h`.
-pub fn client_at(t: &[u8], h: Handle) -> ClientFound
+// The client `h`, in whichever place it is listed.
+fn search(t: &[u8], h: Handle) -> ClientFound
     requires { ⌜ (length (now t) ≡ tableSize) × (clientsIn (now t) ≤ Table.mostClients) ⌝ }
     ensures { λ r. ⌜ Finds (now (t .entry)) (h .0) r ⌝ }
 {
@@ -73,33 +72,21 @@ fn stands_by_number(t: &[u8], h: Handle) -> bool
     table_read::word(t, CLIENTS_AT + (number - 1) * CLIENT_SIZE) == number
 }
 
-// Whether `h` is the handle of one of the clients listed.
-pub fn live(t: &[u8], h: Handle) -> bool
+// The client `h`, looked for first where its number points.
+pub fn client_at(t: &[u8], h: Handle) -> ClientFound
     requires { ⌜ (length (now t) ≡ tableSize) × (clientsIn (now t) ≤ Table.mostClients) ⌝ }
-    ensures { λ r. ⌜ Says r (LiveIn (now (t .entry)) (h .0)) ⌝ }
+    ensures { λ r. ⌜ Finds (now (t .entry)) (h .0) r ⌝ }
 {
     if stands_by_number(t, h) {
-        return true;
+        let number = h.0 as usize;
+        return ClientFound::At(number - 1);
     }
-    let found = client_at(t, h);
-    match found {
-        ClientFound::At(_) => true,
-        ClientFound::Nobody => false,
-    }
+    search(t, h)
 }
 
-// Whether a grant, whose record stands at a place, is the client's.
-pub fn granted(t: &[u8], at: usize, h: Handle) -> bool
-    requires { ⌜ at + 1 < length (now t) ⌝ }
-    ensures { λ r. ⌜ Says r (Packets.word (now (t .entry)) at ≡ h .0) ⌝ }
-{
-    let holder = table_read::handle(t, at);
-    holder.0 == h.0
-}
-
-// Whether the client listed in the place `i` holds a mask for the socket.
-pub fn mask_on(t: &[u8], i: usize, s: Socket) -> bool
-    requires { ⌜ (length (now t) ≡ tableSize) × (i < Table.mostClients) × (s .0 < Table.mostSockets) ⌝ }
+// Whether the client listed in the place `i` holds a mask at the seat.
+pub fn mask_on(t: &[u8], i: usize, s: Seat) -> bool
+    requires { ⌜ (length (now t) ≡ tableSize) × (i < Table.mostClients) × (s .0 < Table.mostSeats) ⌝ }
     ensures { λ r. ⌜ Says r (MaskUsed (now (t .entry)) i (s .0)) ⌝ }
 {
     let number = s.0;

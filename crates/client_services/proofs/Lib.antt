@@ -1,5 +1,4 @@
+-- Each end of RegisterClient and DeregisterClient. Assumes nothing.
 mod Ends
-mod Steps
-pub use Ends.{Registers, register-length, register-bad, register-full, register-done, deregister-length, deregister-nobody, deregister-held}
+pub use Ends.{enters, register-length, register-bad, register-full, register-done, deregister-length, deregister-nobody, deregister-held}
 pub use Ends.{deregister-done}
-pub use Steps.{enters, enters-length}

@@ -2,22 +2,20 @@
 use client_record::ClientFound;
 use facts::Code;
 use facts::Handle;
-use facts::Socket;
+use facts::Seat;
 use layout::ALL_EVENTS;
 use layout::CLIENT_ATTRIBUTES_AT;
 use layout::CLIENT_EVENTS_AT;
 use layout::CLIENT_SIZE;
 use layout::CLIENTS_AT;
 use layout::CLIENTS_IN;
-use layout::IO_SIZE;
-use layout::IOS_AT;
-use layout::IRQ_SIZE;
-use layout::IRQS_AT;
 use layout::ISSUED_IN;
 use layout::MOST_CLIENTS;
 use layout::MOST_ISSUED;
-use layout::MOST_SOCKETS;
+use layout::MOST_SEATS;
 use layout::RANGES_AT;
+use seats::IoSeat;
+use seats::IrqSeat;
 use service_answers::Answer;
 use service_checks::Size;
 ghost use mathlib.Core.Path.{_≡_};
@@ -27,10 +25,10 @@ ghost use Rattle.facts.specs.Table;
 ghost use Rattle.facts.specs.Says.{Says};
 ghost use Rattle.facts.specs.Clients.{registerLength};
 ghost use Rattle.layout.specs.Layout.{tableSize};
-ghost use Rattle.layout.specs.Reading.{clientsIn};
+ghost use Rattle.layout.specs.Reading.{clientsIn, factsIn};
 ghost use Rattle.layout.specs.Sound.{Accepted};
 ghost use Rattle.layout.specs.Changed.{entered};
-ghost use Rattle.client_services.specs.Clients.{AsksFor, RoomIs, GrantIn, GrantHeldIn, MaskHeldIn, HeldIs, Withdrawn, RegisterServed};
+ghost use Rattle.client_services.specs.Clients.{AsksFor, RoomIs, GrantAt, GrantHeld, MaskHeldIn, HeldIs, Withdrawn, RegisterServed};
 ghost use Rattle.client_services.specs.Clients.{DeregisterServed};
 
 // The packet of RegisterClient (5.37) is 14 bytes, that of DeregisterClient (5.8) is empty.
@@ -116,28 +114,32 @@ pub fn register(t: &mut [u8], p: &[u8]) -> Answer
     Answer::Done(handle)
 }
 
-// Whether the client holds a grant on the socket.
-fn grant_on(t: &[u8], s: Socket, h: Handle) -> bool
-    requires { ⌜ (length (now t) ≡ tableSize) × (s .0 < Table.mostSockets) ⌝ }
-    ensures { λ r. ⌜ Says r (GrantIn (now (t .entry)) (h .0) (s .0)) ⌝ }
+// Whether the client holds a grant at the seat.
+fn grant_on(t: &[u8], s: Seat, h: Handle) -> bool
+    requires { ⌜ (length (now t) ≡ tableSize) × (s .0 < Table.mostSeats) ⌝ }
+    ensures { λ r. ⌜ Says r (GrantAt (factsIn (now (t .entry))) (h .0) (s .0)) ⌝ }
 {
-    let number = s.0;
-    if client_record::granted(t, IOS_AT + number * IO_SIZE, h) {
-        return true;
+    if let IoSeat::Held(x) = seats::held(t, s) {
+        let holder = x.client;
+        if holder.0 == h.0 {
+            return true;
+        }
     }
-    client_record::granted(t, IRQS_AT + number * IRQ_SIZE, h)
+    let IrqSeat::Held(x) = seats::level_held(t, s) else {
+        return false;
+    };
+    let holder = x.client;
+    holder.0 == h.0
 }
 
 fn grant_held(t: &[u8], h: Handle) -> bool
     requires { ⌜ length (now t) ≡ tableSize ⌝ }
-    ensures { λ r. ⌜ Says r (GrantHeldIn (now (t .entry)) (h .0)) ⌝ }
+    ensures { λ r. ⌜ Says r (GrantHeld (factsIn (now (t .entry))) (h .0)) ⌝ }
 {
-    let mut s = 0;
-    while s < MOST_SOCKETS {
-        if grant_on(t, Socket(s), h) {
+    for s in 0..MOST_SEATS {
+        if grant_on(t, Seat(s), h) {
             return true;
         }
-        s += 1;
     }
     false
 }
@@ -147,12 +149,10 @@ fn mask_held(t: &[u8], i: usize) -> bool
     requires { ⌜ (length (now t) ≡ tableSize) × (i < Table.mostClients) ⌝ }
     ensures { λ r. ⌜ Says r (MaskHeldIn (now (t .entry)) i) ⌝ }
 {
-    let mut s = 0;
-    while s < MOST_SOCKETS {
-        if client_record::mask_on(t, i, Socket(s)) {
+    for s in 0..MOST_SEATS {
+        if client_record::mask_on(t, i, Seat(s)) {
             return true;
         }
-        s += 1;
     }
     false
 }

@@ -72,8 +72,8 @@ module _ (F : Facts) (h : ℕ) (p : List ℕ) (o : Outcome) (w : WellFormed F) w
       (clients-formed F w _ _ (w .issued) (omega (arith, without-fewer number h (F .clients), w .clients-most))
       (rising-without 0 h (F .clients) (w .handles))
       (λ c m. client-fits F G refl c (omega arith) (w .clients c (without-in number h c (F .clients) m)))
-      (λ s g e. lives (g .client) (λ q. held (inl (record { socket = s; grant = g; live = e; holder = q }))) (w .ios s g e .client))
-      (λ s g e. lives (g .client) (λ q. held (inr (inl (record { socket = s; grant = g; live = e; holder = q })))) (w .irqs s g e .client)))
+      (λ s g e. lives (g .client) (λ q. held (inl (record { seat = s; range = g; held = e; holder = q }))) (w .ios s g e .client))
+      (λ s g e. lives (g .client) (λ q. held (inr (inl (record { seat = s; grant = g; live = e; holder = q })))) (w .irqs s g e .client)))
     where
       held : HoldsIo F h ⊎ HoldsIrq F h ⊎ HoldsMask F h → ⊥
       held = r .0 .1 .1 .0
@@ -84,7 +84,7 @@ module _ (F : Facts) (h : ℕ) (p : List ℕ) (o : Outcome) (w : WellFormed F) w
       lives : (k : ℕ) → k ≢ h → Live F k → Live G k
       lives k d = live-in F G k (λ c m e. in-without number h c (F .clients) m (λ q. d (sym e ∙ q)))
 
--- another mask, or none, of the client h for the socket s
+-- another mask, or none, of the client h at the seat s
 module _ (F : Facts) (h s : ℕ) (m : Option ℕ) (w : WellFormed F) where
   abbrev masked : Client → Client
   masked c = cond (eqb (c .handle) h) (masking s m c) c

@@ -2,7 +2,7 @@
 use Rattle.facts.proofs.Words.{_≡_, ap, sym, _∙_, _⊎_, inl, inr, ⊎-elim, _≢_, _↔_, List, [], _∷_, _++_, ℕ, arith}
 use Rattle.facts.specs.{Code, Success, BadBase, BadIrq, InUse, numberOf, Facts, Check, _gives_, Outcome, Passed, Decided, RequestIrq}
 use Rattle.facts.specs.{NoLevelFits, irqAheadChecks, levelChecks, RequestIo, NotAllManaged, InTheWay, NoCandidate, baseAsked, ioAheadChecks}
-use Rattle.facts.specs.{baseChecks, ExactlyWhen}
+use Rattle.facts.specs.{baseChecks, ExactlyWhen, ioAsked, irqAsked}
 use Rattle.facts.proofs.Joining.{taken-fits}
 
 -- where the checks ahead pass, the rest decide
@@ -63,28 +63,28 @@ module _ (base : ℕ) (code : Code) (N M C : Type 0) {kept done : Type 0} where
 
 module _ (F : Facts) (h : ℕ) (p : List ℕ) (o : Outcome) where
   irq-decides : Passed (irqAheadChecks F h p []) → RequestIrq F h p o
-      → ((o .code ≡ BadIrq) ↔ NoLevelFits F p) × ((o .code ≢ Success) ↔ NoLevelFits F p)
-  irq-decides ahead r = alone (o .code) BadIrq (omega arith) (ahead-decided (irqAheadChecks F h p []) (levelChecks F p) (o .code) ahead r)
+      → ((o .code ≡ BadIrq) ↔ NoLevelFits F (irqAsked p)) × ((o .code ≢ Success) ↔ NoLevelFits F (irqAsked p))
+  irq-decides ahead r = alone (o .code) BadIrq (omega arith) (ahead-decided (irqAheadChecks F h p []) (levelChecks F (irqAsked p)) (o .code) ahead r)
 
   io-named : Passed (ioAheadChecks F h p []) → baseAsked p ≢ 0 → RequestIo F h p o
-      → ((o .code ≡ BadBase) ↔ NotAllManaged F p) × ((o .code ≢ Success) ↔ (NotAllManaged F p ⊎ InTheWay F p))
-      × ((o .code ≡ InUse) ↔ ((NotAllManaged F p → ⊥) × InTheWay F p))
+      → ((o .code ≡ BadBase) ↔ NotAllManaged F (ioAsked p)) × ((o .code ≢ Success) ↔ (NotAllManaged F (ioAsked p) ⊎ InTheWay F (ioAsked p)))
+      × ((o .code ≡ InUse) ↔ ((NotAllManaged F (ioAsked p) → ⊥) × InTheWay F (ioAsked p)))
   io-named ahead ne r =
-      named (baseAsked p) (o .code) (NotAllManaged F p) (InTheWay F p) (NoCandidate F p) ne
-      (ahead-decided (ioAheadChecks F h p []) (baseChecks F p) (o .code) ahead r)
+      named (baseAsked p) (o .code) (NotAllManaged F (ioAsked p)) (InTheWay F (ioAsked p)) (NoCandidate F (ioAsked p)) ne
+      (ahead-decided (ioAheadChecks F h p []) (baseChecks F (ioAsked p)) (o .code) ahead r)
 
   io-chosen : Passed (ioAheadChecks F h p []) → baseAsked p ≡ 0 → RequestIo F h p o
-      → ((o .code ≡ InUse) ↔ NoCandidate F p) × ((o .code ≢ Success) ↔ NoCandidate F p)
+      → ((o .code ≡ InUse) ↔ NoCandidate F (ioAsked p)) × ((o .code ≢ Success) ↔ NoCandidate F (ioAsked p))
   io-chosen ahead z r =
-      chosen (baseAsked p) (o .code) (NotAllManaged F p) (InTheWay F p) (NoCandidate F p) z
-      (ahead-decided (ioAheadChecks F h p []) (baseChecks F p) (o .code) ahead r)
+      chosen (baseAsked p) (o .code) (NotAllManaged F (ioAsked p)) (InTheWay F (ioAsked p)) (NoCandidate F (ioAsked p)) z
+      (ahead-decided (ioAheadChecks F h p []) (baseChecks F (ioAsked p)) (o .code) ahead r)
 
 pub exactly-when : ExactlyWhen
 exactly-when =
     record {
       irq = λ F h p o ahead r. irq-decides F h p o ahead r .0;
       irq-refused = λ F h p o ahead r. irq-decides F h p o ahead r .1;
-      irq-taken = λ F p l w. taken-fits F w p l;
+      irq-taken = λ F p l w. taken-fits F w (irqAsked p) l;
       io-base = λ F h p o ahead ne r. io-named F h p o ahead ne r .0;
       io-named = λ F h p o ahead ne r. io-named F h p o ahead ne r .1;
       io-in-use = λ F h p o ahead ne r. io-named F h p o ahead ne r .2;

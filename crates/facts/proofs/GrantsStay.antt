@@ -4,7 +4,8 @@ use Rattle.facts.proofs.Words.{ℕ-discrete, decLe, arith, eq-eqb, Well
 use Rattle.facts.specs.{Facts, IoGrant, IrqGrant, bit, Bytes, Meet, AllManaged, AnswersManaged, IoFits, IrqFits, IoCompany, IrqCompany}
 use Rattle.facts.specs.{Together, Holds, Outcome, Passed, socketOf, requestChecks, RequestIrq, ReleaseIrq, GrantsIrq, ownIrqChecks}
 use Rattle.facts.specs.{levelChecks, irqGrant, mannerAsked, requestIrqLength, RequestIo, ReleaseIo, GrantsIo, BaseTaken, ownIoChecks}
-use Rattle.facts.specs.{baseChecks, ioGrant, portsAt, requestIoLength, countAsked, linesAsked, ioAttributes, mostLines}
+use Rattle.facts.specs.{baseChecks, ioGrant, portsAt, requestIoLength, countAsked, linesAsked, ioAttributes, mostLines, ioAsked, irqAsked}
+use Rattle.facts.specs.{Seat, HeldPorts, Held}
 use Rattle.facts.proofs.Company.{together-symmetric}
 use Rattle.facts.proofs.Joining.{joined-together}
 use Rattle.facts.proofs.Told.{told, both-told, true-told, managed-told}
@@ -22,24 +23,24 @@ module _ (F : Facts) (h : ℕ) (p : List ℕ) (o : Outcome) (w : WellFormed F) w
       granted : GrantsIrq F h p o
       granted = r .1 .1
 
-      passed : Passed (requestChecks requestIrqLength F h p (ownIrqChecks F p (levelChecks F p)))
+      passed : Passed (requestChecks requestIrqLength F h p (ownIrqChecks F p (levelChecks F (irqAsked p))))
       passed = r .0
 
       new : IrqGrant
-      new = irqGrant h p (granted .level)
+      new = irqGrant h (irqAsked p) (granted .level)
 
       fits : IrqFits F (socketOf p) new
       fits =
           record {
-            client = live-passed requestIrqLength F h p (ownIrqChecks F p (levelChecks F p)) passed;
-            socket = socket-passed requestIrqLength F h p (ownIrqChecks F p (levelChecks F p)) passed;
+            client = live-passed requestIrqLength F h p (ownIrqChecks F p (levelChecks F (irqAsked p))) passed;
+            socket = socket-passed requestIrqLength F h p (ownIrqChecks F p (levelChecks F (irqAsked p))) passed;
             managed = ⊎-elim (λ joined. joined .fits .managed) (λ old. old .1 .fits .managed) (granted .taken);
           }
 
       -- the level is joined, or it has no grant, or all its grants go together with this manner
       together : (t : ℕ) (g : IrqGrant) → Holds F (granted .level) t g → Together (g .manner) (mannerAsked p)
       together t g holds =
-          ⊎-elim (λ joined. joined-together F w p (granted .level) (joined .fits) t g holds)
+          ⊎-elim (λ joined. joined-together F w (irqAsked p) (granted .level) (joined .fits) t g holds)
           (λ old. ⊎-elim (λ free. absurd (free t g holds)) (λ all. all .1 t g holds) (old .1 .fits .free)) (granted .taken)
 
       company : (t : ℕ) (g : IrqGrant) → F .irq t ≡ some g → IrqCompany new g
@@ -65,36 +66,36 @@ module _ (F : Facts) (h : ℕ) (p : List ℕ) (o : Outcome) (w : WellFormed F) w
       base = granted .base
 
       new : IoGrant
-      new = ioGrant h p base
+      new = ioGrant h (ioAsked p) base
 
-      passed : Passed (requestChecks requestIoLength F h p (ownIoChecks F p (baseChecks F p)))
+      passed : Passed (requestChecks requestIoLength F h p (ownIoChecks F p (baseChecks F (ioAsked p))))
       passed = r .0
 
-      own : Passed (ownIoChecks F p (baseChecks F p))
-      own = request-passed requestIoLength F h p (ownIoChecks F p (baseChecks F p)) passed
+      own : Passed (ownIoChecks F p (baseChecks F (ioAsked p)))
+      own = request-passed requestIoLength F h p (ownIoChecks F p (baseChecks F (ioAsked p))) passed
 
       -- the base and its ports: the one named, or a candidate
-      positive : BaseTaken F p base → 1 ≤ base
+      positive : BaseTaken F (ioAsked p) base → 1 ≤ base
       positive (inl named) = omega (arith, named .0, named .1)
       positive (inr chosen) = chosen .1 .fits .positive
 
-      all-managed : BaseTaken F p base → AllManaged F base (countAsked p)
+      all-managed : BaseTaken F (ioAsked p) base → AllManaged F base (countAsked p)
       all-managed (inl named) =
           subst (λ (b : ℕ). AllManaged F b (countAsked p)) (sym (named .1))
           (λ q h. told (managed-told F q) (λ d. own .1 .1 .1 .0 (named .0, inr (inl (λ all. d (all q h))))))
       all-managed (inr chosen) = chosen .1 .fits .managed
 
-      answers-managed : BaseTaken F p base → AnswersManaged F (portsAt p base)
+      answers-managed : BaseTaken F (ioAsked p) base → AnswersManaged F (portsAt (ioAsked p) base)
       answers-managed (inl named) =
-          subst (λ (b : ℕ). AnswersManaged F (portsAt p b)) (sym (named .1))
+          subst (λ (b : ℕ). AnswersManaged F (portsAt (ioAsked p) b)) (sym (named .1))
           (λ q a. told (managed-told F q) (λ d. own .1 .1 .1 .0 (named .0, inr (inr (λ all. d (all q a))))))
       answers-managed (inr chosen) = chosen .1 .fits .answers
 
       fits : IoFits F (socketOf p) new
       fits =
           record {
-            client = live-passed requestIoLength F h p (ownIoChecks F p (baseChecks F p)) passed;
-            socket = socket-passed requestIoLength F h p (ownIoChecks F p (baseChecks F p)) passed;
+            client = live-passed requestIoLength F h p (ownIoChecks F p (baseChecks F (ioAsked p))) passed;
+            socket = socket-passed requestIoLength F h p (ownIoChecks F p (baseChecks F (ioAsked p))) passed;
             base = positive (granted .taken);
             line = told (decLe 1 (linesAsked p)) (λ d. own .0 (inr (inr (inl (omega arith)))));
             lines = told (decLe (linesAsked p) mostLines) (λ d. own .0 (inr (inr (inr (omega arith)))));
@@ -106,19 +107,18 @@ module _ (F : Facts) (h : ℕ) (p : List ℕ) (o : Outcome) (w : WellFormed F) w
           }
 
       -- a base named meets a live grant only if both share; a candidate meets none
-      company : BaseTaken F p base → (t : ℕ) (g : IoGrant) → F .io t ≡ some g → IoCompany new g
+      company : BaseTaken F (ioAsked p) base → (t : Seat) (g : HeldPorts) → Held F t g → IoCompany new g
       company (inl named) t g e m =
-          let both = told (both-told (ℕ-discrete (bit (ioAttributes p) 0) 1) (true-told (g .shared))) (λ d. own .1 .1 .1 .1 .0 (
+          told (both-told (true-told (ioAsked p .shared)) (true-told (g .shared))) (λ d. own .1 .1 .1 .1 .0 (
             named .0,
             record {
-              socket = t;
-              grant = g;
-              live = e;
-              meets = subst (λ (b : ℕ). Meet (portsAt p b) (g .ports)) (named .1) m;
+              seat = t;
+              range = g;
+              held = e;
+              meets = subst (λ (b : ℕ). Meet (portsAt (ioAsked p) b) (g .ports)) (named .1) m;
               unshared = inr d;
             },
-          )) in
-          (eq-eqb (bit (ioAttributes p) 0) 1 (both .0), both .1)
+          ))
       company (inr chosen) t g e m = absurd (chosen .1 .fits .meets-none t g e m)
 
   pub release-io-stays : ReleaseIo F h p o → WellFormed (o .facts)

@@ -3,6 +3,7 @@ pub mod Words
 pub mod Says
 pub mod Sets
 pub mod Codes
+pub mod Bits
 pub mod Choices
 pub mod Company
 pub mod Joining
@@ -20,9 +21,10 @@ pub mod GrantsStay
 pub mod Stays
 pub mod Exactly
 pub mod Laws
-pub use Says.{says-true, says-false, says-lt, says-eq, says-as, says-yes, says-no, says-not, says-false-by, says-dec}
+pub use Says.{says-true, says-false, says-lt, says-eq, says-eqb, says-as, says-yes, says-no, says-not, says-false-by, says-dec}
 pub use Sets.{put-same, put-other, put-is, in-left, in-right, in-either, in-map, map-in, length-map, by-number, without-in, in-without, rising-over}
 pub use Sets.{rising-more, rising-left-out, apart-port, apart-left-out}
+pub use Bits.{one-bit, one-only, shifted-bit, shifted-only, bit-below, masked-named, named-masked, one-named, named-one}
 pub use Codes.{code-byte, code-injective, packs-success, packs-code}
 pub use Choices.{chosen-first, chosen-then, smallest-power-unique}
 pub use Company.{meet-symmetric, together-symmetric}

@@ -5,7 +5,7 @@ use Rattle.facts.specs.{Code, Width, Record, Facts, Range, IoGrant, _∈
 use Rattle.facts.specs.{AdjustIrq, AdjustIo, inserted, withoutRange, ioRange, addLevelChecks, removeLevelChecks, addRangeChecks}
 use Rattle.facts.specs.{removeRangeChecks, levelAdded, levelRemoved, rangeAdded, rangeRemoved, reserveBit, levelGiven, levelAttributes}
 use Rattle.facts.specs.{baseGiven, countGiven, attributesGiven, linesGiven, Booted, ended, refused, added, recordAdded, recordChecks}
-use Rattle.facts.specs.{allLevels, allPorts, mostLines, mostRanges}
+use Rattle.facts.specs.{allLevels, allPorts, mostLines, mostRanges, Seat, HeldPorts, Held}
 use Rattle.facts.specs.Boot.{Boot}
 use Rattle.facts.proofs.Sets.{without-in, in-without, without-fewer, apart-without}
 use Rattle.facts.proofs.Unique.{range-unique}
@@ -21,7 +21,7 @@ module _ (F : Facts) (w : WellFormed F) (l attributes : ℕ) where
   pub level-removed-formed : Passed (removeLevelChecks F l attributes) → WellFormed (levelRemoved F l)
   level-removed-formed passed =
       level-formed F w l _ (told (decLt l allLevels) (λ d. passed .1 .0 (omega arith))) (λ e. e)
-      (λ s g e q. absurd (passed .1 .1 .1 .0 (record { socket = s; grant = g; holds = record { live = e; at = q } })))
+      (λ s g e q. absurd (passed .1 .1 .1 .0 (record { seat = s; grant = g; holds = record { live = e; at = q } })))
 
 -- ranges: one put in its place
 pub inserted-cases : (P : List Range → Type 0) (r x : Range) (xs : List Range) → (r .base < x .base → P (r ∷ x ∷ xs))
@@ -110,16 +110,16 @@ module _ (F : Facts) (w : WellFormed F) (base count attributes lines : ℕ) wher
       at r = r .base
 
       -- a range at a port of which a card answers isn't the one removed
-      stays : (s : ℕ) (g : IoGrant) → F .io s ≡ some g → (p : ℕ) → Answers (g .ports) p → (m : Managed F p) → m .range .base ≢ base
+      stays : (s : Seat) (g : HeldPorts) → Held F s g → (p : ℕ) → Answers (g .ports) p → (m : Managed F p) → m .range .base ≢ base
       stays s g e p a m q =
           passed .1 .1 .1 .0
           (λ r just. passed .1 .1 .1 .1 .0 (
             r,
             just,
             record {
-              socket = s;
-              grant = g;
-              live = e;
+              seat = s;
+              range = g;
+              held = e;
               port = p;
               has =
                   subst (λ (x : Range). Has x p)

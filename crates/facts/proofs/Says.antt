@@ -1,6 +1,6 @@
 -- What an answer decides: one that is written out, a comparison, an answer said of something else, and one that a test turned round. Assumes nothing.
-use Rattle.facts.proofs.Words.{_≡_, refl, Bool, true, false, not, true≢false, false≢true, ℕ, _<_, arith, ltb-true, ltb-false, eqb-true}
-use Rattle.facts.proofs.Words.{eqb-false, not-true, not-false, ltb, eqb, Says}
+use Rattle.facts.proofs.Words.{_≡_, refl, sym, Bool, true, false, not, true≢false, false≢true, ℕ, _<_, arith, ltb-true, ltb-false, eqb-true}
+use Rattle.facts.proofs.Words.{eqb-false, eq-eqb, ne-eqb, not-true, not-false, ltb, eqb, Says}
 
 pub says-true : {P : Type 0} → P → Says true P
 says-true p = record { holds = λ e. p; fails = λ e. absurd (true≢false e) }
@@ -13,6 +13,11 @@ says-lt a b = record { holds = ltb-true a b; fails = λ e l. omega (arith, ltb-f
 
 pub says-eq : (a b : ℕ) → Says (eqb a b) (a ≡ b)
 says-eq a b = record { holds = eqb-true a b; fails = eqb-false a b }
+
+-- an answer that says whether two numbers are equal is their comparison
+pub says-eqb : (r : Bool) (n m : ℕ) → Says r (n ≡ m) → r ≡ eqb n m
+says-eqb true n m s = sym (eq-eqb n m (s .holds refl))
+says-eqb false n m s = sym (ne-eqb n m (s .fails refl))
 
 module _ {r : Bool} {P : Type 0} where
   pub says-as : {Q : Type 0} → Says r Q → (Q → P) → (P → Q) → Says r P

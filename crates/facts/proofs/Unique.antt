@@ -12,7 +12,7 @@ use Rattle.facts.specs.{showRangeChecks, showingLevel, showingRange, typ
 use Rattle.facts.specs.{irqRequestChecks, irqReleaseChecks, sharersChecks, irqGrant, assigning, LevelTaken, withIrq, RequestIo, ReleaseIo}
 use Rattle.facts.specs.{BaseTaken, ioRequestChecks, ioReleaseChecks, ioGrant, withIo, ended, refused, added, stopped, recordChecks, Service}
 use Rattle.facts.specs.{registerClient, deregisterClient, adjustResourceInfo, requestIrq, releaseIrq, requestIo, releaseIo, requestSocketMask}
-use Rattle.facts.specs.{releaseSocketMask, serviceNumber, ruleOf, Call}
+use Rattle.facts.specs.{releaseSocketMask, serviceNumber, ruleOf, Call, IoAsked, IrqAsked, ioAsked, irqAsked}
 use Rattle.facts.specs.Boot.{Boot}
 use Rattle.facts.proofs.Sets.{apart-over, found}
 use Rattle.facts.proofs.Resources.{width-one}
@@ -95,18 +95,18 @@ pub lowest-unique : {Fit : ℕ → Type 0} {x y : ℕ} → Lowest Fit x → Lowe
 lowest-unique {Fit} {x} {y} c d = omega (arith, c .least y (d .fits), d .least x (c .fits))
 
 -- the level that is taken is one
-level-taken-unique : (F : Facts) (p : List ℕ) (x y : ℕ) → LevelTaken F p x → LevelTaken F p y → x ≡ y
-level-taken-unique F p x y (inl t) (inl t′) = lowest-unique t t′
-level-taken-unique F p x y (inl t) (inr t′) = absurd (t′ .0 x (t .fits))
-level-taken-unique F p x y (inr t) (inl t′) = absurd (t .0 y (t′ .fits))
-level-taken-unique F p x y (inr t) (inr t′) = chosen-unique (t .1) (t′ .1)
+level-taken-unique : (F : Facts) (q : IrqAsked) (x y : ℕ) → LevelTaken F q x → LevelTaken F q y → x ≡ y
+level-taken-unique F q x y (inl t) (inl t′) = lowest-unique t t′
+level-taken-unique F q x y (inl t) (inr t′) = absurd (t′ .0 x (t .fits))
+level-taken-unique F q x y (inr t) (inl t′) = absurd (t .0 y (t′ .fits))
+level-taken-unique F q x y (inr t) (inr t′) = chosen-unique (t .1) (t′ .1)
 
 -- the base that is taken is one
-base-taken-unique : (F : Facts) (p : List ℕ) (x y : ℕ) → BaseTaken F p x → BaseTaken F p y → x ≡ y
-base-taken-unique F p x y (inl b) (inl b′) = cc
-base-taken-unique F p x y (inl b) (inr b′) = absurd (b .0 (b′ .0))
-base-taken-unique F p x y (inr b) (inl b′) = absurd (b′ .0 (b .0))
-base-taken-unique F p x y (inr b) (inr b′) = chosen-unique (b .1) (b′ .1)
+base-taken-unique : (F : Facts) (q : IoAsked) (x y : ℕ) → BaseTaken F q x → BaseTaken F q y → x ≡ y
+base-taken-unique F q x y (inl b) (inl b′) = cc
+base-taken-unique F q x y (inl b) (inr b′) = absurd (b .0 (b′ .0))
+base-taken-unique F q x y (inr b) (inl b′) = absurd (b′ .0 (b .0))
+base-taken-unique F q x y (inr b) (inr b′) = chosen-unique (b .1) (b′ .1)
 
 -- of ranges apart from each other there is one at a base
 pub range-unique : (lo : ℕ) (rs : List Range) (r r′ : Range) → Apart lo rs → r ∈ rs → r′ ∈ rs → r .base ≡ r′ .base → r ≡ r′
@@ -132,7 +132,7 @@ range-shown-unique F r a a′ h h′ (all-share k s e l) (one-alone x k′ e′ 
 range-shown-unique F r a a′ h h′ (all-share k s e l) (all-share k′ s′ e′ l′) = (e ∙ sym e′, lowest-unique l l′)
 
 holder : {F : Facts} {l : ℕ} (k : LevelHeld F l) → LevelHolder F l (k .grant .client) (typeOf (k .grant .manner))
-holder k = record { socket = k .socket; grant = k .grant; holds = k .holds; client = refl; type = refl }
+holder k = record { seat = k .seat; grant = k .grant; holds = k .holds; client = refl; type = refl }
 
 level-shown-unique : (F : Facts) (l a a′ h h′ : ℕ) → LevelShown F l a h → LevelShown F l a′ h′ → (a ≡ a′) × (h ≡ h′)
 level-shown-unique F l a a′ h h′ (unheld n e z) (unheld n′ e′ z′) = (e ∙ sym e′, z ∙ sym z′)
@@ -221,8 +221,8 @@ module _ (F : Facts) (h : ℕ) (p : List ℕ) where
   pub request-irq-unique : Coincide (RequestIrq F h p)
   request-irq-unique =
       ruled-coincide (irqRequestChecks F h p) λ o o′ d d′.
-      let e = level-taken-unique F p (d .level) (d′ .level) (d .taken) (d′ .taken) in
-      leaves-same refl (ap (assigning p) e) (ap (λ (l : ℕ). withIrq F (socketOf p) (some (irqGrant h p l))) e) (d .leaves) (d′ .leaves)
+      let e = level-taken-unique F (irqAsked p) (d .level) (d′ .level) (d .taken) (d′ .taken) in
+      leaves-same refl (ap (assigning p) e) (ap (λ (l : ℕ). withIrq F (socketOf p) (some (irqGrant h (irqAsked p) l))) e) (d .leaves) (d′ .leaves)
 
   pub release-irq-unique : Coincide (ReleaseIrq F h p)
   release-irq-unique = leaves-coincide (irqReleaseChecks F h p)
@@ -230,8 +230,8 @@ module _ (F : Facts) (h : ℕ) (p : List ℕ) where
   pub request-io-unique : Coincide (RequestIo F h p)
   request-io-unique =
       ruled-coincide (ioRequestChecks F h p) λ o o′ d d′.
-      let e = base-taken-unique F p (d .base) (d′ .base) (d .taken) (d′ .taken) in
-      leaves-same refl (ap (withWord p 2) e) (ap (λ (b : ℕ). withIo F (socketOf p) (some (ioGrant h p b))) e) (d .leaves) (d′ .leaves)
+      let e = base-taken-unique F (ioAsked p) (d .base) (d′ .base) (d .taken) (d′ .taken) in
+      leaves-same refl (ap (withWord p 2) e) (ap (λ (b : ℕ). withIo F (socketOf p) (some (ioGrant h (ioAsked p) b))) e) (d .leaves) (d′ .leaves)
 
   pub release-io-unique : Coincide (ReleaseIo F h p)
   release-io-unique = leaves-coincide (ioReleaseChecks F h p)

@@ -7,7 +7,7 @@ use Prim.Native.Nat.{ℕ, _+_, _≤_}
 use lib.ListN.{length}
 use Rattle.facts.specs.declared.Code.the-variants.{BadAttribute, BadArgLength, InUse, OutOfResource, BadHandle}
 use Rattle.facts.specs.Table
-use Rattle.facts.specs.Table.{Facts, Client, IoGrant, IrqGrant}
+use Rattle.facts.specs.Table.{Facts, Seat, Client, HeldPorts, IrqGrant, Held}
 use Rattle.facts.specs.Sets.{_∈_, without}
 use Rattle.facts.specs.WellFormed.{Live, AttributesAllowed, EventsAllowed}
 use Rattle.facts.specs.Packets.{word}
@@ -69,31 +69,31 @@ withoutClient = without (λ (c : Client). c .handle)
 
 -- what a client holds
 pub record HoldsIo (F : Facts) (h : ℕ) : Type 0 where
-  pub socket : ℕ
-  pub grant : IoGrant
-  pub live : F .io socket ≡ some grant
-  pub holder : grant .client ≡ h
+  pub seat : Seat
+  pub range : HeldPorts
+  pub held : Held F seat range
+  pub holder : range .client ≡ h
 
 pub record HoldsIrq (F : Facts) (h : ℕ) : Type 0 where
-  pub socket : ℕ
+  pub seat : Seat
   pub grant : IrqGrant
-  pub live : F .irq socket ≡ some grant
+  pub live : F .irq seat ≡ some grant
   pub holder : grant .client ≡ h
 
--- the client h holds the mask m for the socket s
-pub record Masks (F : Facts) (h s m : ℕ) : Type 0 where
+-- the client h holds the mask m at the seat s
+pub record Masks (F : Facts) (h : ℕ) (s : Seat) (m : ℕ) : Type 0 where
   pub client : Client
   pub listed : client ∈ F .clients
   pub handle : client .handle ≡ h
   pub mask : client .mask s ≡ some m
 
--- the client h has a mask for the socket s
-abbrev pub MaskHeld : Facts → ℕ → ℕ → Type 0
+-- the client h has a mask at the seat s
+abbrev pub MaskHeld : Facts → ℕ → Seat → Type 0
 MaskHeld F h s = (m : ℕ) × Masks F h s m
 
--- it has one for some socket
+-- it has one at some seat
 abbrev pub HoldsMask : Facts → ℕ → Type 0
-HoldsMask F h = (s : ℕ) × (m : ℕ) × Masks F h s m
+HoldsMask F h = (s : Seat) × (m : ℕ) × Masks F h s m
 
 -- the packet of DeregisterClient (5.8) is empty
 abbrev pub deregisterLength : ℕ

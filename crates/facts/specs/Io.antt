@@ -2,13 +2,14 @@
 use mathlib.Core.Path.{_≡_}
 use mathlib.Core.Logic.{_⊎_, _≢_}
 use mathlib.Core.List.{List, [], _∷_}
-use mathlib.Core.Bool.{Bool, true}
+use mathlib.Core.Bool.{true}
 use mathlib.Core.Option.{Option, none, some}
 use Prim.Native.Nat.{ℕ, _+_, _*_, _^_, _≤_, _<_}
 use lib.Dec.{eqb}
+use Rattle.facts.specs.declared.IoAsked.{IoAsked}
 use Rattle.facts.specs.declared.Code.the-variants.{BadAttribute, BadBase, BadSize, InUse}
 use Rattle.facts.specs.Table
-use Rattle.facts.specs.Table.{Facts, Ports, IoGrant}
+use Rattle.facts.specs.Table.{Facts, Seat, seatOf, Ports, HeldPorts, IoGrant, Held}
 use Rattle.facts.specs.Sets.{put}
 use Rattle.facts.specs.Choice.{Chosen}
 use Rattle.facts.specs.Ports.{Meet, AllManaged, AnswersManaged, WhollyUnreserved}
@@ -42,12 +43,20 @@ IoShared p = bit (ioAttributes p) 0 ≡ 1
 abbrev pub IoFirstShared : List ℕ → Type 0
 IoFirstShared p = bit (ioAttributes p) 1 ≡ 1
 
-abbrev pub sharedAsked : List ℕ → Bool
-sharedAsked p = eqb (bit (ioAttributes p) 0) 1
+-- what a packet asks for
+abbrev pub ioAsked : List ℕ → IoAsked
+ioAsked p =
+    record {
+      base = baseAsked p;
+      count = countAsked p;
+      lines = linesAsked p;
+      shared = eqb (bit (ioAttributes p) 0) 1;
+      first = eqb (bit (ioAttributes p) 1) 1;
+    }
 
 -- the ports asked for, at the base b
-abbrev pub portsAt : List ℕ → ℕ → Ports
-portsAt p b = record { base = b; count = countAsked p; lines = linesAsked p }
+abbrev pub portsAt : IoAsked → ℕ → Ports
+portsAt q b = record { base = b; count = q .count; lines = q .lines }
 
 -- "attribute bits outside section 5.52's list, First Shared without Shared, or lines outside 1 to 16, BAD_ATTRIBUTE"
 abbrev pub IoAttributesBad : List ℕ → Type 0
@@ -60,23 +69,21 @@ IoSizeBad p = (countAsked p ≡ 0) ⊎ (2 ^ linesAsked p < countAsked p) ⊎ (se
 
 -- "Base not 0: a port past FFFF or unmanaged, BAD_BASE." K2 (document 02): "each port that equals a granted one modulo two to the lines must be
 -- managed too: BAD_BASE for a named base"
-abbrev pub NotAllManaged : Facts → List ℕ → Type 0
-NotAllManaged F p =
-    (Table.allPorts < baseAsked p + countAsked p)
-    ⊎ (AllManaged F (baseAsked p) (countAsked p) → ⊥)
-    ⊎ (AnswersManaged F (portsAt p (baseAsked p)) → ⊥)
+abbrev pub NotAllManaged : Facts → IoAsked → Type 0
+NotAllManaged F q =
+    (Table.allPorts < q .base + q .count) ⊎ (AllManaged F (q .base) (q .count) → ⊥) ⊎ (AnswersManaged F (portsAt q (q .base)) → ⊥)
 
--- the request and the grant both share
-abbrev pub BothShare : List ℕ → IoGrant → Type 0
-BothShare p g = IoShared p × (g .shared ≡ true)
+-- the request and what is held both share
+abbrev pub BothShare : IoAsked → HeldPorts → Type 0
+BothShare q x = (q .shared ≡ true) × (x .shared ≡ true)
 
 -- "It meets a live grant, and First Shared is set or the two don't both share: IN_USE."
-pub record InTheWay (F : Facts) (p : List ℕ) : Type 0 where
-  pub socket : ℕ
-  pub grant : IoGrant
-  pub live : F .io socket ≡ some grant
-  pub meets : Meet (portsAt p (baseAsked p)) (grant .ports)
-  pub unshared : IoFirstShared p ⊎ (BothShare p grant → ⊥)
+pub record InTheWay (F : Facts) (q : IoAsked) : Type 0 where
+  pub seat : Seat
+  pub range : HeldPorts
+  pub held : Held F seat range
+  pub meets : Meet (portsAt q (q .base)) (range .ports)
+  pub unshared : (q .first ≡ true) ⊎ (BothShare q range → ⊥)
 
 -- the smallest power of two not below n
 pub record SmallestPower (n a : ℕ) : Type 0 where
@@ -87,29 +94,29 @@ pub record SmallestPower (n a : ℕ) : Type 0 where
 
 -- "Base 0: candidates are the positive multiples of the smallest power of two not below the count, all ports managed, none past FFFF, meeting no
 -- live grant." K2 (document 02): "each port that equals a granted one modulo two to the lines must be managed too: .. not a candidate for base 0"
-pub record Candidate (F : Facts) (p : List ℕ) (b : ℕ) : Type 0 where
+pub record Candidate (F : Facts) (q : IoAsked) (b : ℕ) : Type 0 where
   pub step : ℕ
   pub times : ℕ
-  pub align : SmallestPower (countAsked p) step
+  pub align : SmallestPower (q .count) step
   pub multiple : b ≡ times * step
   pub positive : 1 ≤ b
-  pub managed : AllManaged F b (countAsked p)
-  pub answers : AnswersManaged F (portsAt p b)
-  pub within : b + countAsked p ≤ Table.allPorts
-  pub meets-none : (s : ℕ) (g : IoGrant) → F .io s ≡ some g → Meet (portsAt p b) (g .ports) → ⊥
+  pub managed : AllManaged F b (q .count)
+  pub answers : AnswersManaged F (portsAt q b)
+  pub within : b + q .count ≤ Table.allPorts
+  pub meets-none : (s : Seat) (x : HeldPorts) → Held F s x → Meet (portsAt q b) (x .ports) → ⊥
 
-abbrev pub NoCandidate : Facts → List ℕ → Type 0
-NoCandidate F p = (b : ℕ) → Candidate F p b → ⊥
+abbrev pub NoCandidate : Facts → IoAsked → Type 0
+NoCandidate F q = (b : ℕ) → Candidate F q b → ⊥
 
 -- "Candidates wholly in unreserved ranges come first, then the lowest"; K2: "The order by reserve looks at the range's own ports alone."
-abbrev pub CandidateTaken : Facts → List ℕ → ℕ → Type 0
-CandidateTaken F p = Chosen (Candidate F p) (λ b. WhollyUnreserved F b (countAsked p))
+abbrev pub CandidateTaken : Facts → IoAsked → ℕ → Type 0
+CandidateTaken F q = Chosen (Candidate F q) (λ b. WhollyUnreserved F b (q .count))
 
 -- the base that is taken: the one named, or the first candidate
-abbrev pub BaseTaken : Facts → List ℕ → ℕ → Type 0
-BaseTaken F p b = ((baseAsked p ≢ 0) × (b ≡ baseAsked p)) ⊎ ((baseAsked p ≡ 0) × CandidateTaken F p b)
+abbrev pub BaseTaken : Facts → IoAsked → ℕ → Type 0
+BaseTaken F q b = ((q .base ≢ 0) × (b ≡ q .base)) ⊎ ((q .base ≡ 0) × CandidateTaken F q b)
 
-abbrev pub withIo : Facts → ℕ → Option IoGrant → Facts
+abbrev pub withIo : Facts → Seat → Option IoGrant → Facts
 withIo F s g =
     record {
       sockets = F .sockets;
@@ -124,42 +131,42 @@ withIo F s g =
 
 -- the checks ahead of the base; "the socket has an I/O grant, IN_USE"
 abbrev pub ownIoChecks : Facts → List ℕ → List Check → List Check
-ownIoChecks F p base = (IoAttributesBad p gives BadAttribute) ∷ (IoSizeBad p gives BadSize) ∷ ((F .io (socketOf p) ≢ none) gives InUse) ∷ base
+ownIoChecks F p base = (IoAttributesBad p gives BadAttribute) ∷ (IoSizeBad p gives BadSize) ∷ ((F .io (seatOf (socketOf p)) ≢ none) gives InUse) ∷ base
 
 abbrev pub ioAheadChecks : Facts → ℕ → List ℕ → List Check → List Check
 ioAheadChecks F h p base = requestChecks requestIoLength F h p (ownIoChecks F p base)
 
 -- "a port past FFFF or unmanaged, BAD_BASE", and K2's. "It meets a live grant, and First Shared is set or the two don't both share: IN_USE. Base 0: candidates ..
 -- none: IN_USE."
-abbrev pub baseChecks : Facts → List ℕ → List Check
-baseChecks F p =
-    (((baseAsked p ≢ 0) × NotAllManaged F p) gives BadBase)
-    ∷ (((baseAsked p ≢ 0) × InTheWay F p) gives InUse)
-    ∷ (((baseAsked p ≡ 0) × NoCandidate F p) gives InUse)
+abbrev pub baseChecks : Facts → IoAsked → List Check
+baseChecks F q =
+    (((q .base ≢ 0) × NotAllManaged F q) gives BadBase)
+    ∷ (((q .base ≢ 0) × InTheWay F q) gives InUse)
+    ∷ (((q .base ≡ 0) × NoCandidate F q) gives InUse)
     ∷ []
 
 abbrev pub ioRequestChecks : Facts → ℕ → List ℕ → List Check
-ioRequestChecks F h p = ioAheadChecks F h p (baseChecks F p)
+ioRequestChecks F h p = ioAheadChecks F h p (baseChecks F (ioAsked p))
 
 -- the client h is granted the ports at the base taken, on the packet's socket; "Success writes BasePort1."
-abbrev pub ioGrant : ℕ → List ℕ → ℕ → IoGrant
-ioGrant h p b = record { client = h; ports = portsAt p b; shared = sharedAsked p }
+abbrev pub ioGrant : ℕ → IoAsked → ℕ → IoGrant
+ioGrant h q b = record { client = h; ports = portsAt q b; shared = q .shared }
 
 pub record GrantsIo (F : Facts) (h : ℕ) (p : List ℕ) (o : Outcome) : Type 0 where
   pub base : ℕ
-  pub taken : BaseTaken F p base
-  pub leaves : Leaves h (withWord p 2 base) (withIo F (socketOf p) (some (ioGrant h p base))) o
+  pub taken : BaseTaken F (ioAsked p) base
+  pub leaves : Leaves h (withWord p 2 base) (withIo F (seatOf (socketOf p)) (some (ioGrant h (ioAsked p) base))) o
 
 abbrev pub RequestIo : Rule
 RequestIo F h p = Ruled (ioRequestChecks F h p) (GrantsIo F h p) F p
 
--- this client holds that base and count on this socket
-pub record IoHeld (F : Facts) (h s base count : ℕ) : Type 0 where
-  pub grant : IoGrant
-  pub live : F .io s ≡ some grant
-  pub client : grant .client ≡ h
-  pub base-is : grant .ports .base ≡ base
-  pub count-is : grant .ports .count ≡ count
+-- this client holds that base and count at this seat
+pub record IoHeld (F : Facts) (h : ℕ) (s : Seat) (base count : ℕ) : Type 0 where
+  pub range : HeldPorts
+  pub held : Held F s range
+  pub client : range .client ≡ h
+  pub base-is : range .ports .base ≡ base
+  pub count-is : range .ports .count ≡ count
 
 -- the packet of ReleaseIO (5.44): as RequestIO's
 abbrev pub releaseIoLength : ℕ
@@ -170,7 +177,7 @@ releaseIoLength = 11
 abbrev pub ioReleaseChecks : Facts → ℕ → List ℕ → List Check
 ioReleaseChecks F h p =
     releaseChecks releaseIoLength F h p
-    (((secondCount p ≢ 0) gives BadSize) ∷ ((IoHeld F h (socketOf p) (baseAsked p) (countAsked p) → ⊥) gives BadBase) ∷ [])
+    (((secondCount p ≢ 0) gives BadSize) ∷ ((IoHeld F h (seatOf (socketOf p)) (baseAsked p) (countAsked p) → ⊥) gives BadBase) ∷ [])
 
 abbrev pub ReleaseIo : Rule
-ReleaseIo F h p = Ruled (ioReleaseChecks F h p) (Leaves h p (withIo F (socketOf p) none)) F p
+ReleaseIo F h p = Ruled (ioReleaseChecks F h p) (Leaves h p (withIo F (seatOf (socketOf p)) none)) F p

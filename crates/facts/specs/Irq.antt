@@ -7,12 +7,13 @@ use mathlib.Core.Option.{Option, none, some}
 use Prim.Native.Nat.{ℕ, zero, suc, _+_, _%_, _^_, _≤_}
 use lib.ListN.{set}
 use lib.Dec.{eqb}
+use Rattle.facts.specs.declared.IrqAsked.{IrqAsked}
 use Rattle.facts.specs.declared.Manner.{Manner}
 use Rattle.facts.specs.declared.Manner.the-variants.{Exclusive, TimeMultiplexed, DynamicLevel, DynamicPulse}
 use Rattle.facts.specs.declared.Code.{Code}
 use Rattle.facts.specs.declared.Code.the-variants.{BadAttribute, BadArgs, BadIrq, InUse}
 use Rattle.facts.specs.Table
-use Rattle.facts.specs.Table.{Facts, IrqGrant}
+use Rattle.facts.specs.Table.{Facts, Seat, seatOf, IrqGrant}
 use Rattle.facts.specs.Sets.{put}
 use Rattle.facts.specs.Choice.{Chosen, Lowest}
 use Rattle.facts.specs.Levels.{Together, Holds, typeOf, exclusiveType, timeMultiplexedType, dynamicType}
@@ -85,49 +86,56 @@ mannerAsked p =
     (cond (eqb (typeAsked p) timeMultiplexedType) TimeMultiplexed
     (dynamicOf (bit (attributesOf p) 2) (bit (info1 p) 5)))
 
--- "With Mask clear, the low four bits name one level and IRQInfo2 is ignored."
-abbrev pub Named : List ℕ → ℕ → Type 0
-Named p l = (Mask p × (bit (info2 p) l ≡ 1)) ⊎ ((Mask p → ⊥) × (l ≡ levelAsked p))
+-- the levels that a packet names, a bit for each: "With Mask clear, the low four bits name one level and IRQInfo2 is ignored."
+abbrev pub levelsNamed : List ℕ → ℕ
+levelsNamed p = cond (eqb (bit (info1 p) 4) 1) (info2 p) (2 ^ levelAsked p)
+
+-- what a packet asks for
+abbrev pub irqAsked : List ℕ → IrqAsked
+irqAsked p = record { manner = mannerAsked p; named = levelsNamed p; first = eqb (bit (attributesOf p) 3) 1 }
+
+abbrev pub Named : IrqAsked → ℕ → Type 0
+Named q l = bit (q .named) l ≡ 1
 
 -- "A level fits if it is named, managed, and either has no grant or, without First Shared, all its grants go together with this manner."
-pub record Fits (F : Facts) (p : List ℕ) (l : ℕ) : Type 0 where
-  pub named : Named p l
+pub record Fits (F : Facts) (q : IrqAsked) (l : ℕ) : Type 0 where
+  pub named : Named q l
   pub managed : F .level l .managed ≡ true
-  pub free : ((s : ℕ) (g : IrqGrant) → Holds F l s g → ⊥)
-      ⊎ ((IrqFirstShared p → ⊥) × ((s : ℕ) (g : IrqGrant) → Holds F l s g → Together (g .manner) (mannerAsked p)))
+  pub free : ((s : Seat) (g : IrqGrant) → Holds F l s g → ⊥)
+      ⊎ ((q .first ≡ false) × ((s : Seat) (g : IrqGrant) → Holds F l s g → Together (g .manner) (q .manner)))
 
 -- none does
-abbrev pub NoLevelFits : Facts → List ℕ → Type 0
-NoLevelFits F p = (l : ℕ) → Fits F p l → ⊥
+abbrev pub NoLevelFits : Facts → IrqAsked → Type 0
+NoLevelFits F q = (l : ℕ) → Fits F q l → ⊥
 
 -- "An unreserved level comes before a reserved one, then the lowest."
-abbrev pub FirstFitting : Facts → List ℕ → ℕ → Type 0
-FirstFitting F p = Chosen (Fits F p) (λ l. F .level l .reserved ≡ false)
+abbrev pub FirstFitting : Facts → IrqAsked → ℕ → Type 0
+FirstFitting F q = Chosen (Fits F q) (λ l. F .level l .reserved ≡ false)
 
 -- K1: "A sharing request without First Shared"
-pub record Joining (p : List ℕ) : Type 0 where
-  pub shares : mannerAsked p ≢ Exclusive
-  pub not-first : IrqFirstShared p → ⊥
+pub record Joining (q : IrqAsked) : Type 0 where
+  pub shares : q .manner ≢ Exclusive
+  pub not-first : q .first ≡ false
 
 -- K1: "the lowest named level that already has grants of its manner": one of these, reserved or not
-pub record Joins (F : Facts) (p : List ℕ) (l : ℕ) : Type 0 where
-  pub joining : Joining p
-  pub named : Named p l
+pub record Joins (F : Facts) (q : IrqAsked) (l : ℕ) : Type 0 where
+  pub joining : Joining q
+  pub named : Named q l
   pub managed : F .level l .managed ≡ true
-  pub socket : ℕ
+  pub seat : Seat
   pub grant : IrqGrant
-  pub holds : Holds F l socket grant
-  pub manner : grant .manner ≡ mannerAsked p
+  pub holds : Holds F l seat grant
+  pub manner : grant .manner ≡ q .manner
 
 -- "none exists"
-abbrev pub NoLevelJoined : Facts → List ℕ → Type 0
-NoLevelJoined F p = (l : ℕ) → Joins F p l → ⊥
+abbrev pub NoLevelJoined : Facts → IrqAsked → Type 0
+NoLevelJoined F q = (l : ℕ) → Joins F q l → ⊥
 
 -- K1: it takes "the lowest" of them; "only if none exists, the old choice"
-abbrev pub LevelTaken : Facts → List ℕ → ℕ → Type 0
-LevelTaken F p l = Lowest (Joins F p) l ⊎ (NoLevelJoined F p × FirstFitting F p l)
+abbrev pub LevelTaken : Facts → IrqAsked → ℕ → Type 0
+LevelTaken F q l = Lowest (Joins F q) l ⊎ (NoLevelJoined F q × FirstFitting F q l)
 
-abbrev pub withIrq : Facts → ℕ → Option IrqGrant → Facts
+abbrev pub withIrq : Facts → Seat → Option IrqGrant → Facts
 withIrq F s g =
     record {
       sockets = F .sockets;
@@ -152,32 +160,32 @@ assigning p l = set (withPulse (mannerAsked p) p) 4 l
 
 -- the checks ahead of the fit; "IN_USE: the socket has an IRQ grant."
 abbrev pub ownIrqChecks : Facts → List ℕ → List Check → List Check
-ownIrqChecks F p fit = (IrqAttributesBad p gives BadAttribute) ∷ (IrqInfoBad p gives BadArgs) ∷ ((F .irq (socketOf p) ≢ none) gives InUse) ∷ fit
+ownIrqChecks F p fit = (IrqAttributesBad p gives BadAttribute) ∷ (IrqInfoBad p gives BadArgs) ∷ ((F .irq (seatOf (socketOf p)) ≢ none) gives InUse) ∷ fit
 
 abbrev pub irqAheadChecks : Facts → ℕ → List ℕ → List Check → List Check
 irqAheadChecks F h p fit = requestChecks requestIrqLength F h p (ownIrqChecks F p fit)
 
 -- "None: BAD_IRQ."
-abbrev pub levelChecks : Facts → List ℕ → List Check
-levelChecks F p = (NoLevelFits F p gives BadIrq) ∷ []
+abbrev pub levelChecks : Facts → IrqAsked → List Check
+levelChecks F q = (NoLevelFits F q gives BadIrq) ∷ []
 
 abbrev pub irqRequestChecks : Facts → ℕ → List ℕ → List Check
-irqRequestChecks F h p = irqAheadChecks F h p (levelChecks F p)
+irqRequestChecks F h p = irqAheadChecks F h p (levelChecks F (irqAsked p))
 
 -- the client h is granted the level taken, on the packet's socket and in the manner asked for
-abbrev pub irqGrant : ℕ → List ℕ → ℕ → IrqGrant
-irqGrant h p l = record { client = h; level = l; manner = mannerAsked p }
+abbrev pub irqGrant : ℕ → IrqAsked → ℕ → IrqGrant
+irqGrant h q l = record { client = h; level = l; manner = q .manner }
 
 pub record GrantsIrq (F : Facts) (h : ℕ) (p : List ℕ) (o : Outcome) : Type 0 where
   pub level : ℕ
-  pub taken : LevelTaken F p level
-  pub leaves : Leaves h (assigning p level) (withIrq F (socketOf p) (some (irqGrant h p level))) o
+  pub taken : LevelTaken F (irqAsked p) level
+  pub leaves : Leaves h (assigning p level) (withIrq F (seatOf (socketOf p)) (some (irqGrant h (irqAsked p) level))) o
 
 abbrev pub RequestIrq : Rule
 RequestIrq F h p = Ruled (irqRequestChecks F h p) (GrantsIrq F h p) F p
 
--- this client holds this level on this socket
-pub record IrqHeld (F : Facts) (h s l : ℕ) (g : IrqGrant) : Type 0 where
+-- this client holds this level at this seat
+pub record IrqHeld (F : Facts) (h : ℕ) (s : Seat) (l : ℕ) (g : IrqGrant) : Type 0 where
   pub live : F .irq s ≡ some g
   pub client : g .client ≡ h
   pub level : g .level ≡ l
@@ -191,19 +199,19 @@ releaseIrqLength = 5
 abbrev pub irqReleaseChecks : Facts → ℕ → List ℕ → List Check
 irqReleaseChecks F h p =
     releaseChecks releaseIrqLength F h p
-    ((((g : IrqGrant) → IrqHeld F h (socketOf p) (assignedIrq p) g → ⊥) gives BadIrq)
-    ∷ (((g : IrqGrant) × IrqHeld F h (socketOf p) (assignedIrq p) g × (typeOf (g .manner) ≢ typeAsked p)) gives BadAttribute)
+    ((((g : IrqGrant) → IrqHeld F h (seatOf (socketOf p)) (assignedIrq p) g → ⊥) gives BadIrq)
+    ∷ (((g : IrqGrant) × IrqHeld F h (seatOf (socketOf p)) (assignedIrq p) g × (typeOf (g .manner) ≢ typeAsked p)) gives BadAttribute)
     ∷ [])
 
 abbrev pub ReleaseIrq : Rule
-ReleaseIrq F h p = Ruled (irqReleaseChecks F h p) (Leaves h p (withIrq F (socketOf p) none)) F p
+ReleaseIrq F h p = Ruled (irqReleaseChecks F h p) (Leaves h p (withIrq F (seatOf (socketOf p)) none)) F p
 
 -- one for a grant on the level l, else none
 abbrev pub sharer : ℕ → Option IrqGrant → ℕ
 sharer l none = 0
 sharer l (some g) = cond (eqb (g .level) l) 1 0
 
--- the number of live grants of the level l on the sockets below n
+-- the number of live grants of the level l at the seats below n
 abbrev pub sharersBelow : Facts → ℕ → ℕ → ℕ
 sharersBelow F l zero = 0
 sharersBelow F l (suc n) = sharersBelow F l n + sharer l (F .irq n)

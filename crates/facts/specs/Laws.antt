@@ -14,8 +14,8 @@ use Rattle.facts.specs.WellFormed.{WellFormed}
 use Rattle.facts.specs.Packets.{Bytes}
 use Rattle.facts.specs.Checks.{Outcome, Kept, Passed}
 use Rattle.facts.specs.Sockets.{CardOutcome, CardTo}
-use Rattle.facts.specs.Irq.{Count, Sharers, RequestIrq, Fits, NoLevelFits, LevelTaken, irqAheadChecks}
-use Rattle.facts.specs.Io.{RequestIo, NotAllManaged, InTheWay, NoCandidate, baseAsked, ioAheadChecks}
+use Rattle.facts.specs.Irq.{Count, Sharers, RequestIrq, irqAsked, Fits, NoLevelFits, LevelTaken, irqAheadChecks}
+use Rattle.facts.specs.Io.{RequestIo, ioAsked, NotAllManaged, InTheWay, NoCandidate, baseAsked, ioAheadChecks}
 use Rattle.facts.specs.Boot.{Booted, Boot, recordSize, recordOf, recordsIn, recordsOf, endOf, recordsAdded}
 use Rattle.facts.specs.Services.{Call}
 
@@ -77,21 +77,21 @@ pub record BytesLaws : Type 0 where
 pub record ExactlyWhen : Type 0 where
   -- RequestIRQ answers BAD_IRQ exactly if no level fits, and is refused for no other reason
   pub irq : (F : Facts) (h : ℕ) (p : List ℕ) (o : Outcome) → Passed (irqAheadChecks F h p []) → RequestIrq F h p o
-      → (o .code ≡ BadIrq) ↔ NoLevelFits F p
+      → (o .code ≡ BadIrq) ↔ NoLevelFits F (irqAsked p)
   pub irq-refused : (F : Facts) (h : ℕ) (p : List ℕ) (o : Outcome) → Passed (irqAheadChecks F h p []) → RequestIrq F h p o
-      → (o .code ≢ Success) ↔ NoLevelFits F p
+      → (o .code ≢ Success) ↔ NoLevelFits F (irqAsked p)
   -- and the level that it takes is one that fits
-  pub irq-taken : (F : Facts) (p : List ℕ) (l : ℕ) → WellFormed F → LevelTaken F p l → Fits F p l
+  pub irq-taken : (F : Facts) (p : List ℕ) (l : ℕ) → WellFormed F → LevelTaken F (irqAsked p) l → Fits F (irqAsked p) l
   -- RequestIO with a named base answers BAD_BASE exactly if it isn't all managed, and is refused exactly for that or if it meets what it may not
   pub io-base : (F : Facts) (h : ℕ) (p : List ℕ) (o : Outcome) → Passed (ioAheadChecks F h p []) → baseAsked p ≢ 0 → RequestIo F h p o
-      → (o .code ≡ BadBase) ↔ NotAllManaged F p
+      → (o .code ≡ BadBase) ↔ NotAllManaged F (ioAsked p)
   pub io-named : (F : Facts) (h : ℕ) (p : List ℕ) (o : Outcome) → Passed (ioAheadChecks F h p []) → baseAsked p ≢ 0 → RequestIo F h p o
-      → (o .code ≢ Success) ↔ (NotAllManaged F p ⊎ InTheWay F p)
+      → (o .code ≢ Success) ↔ (NotAllManaged F (ioAsked p) ⊎ InTheWay F (ioAsked p))
   -- what is left of a named base is IN_USE: all is managed, and a grant is in the way
   pub io-in-use : (F : Facts) (h : ℕ) (p : List ℕ) (o : Outcome) → Passed (ioAheadChecks F h p []) → baseAsked p ≢ 0 → RequestIo F h p o
-      → (o .code ≡ InUse) ↔ ((NotAllManaged F p → ⊥) × InTheWay F p)
+      → (o .code ≡ InUse) ↔ ((NotAllManaged F (ioAsked p) → ⊥) × InTheWay F (ioAsked p))
   -- RequestIO with base 0 answers IN_USE exactly if there is no candidate, and is refused for no other reason
   pub io-chosen : (F : Facts) (h : ℕ) (p : List ℕ) (o : Outcome) → Passed (ioAheadChecks F h p []) → baseAsked p ≡ 0 → RequestIo F h p o
-      → (o .code ≡ InUse) ↔ NoCandidate F p
+      → (o .code ≡ InUse) ↔ NoCandidate F (ioAsked p)
   pub io-chosen-refused : (F : Facts) (h : ℕ) (p : List ℕ) (o : Outcome) → Passed (ioAheadChecks F h p []) → baseAsked p ≡ 0 → RequestIo F h p o
-      → (o .code ≢ Success) ↔ NoCandidate F p
+      → (o .code ≢ Success) ↔ NoCandidate F (ioAsked p)

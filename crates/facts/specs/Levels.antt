@@ -5,7 +5,7 @@ use mathlib.Core.Option.{some}
 use Prim.Native.Nat.{ℕ}
 use Rattle.facts.specs.declared.Manner.{Manner}
 use Rattle.facts.specs.declared.Manner.the-variants.{Exclusive, TimeMultiplexed, DynamicLevel, DynamicPulse}
-use Rattle.facts.specs.Table.{Facts, IrqGrant}
+use Rattle.facts.specs.Table.{Facts, Seat, IrqGrant}
 
 -- "Two manners go together by a four by four table: only equal ones, and never exclusive."
 pub record Together (a b : Manner) : Type 0 where
@@ -29,7 +29,7 @@ typeOf TimeMultiplexed = timeMultiplexedType
 typeOf DynamicLevel = dynamicType
 typeOf DynamicPulse = dynamicType
 
--- the grant g of a socket is a live grant of the level l
-pub record Holds (F : Facts) (l s : ℕ) (g : IrqGrant) : Type 0 where
+-- the grant g at a seat is a live grant of the level l
+pub record Holds (F : Facts) (l : ℕ) (s : Seat) (g : IrqGrant) : Type 0 where
   pub live : F .irq s ≡ some g
   pub at : g .level ≡ l

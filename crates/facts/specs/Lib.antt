@@ -27,12 +27,14 @@ pub use declared.Width.the-variants.{Short, Wide}
 pub use declared.Record.{Record}
 pub use declared.RangeAsked.{RangeAsked}
 pub use declared.Handle.{Handle}
+pub use declared.IoAsked.{IoAsked}
+pub use declared.IrqAsked.{IrqAsked}
 pub use Codes.{numberOf, packed, placed}
 pub use Sets.{_∈_, without, put}
 pub use Choice.{Before, Chosen, Lowest}
-pub use Table.{mostSockets, mostClients, mostIssued, allLevels, mostRanges, allPorts, mostLines, allEvents, mostAsked, Client, Level, Range, IoGrant}
-pub use Table.{IrqGrant, Facts, fresh}
-pub use Ports.{Within, Meet, Has, Managed, AllManaged, Answers, AnswersManaged, WhollyUnreserved, Overlap}
+pub use Table.{mostSockets, mostClients, mostIssued, allLevels, mostRanges, allPorts, mostLines, allEvents, mostAsked, Client, Level, Range, IoGrant, HeldPorts, Held}
+pub use Table.{IrqGrant, Facts, fresh, Seat, seatOf, socketAt, mostSeats}
+pub use Ports.{MeetsHeld, Within, Meet, Has, Managed, AllManaged, Answers, AnswersManaged, WhollyUnreserved, Overlap}
 pub use Levels.{Together, exclusiveType, timeMultiplexedType, dynamicType, typeOf, Holds}
 pub use WellFormed.{Rising, Apart, Live, AttributesAllowed, EventsAllowed, ClientFits, IoFits, IrqFits, IoCompany, IrqCompany}
 pub use Packets.{byte, word, long, withWord, withLong, bit, Bytes}
@@ -50,10 +52,10 @@ pub use Resources.{takeChecks, removeRangeChecks, withoutRange, rangeRemoved, Fo
 pub use Resources.{one-alone, all-share, RangeNext, showRangeChecks, LevelHolder, LevelShown, of-type, LevelFollows, showLevelChecks, AddLevel}
 pub use Resources.{RemoveLevel, ShowLevel, AddRange, RemoveRange, ShowRange, ByAction, AdjustIrq, AdjustIo, ByResource, AdjustResourceInfo}
 pub use Irq.{requestIrqLength, attributesOf, assignedIrq, info1, info2, typeAsked, ForcePulse, IrqFirstShared, levelAsked, Mask, LevelBit, PulseBit}
-pub use Irq.{ShareBit, IrqAttributesBad, IrqInfoBad, dynamicOf, mannerAsked, Named, Fits, NoLevelFits, FirstFitting, Joining, Joins, NoLevelJoined}
+pub use Irq.{ShareBit, IrqAttributesBad, IrqInfoBad, dynamicOf, mannerAsked, irqAsked, levelsNamed, Named, Fits, NoLevelFits, FirstFitting, Joining, Joins, NoLevelJoined}
 pub use Irq.{LevelTaken, withIrq, withPulse, assigning, ownIrqChecks, irqAheadChecks, levelChecks, irqRequestChecks, irqGrant, GrantsIrq, RequestIrq}
 pub use Irq.{IrqHeld, releaseIrqLength, irqReleaseChecks, ReleaseIrq, sharer, sharersBelow, Count, sharersChecks, Sharers}
-pub use Io.{requestIoLength, baseAsked, countAsked, ioAttributes, secondCount, linesAsked, IoShared, IoFirstShared, sharedAsked, portsAt}
+pub use Io.{requestIoLength, baseAsked, countAsked, ioAttributes, secondCount, linesAsked, IoShared, IoFirstShared, ioAsked, portsAt}
 pub use Io.{IoAttributesBad, IoSizeBad, NotAllManaged, BothShare, InTheWay, SmallestPower, Candidate, NoCandidate, CandidateTaken, BaseTaken, withIo}
 pub use Io.{ownIoChecks, ioAheadChecks, baseChecks, ioRequestChecks, ioGrant, GrantsIo, RequestIo, IoHeld, releaseIoLength, ioReleaseChecks}
 pub use Io.{ReleaseIo}

@@ -4,7 +4,7 @@ use mathlib.Core.Bool.{false}
 use Prim.Native.Nat.{ℕ, _+_, _%_, _^_, _≤_, _<_, min}
 use Rattle.facts.specs.Sets.{_∈_}
 use Rattle.facts.specs.Table
-use Rattle.facts.specs.Table.{Facts, Range, Ports}
+use Rattle.facts.specs.Table.{Facts, Seat, Range, Ports, HeldPorts, Held}
 
 -- the port p is one of the count from base on
 pub record Within (p base count : ℕ) : Type 0 where
@@ -18,6 +18,13 @@ pub record Meet (a b : Ports) : Type 0 where
   pub one-in : Within one (a .base) (a .count)
   pub other-in : Within other (b .base) (b .count)
   pub equal : one % 2 ^ min (a .lines) (b .lines) ≡ other % 2 ^ min (a .lines) (b .lines)
+
+-- the ports meet some that are held
+pub record MeetsHeld (F : Facts) (a : Ports) : Type 0 where
+  pub seat : Seat
+  pub range : HeldPorts
+  pub held : Held F seat range
+  pub meets : Meet a (range .ports)
 
 -- the range has the port p
 abbrev pub Has : Range → ℕ → Type 0

@@ -12,7 +12,7 @@ use Rattle.facts.specs.declared.Code.the-variants.{NoMoreItems, OutOfRes
 use Rattle.facts.specs.declared.Width.{Width}
 use Rattle.facts.specs.declared.Width.the-variants.{Short, Wide}
 use Rattle.facts.specs.Table
-use Rattle.facts.specs.Table.{Facts, Level, Range, IoGrant, IrqGrant}
+use Rattle.facts.specs.Table.{Facts, Seat, Level, Range, HeldPorts, IrqGrant, Held}
 use Rattle.facts.specs.Sets.{_∈_, put, without}
 use Rattle.facts.specs.Choice.{Lowest}
 use Rattle.facts.specs.Ports.{Within, Has, Managed, Overlap, Answers}
@@ -137,18 +137,18 @@ AddBits a = (a ≡ 0) ⊎ (a ≡ reserveBit)
 
 -- a live grant holds the level
 pub record LevelHeld (F : Facts) (l : ℕ) : Type 0 where
-  pub socket : ℕ
+  pub seat : Seat
   pub grant : IrqGrant
-  pub holds : Holds F l socket grant
+  pub holds : Holds F l seat grant
 
 -- a live grant holds a port of the range; its handle, and whether it shares
 pub record RangeHolder (F : Facts) (r : Range) (h : ℕ) (shares : Bool) : Type 0 where
-  pub socket : ℕ
-  pub grant : IoGrant
-  pub live : F .io socket ≡ some grant
-  pub overlap : Overlap (grant .ports .base) (grant .ports .count) (r .base) (r .count)
-  pub client : grant .client ≡ h
-  pub shared : grant .shared ≡ shares
+  pub seat : Seat
+  pub range : HeldPorts
+  pub held : Held F seat range
+  pub overlap : Overlap (range .ports .base) (range .ports .count) (r .base) (r .count)
+  pub client : range .client ≡ h
+  pub shared : range .shared ≡ shares
 
 pub record RangeHeld (F : Facts) (r : Range) : Type 0 where
   pub client : ℕ
@@ -157,12 +157,12 @@ pub record RangeHeld (F : Facts) (r : Range) : Type 0 where
 
 -- K2 (document 02): "a live grant holds or is repeated at any port of the range": its card answers there
 pub record RangeAnswered (F : Facts) (r : Range) : Type 0 where
-  pub socket : ℕ
-  pub grant : IoGrant
-  pub live : F .io socket ≡ some grant
+  pub seat : Seat
+  pub range : HeldPorts
+  pub held : Held F seat range
   pub port : ℕ
   pub has : Has r port
-  pub answers : Answers (grant .ports) port
+  pub answers : Answers (range .ports) port
 
 -- "IRQ then: level over 15 BAD_IRQ; Add of a managed level IN_USE; Remove of an unmanaged one BAD_IRQ, of a held one IN_USE."
 abbrev pub withLevel : Facts → ℕ → Level → Facts
@@ -282,9 +282,9 @@ showRangeChecks w F action given =
 
 -- "For IRQ, bits 0 to 1 are the holders' type, or 0."
 pub record LevelHolder (F : Facts) (l h t : ℕ) : Type 0 where
-  pub socket : ℕ
+  pub seat : Seat
   pub grant : IrqGrant
-  pub holds : Holds F l socket grant
+  pub holds : Holds F l seat grant
   pub client : grant .client ≡ h
   pub type : typeOf (grant .manner) ≡ t
 

@@ -9,7 +9,7 @@ use lib.ListN.{length}
 use lib.Dec.{eqb}
 use Rattle.facts.specs.declared.Code.{Code}
 use Rattle.facts.specs.declared.Code.the-variants.{BadAttribute, BadArgLength, BadSocket, NoCard, InUse, BadHandle}
-use Rattle.facts.specs.Table.{Facts, Client}
+use Rattle.facts.specs.Table.{Facts, Seat, seatOf, Client}
 use Rattle.facts.specs.Sets.{put}
 use Rattle.facts.specs.WellFormed.{Live, EventsAllowed}
 use Rattle.facts.specs.Packets.{byte, word}
@@ -55,11 +55,11 @@ pub record CardOutcome : Type 0 where
 abbrev pub CardTo : Bool → Facts → ℕ → CardOutcome → Type 0
 CardTo present F s o = Decided (cardChecks F s) (o .code) (o .facts ≡ F) (o .facts ≡ withCard F s present)
 
--- a client with m as its mask for the socket s, and the clients of which the one with the handle h has it
-abbrev pub masking : ℕ → Option ℕ → Client → Client
+-- a client with m as its mask at the seat s, and the clients of which the one with the handle h has it
+abbrev pub masking : Seat → Option ℕ → Client → Client
 masking s m c = record { handle = c .handle; attributes = c .attributes; events = c .events; mask = put (c .mask) s m }
 
-abbrev pub withMask : ℕ → ℕ → Option ℕ → List Client → List Client
+abbrev pub withMask : ℕ → Seat → Option ℕ → List Client → List Client
 withMask h s m = map (λ (c : Client). cond (eqb (c .handle) h) (masking s m c) c)
 
 -- the packet of RequestSocketMask (5.54): socket and function at 0, event mask 2 bytes at 2; that of ReleaseSocketMask (5.46): socket and function
@@ -74,19 +74,19 @@ eventsAsked p = word p 2
 
 -- "RequestSocketMask: bits 12 to 15 BAD_ATTRIBUTE; a second one for the same client and socket IN_USE."
 abbrev pub ownMaskChecks : Facts → ℕ → List ℕ → List Check
-ownMaskChecks F h p = ((EventsAllowed (eventsAsked p) → ⊥) gives BadAttribute) ∷ (MaskHeld F h (socketOf p) gives InUse) ∷ []
+ownMaskChecks F h p = ((EventsAllowed (eventsAsked p) → ⊥) gives BadAttribute) ∷ (MaskHeld F h (seatOf (socketOf p)) gives InUse) ∷ []
 
 abbrev pub requestMaskChecks : Facts → ℕ → List ℕ → List Check
 requestMaskChecks F h p = requestChecks requestMaskLength F h p (ownMaskChecks F h p)
 
 abbrev pub RequestSocketMask : Rule
 RequestSocketMask F h p =
-    Ruled (requestMaskChecks F h p) (Leaves h p (withClients F (withMask h (socketOf p) (some (eventsAsked p)) (F .clients)))) F p
+    Ruled (requestMaskChecks F h p) (Leaves h p (withClients F (withMask h (seatOf (socketOf p)) (some (eventsAsked p)) (F .clients)))) F p
 
 -- "ReleaseSocketMask needs no card; nothing held: BAD_SOCKET."
 abbrev pub releaseMaskChecks : Facts → ℕ → List ℕ → List Check
-releaseMaskChecks F h p = releaseChecks releaseMaskLength F h p (((MaskHeld F h (socketOf p) → ⊥) gives BadSocket) ∷ [])
+releaseMaskChecks F h p = releaseChecks releaseMaskLength F h p (((MaskHeld F h (seatOf (socketOf p)) → ⊥) gives BadSocket) ∷ [])
 
 abbrev pub ReleaseSocketMask : Rule
 ReleaseSocketMask F h p =
-    Ruled (releaseMaskChecks F h p) (Leaves h p (withClients F (withMask h (socketOf p) none (F .clients)))) F p
+    Ruled (releaseMaskChecks F h p) (Leaves h p (withClients F (withMask h (seatOf (socketOf p)) none (F .clients)))) F p

@@ -1,13 +1,17 @@
 -- What a table says. Assumes nothing.
+use mathlib.Core.Path.{_≡_}
 use mathlib.Core.List.{List, []}
 use mathlib.Core.Bool.{Bool, false}
-use mathlib.Core.Option.{Option, none}
+use mathlib.Core.Option.{Option, none, some}
 use Prim.Native.Nat.{ℕ, _^_}
 use Rattle.facts.specs.declared.Manner.{Manner}
 
 -- the limits
 abbrev pub mostSockets : ℕ
 mostSockets = 8
+
+abbrev pub mostSeats : ℕ
+mostSeats = 8
 
 abbrev pub mostClients : ℕ
 mostClients = 16
@@ -36,12 +40,23 @@ allEvents = 2 ^ 12
 abbrev pub mostAsked : ℕ
 mostAsked = 255
 
--- live clients (handle, attributes, event mask); at most one mask for each client and socket
+-- A seat is where a grant or a mask stands. Each socket has one, which has its number; with functions, each function of a socket will have one.
+abbrev pub Seat : Type 0
+Seat = ℕ
+
+-- a socket's seat, and a seat's socket
+abbrev pub seatOf : ℕ → Seat
+seatOf s = s
+
+abbrev pub socketAt : Seat → ℕ
+socketAt s = s
+
+-- live clients (handle, attributes, event mask); at most one mask for each client and seat
 pub record Client : Type 0 where
   pub handle : ℕ
   pub attributes : ℕ
   pub events : ℕ
-  pub mask : ℕ → Option ℕ
+  pub mask : Seat → Option ℕ
 
 -- IRQ levels, each managed or not and reserved or not
 pub record Level : Type 0 where
@@ -60,11 +75,15 @@ pub record Ports : Type 0 where
   pub count : ℕ
   pub lines : ℕ
 
--- an I/O grant (client, base, count, lines, shared or not)
-pub record IoGrant : Type 0 where
+-- a range of ports that is held: by this client, at these lines, shared or not
+pub record HeldPorts : Type 0 where
   pub client : ℕ
   pub ports : Ports
   pub shared : Bool
+
+-- an I/O grant (client, base, count, lines, shared or not) holds one range of ports
+abbrev pub IoGrant : Type 0
+IoGrant = HeldPorts
 
 -- an IRQ grant (client, level, manner)
 pub record IrqGrant : Type 0 where
@@ -72,8 +91,8 @@ pub record IrqGrant : Type 0 where
   pub level : ℕ
   pub manner : Manner
 
--- The facts. Clients are listed in order of handle and ranges in order of base, so that a set is listed in one way; the others stand by socket
--- or by level.
+-- The facts. Clients are listed in order of handle and ranges in order of base, so that a set is listed in one way; cards stand by socket, levels by number,
+-- grants by seat.
 pub record Facts : Type 0 where
   pub sockets : ℕ
   pub card : ℕ → Bool
@@ -81,8 +100,12 @@ pub record Facts : Type 0 where
   pub clients : List Client
   pub level : ℕ → Level
   pub ranges : List Range
-  pub io : ℕ → Option IoGrant
-  pub irq : ℕ → Option IrqGrant
+  pub io : Seat → Option IoGrant
+  pub irq : Seat → Option IrqGrant
+
+-- this range of ports is held at this seat, by its client, at its lines, shared or not: a grant stands there, and this is the range that it holds
+abbrev pub Held : Facts → Seat → HeldPorts → Type 0
+Held F s x = F .io s ≡ some x
 
 -- "Nothing is managed, no card in, none issued."
 abbrev pub fresh : ℕ → Facts

@@ -8,7 +8,7 @@ use Prim.Native.Nat.{ℕ, _+_, _%_, _^_, _≤_, _<_}
 use lib.ListN.{length}
 use Rattle.facts.specs.Sets.{_∈_}
 use Rattle.facts.specs.Table
-use Rattle.facts.specs.Table.{Facts, Client, Range, IoGrant, IrqGrant}
+use Rattle.facts.specs.Table.{Facts, Seat, socketAt, Client, Range, HeldPorts, IrqGrant, Held}
 use Rattle.facts.specs.Ports.{Meet, AllManaged, AnswersManaged}
 use Rattle.facts.specs.Levels.{Together}
 
@@ -42,31 +42,31 @@ pub record ClientFits (F : Facts) (c : Client) : Type 0 where
   pub issued : c .handle ≤ F .issued
   pub attributes : AttributesAllowed (c .attributes)
   pub events : EventsAllowed (c .events)
-  pub mask : (s m : ℕ) → c .mask s ≡ some m → (s < F .sockets) × EventsAllowed m
+  pub mask : (s : Seat) (m : ℕ) → c .mask s ≡ some m → (socketAt s < F .sockets) × EventsAllowed m
 
 -- "every grant .. has a live client and a socket below the count; granted .. ports are managed; an I/O grant has base 1 or more, lines 1 to 16 and a
 -- count RequestIO allows"; K2 (document 02): "each port that equals a granted one modulo two to the lines must be managed too"
-pub record IoFits (F : Facts) (s : ℕ) (g : IoGrant) : Type 0 where
-  pub client : Live F (g .client)
-  pub socket : s < F .sockets
-  pub base : 1 ≤ g .ports .base
-  pub line : 1 ≤ g .ports .lines
-  pub lines : g .ports .lines ≤ Table.mostLines
-  pub port : 1 ≤ g .ports .count
-  pub asked : g .ports .count ≤ Table.mostAsked
-  pub decoded : g .ports .count ≤ 2 ^ g .ports .lines
-  pub managed : AllManaged F (g .ports .base) (g .ports .count)
-  pub answers : AnswersManaged F (g .ports)
+pub record IoFits (F : Facts) (s : Seat) (x : HeldPorts) : Type 0 where
+  pub client : Live F (x .client)
+  pub socket : socketAt s < F .sockets
+  pub base : 1 ≤ x .ports .base
+  pub line : 1 ≤ x .ports .lines
+  pub lines : x .ports .lines ≤ Table.mostLines
+  pub port : 1 ≤ x .ports .count
+  pub asked : x .ports .count ≤ Table.mostAsked
+  pub decoded : x .ports .count ≤ 2 ^ x .ports .lines
+  pub managed : AllManaged F (x .ports .base) (x .ports .count)
+  pub answers : AnswersManaged F (x .ports)
 
 -- "every grant .. has a live client and a socket below the count; granted levels .. are managed"
-pub record IrqFits (F : Facts) (s : ℕ) (g : IrqGrant) : Type 0 where
+pub record IrqFits (F : Facts) (s : Seat) (g : IrqGrant) : Type 0 where
   pub client : Live F (g .client)
-  pub socket : s < F .sockets
+  pub socket : socketAt s < F .sockets
   pub managed : F .level (g .level) .managed ≡ true
 
 -- demand 3: "no two live grants meet on a level or a decoded port unless both asked to share in the same manner"
-abbrev pub IoCompany : IoGrant → IoGrant → Type 0
-IoCompany g g′ = Meet (g .ports) (g′ .ports) → (g .shared ≡ true) × (g′ .shared ≡ true)
+abbrev pub IoCompany : HeldPorts → HeldPorts → Type 0
+IoCompany x x′ = Meet (x .ports) (x′ .ports) → (x .shared ≡ true) × (x′ .shared ≡ true)
 
 abbrev pub IrqCompany : IrqGrant → IrqGrant → Type 0
 IrqCompany g g′ = g .level ≡ g′ .level → Together (g .manner) (g′ .manner)
@@ -91,8 +91,8 @@ pub record WellFormed (F : Facts) : Type 0 where
   pub apart : Apart 0 (F .ranges)
   pub ranges : (r : Range) → r ∈ F .ranges → r .base + r .count ≤ Table.allPorts
   -- "every grant .. has a live client and a socket below the count; granted levels and ports are managed"
-  pub ios : (s : ℕ) (g : IoGrant) → F .io s ≡ some g → IoFits F s g
-  pub irqs : (s : ℕ) (g : IrqGrant) → F .irq s ≡ some g → IrqFits F s g
+  pub ios : (s : Seat) (x : HeldPorts) → Held F s x → IoFits F s x
+  pub irqs : (s : Seat) (g : IrqGrant) → F .irq s ≡ some g → IrqFits F s g
   -- "grants meet only as demand 3 allows"
-  pub io-company : (s t : ℕ) (g g′ : IoGrant) → s ≢ t → F .io s ≡ some g → F .io t ≡ some g′ → IoCompany g g′
-  pub irq-company : (s t : ℕ) (g g′ : IrqGrant) → s ≢ t → F .irq s ≡ some g → F .irq t ≡ some g′ → IrqCompany g g′
+  pub io-company : (s t : Seat) (x x′ : HeldPorts) → s ≢ t → Held F s x → Held F t x′ → IoCompany x x′
+  pub irq-company : (s t : Seat) (g g′ : IrqGrant) → s ≢ t → F .irq s ≡ some g → F .irq t ≡ some g′ → IrqCompany g g′

@@ -9,6 +9,9 @@ pub struct Handle(pub u16);
 // A socket's number: one byte of a packet, or a number that the host gives.
 pub struct Socket(pub usize);
 
+// A seat: where a grant or a mask stands. Today each socket has one, which has its number; with functions, each function of a socket will have one.
+pub struct Seat(pub usize);
+
 // The fifteen codes.
 pub enum Code {
     Success,
@@ -54,6 +57,22 @@ pub struct Record {
 pub const IO_RESOURCE: u8 = 1;
 
 pub const IRQ_RESOURCE: u8 = 2;
+
+// What RequestIO's packet asks for: so many ports at a base (0: at any), decoded by so many lines; whether to share them, and only as the first to.
+pub struct IoAsked {
+    pub base: usize,
+    pub count: usize,
+    pub lines: usize,
+    pub shared: bool,
+    pub first: bool,
+}
+
+// What RequestIRQ's packet asks for: one of the levels that it names, a bit for each, in a manner; whether only as the first to share it.
+pub struct IrqAsked {
+    pub manner: Manner,
+    pub named: usize,
+    pub first: bool,
+}
 
 // What an Add or a Remove of a range names.
 pub struct RangeAsked {

@@ -4,7 +4,7 @@ use Rattle.facts.proofs.Words.{Option·none-ne-some, Option·some-injective, �
 use Rattle.facts.proofs.Words.{WellFormed}
 use Rattle.facts.specs.{Code, BadBase, InUse, _∈_, Facts, Range, IoGrant, fresh, IoFits, Within, Managed, Answers, WhollyUnreserved, FirstGiven}
 use Rattle.facts.specs.{Passed, withWord, withCard, RequestIo, Candidate, NoCandidate, CandidateTaken, SmallestPower, NotAllManaged, baseAsked}
-use Rattle.facts.specs.{ioAheadChecks, baseChecks, ioRequestChecks}
+use Rattle.facts.specs.{ioAheadChecks, baseChecks, ioRequestChecks, ioAsked}
 use Rattle.facts.proofs.{fresh-formed, card-formed, ranges-formed, io-formed, register-stays, smallest-power-unique, request-io-unique}
 use Rattle.facts_cases.specs.{Exactly, done, refused, ports, range, ready, grantingIo, clientPacket, AnsweringCases, boardsPorts, allAdded}
 use Rattle.facts_cases.specs.{alike, linesPacket, removePacket}
@@ -43,7 +43,7 @@ module _ (rs : List Range) (low high count lines : ℕ) (lined : (1 ≤ lines) �
       then tt
 
   -- then what the base's checks give is given, and where they pass, all pass
-  base-given : {k : Code} → FirstGiven (baseChecks table packet) k → FirstGiven (ioRequestChecks table 1 packet) k
+  base-given : {k : Code} → FirstGiven (baseChecks table (ioAsked packet)) k → FirstGiven (ioRequestChecks table 1 packet) k
   base-given base =
       let own = ahead .1 .1 .1 .1 in
       inr (
@@ -51,22 +51,22 @@ module _ (rs : List Range) (low high count lines : ℕ) (lined : (1 ≤ lines) �
         inr (ahead .1 .0, inr (ahead .1 .1 .0, inr (ahead .1 .1 .1 .0, inr (own .0, inr (own .1 .0, inr (own .1 .1 .0, base)))))),
       )
 
-  base-passed : Passed (baseChecks table packet) → Passed (ioRequestChecks table 1 packet)
+  base-passed : Passed (baseChecks table (ioAsked packet)) → Passed (ioRequestChecks table 1 packet)
   base-passed base =
       let own = ahead .1 .1 .1 .1 in
       ahead .0 then ahead .1 .0 then ahead .1 .1 .0 then ahead .1 .1 .1 .0 then own .0 then own .1 .0 then own .1 .1 .0 then base
 
   -- a base that is named and isn't all managed is refused; one that is is granted
-  named-refused : baseAsked packet ≢ 0 → NotAllManaged table packet → Exactly (RequestIo table 1 packet) (refused BadBase packet table)
+  named-refused : baseAsked packet ≢ 0 → NotAllManaged table (ioAsked packet) → Exactly (RequestIo table 1 packet) (refused BadBase packet table)
   named-refused named bad =
       exactly (request-io-unique table 1 packet) (inl (base-given (inl ((named, bad), refl)), as-kept BadBase packet table))
 
-  named-granted : baseAsked packet ≢ 0 → (NotAllManaged table packet → ⊥) → withWord packet 2 (baseAsked packet) ≡ packet
+  named-granted : baseAsked packet ≢ 0 → (NotAllManaged table (ioAsked packet) → ⊥) → withWord packet 2 (baseAsked packet) ≡ packet
       → Exactly (RequestIo table 1 packet) (done 1 packet (grantingIo 1 (ports (baseAsked packet) count lines) table))
   named-granted named good kept =
       exactly (request-io-unique table 1 packet)
       (inr (
-        base-passed ((λ e. good (e .1)) then (λ e. Option·none-ne-some _ (e .1 .live)) then (λ e. named (e .0)) then tt),
+        base-passed ((λ e. good (e .1)) then (λ e. Option·none-ne-some _ (e .1 .held)) then (λ e. named (e .0)) then tt),
         (
           refl,
           record {
@@ -78,7 +78,7 @@ module _ (rs : List Range) (low high count lines : ℕ) (lined : (1 ≤ lines) �
       ))
 
   -- base 0 is given the first candidate; without one it is refused
-  first-given : baseAsked packet ≡ 0 → (b : ℕ) → CandidateTaken table packet b
+  first-given : baseAsked packet ≡ 0 → (b : ℕ) → CandidateTaken table (ioAsked packet) b
       → Exactly (RequestIo table 1 packet) (done 1 (withWord packet 2 b) (grantingIo 1 (ports b count lines) table))
   first-given asked b taken =
       exactly (request-io-unique table 1 packet)
@@ -87,7 +87,7 @@ module _ (rs : List Range) (low high count lines : ℕ) (lined : (1 ≤ lines) �
         (refl, record { base = b; taken = inr (asked, taken); leaves = as-left _ }),
       ))
 
-  none-refused : baseAsked packet ≡ 0 → NoCandidate table packet → Exactly (RequestIo table 1 packet) (refused InUse packet table)
+  none-refused : baseAsked packet ≡ 0 → NoCandidate table (ioAsked packet) → Exactly (RequestIo table 1 packet) (refused InUse packet table)
   none-refused asked none =
       exactly (request-io-unique table 1 packet)
       (inl (base-given (inr (λ e. e .0 asked, inr (λ e. e .0 asked, inl ((asked, none), refl)))), as-kept InUse packet table))
@@ -136,7 +136,7 @@ sixteen : SmallestPower 16 16
 sixteen = record { power = 4; is = refl; not-below = omega arith; smallest = λ k l. l }
 
 -- 8300 is a candidate, and every candidate is 300 or 8300
-high-candidate : Candidate alike (linesPacket 1 0x00 0x00 16 15) 0x8300
+high-candidate : Candidate alike (ioAsked (linesPacket 1 0x00 0x00 16 15)) 0x8300
 high-candidate =
     record {
       step = 16;
@@ -150,14 +150,14 @@ high-candidate =
       meets-none = λ s g e. absurd (Option·none-ne-some g e);
     }
 
-candidates-are : (y : ℕ) → Candidate alike (linesPacket 1 0x00 0x00 16 15) y → (y ≡ 0x300) ⊎ (y ≡ 0x8300)
+candidates-are : (y : ℕ) → Candidate alike (ioAsked (linesPacket 1 0x00 0x00 16 15)) y → (y ≡ 0x300) ⊎ (y ≡ 0x8300)
 candidates-are y c = ⊎-elim (λ l. inl (omega (arith, l, is))) (λ l. inr (omega (arith, l, is))) (managed-alike y (c .managed y (record { from = omega arith; below = omega arith })))
   where
     is : y ≡ c .times * 16
     is = rw (smallest-power-unique 16 16 (c .step) sixteen (c .align)) (c .multiple)
 
 -- of these, the ports at 8300 alone lie wholly in unreserved ranges
-high-first : CandidateTaken alike (linesPacket 1 0x00 0x00 16 15) 0x8300
+high-first : CandidateTaken alike (ioAsked (linesPacket 1 0x00 0x00 16 15)) 0x8300
 high-first =
     record { fits = high-candidate; first = λ y c. ⊎-elim (λ e. rw e (inl (unreserved, reserved))) (λ e. rw e (inr (Iff·rfl, le-refl 0x8300))) (candidates-are y c) }
   where
@@ -171,7 +171,7 @@ high-first =
         (⊎-elim (λ e. omega (arith, rw e at (u .0 .has) .from)) absurd) (u .0 .listed)
 
 -- a card of fourteen lines has no candidate there: it would answer 4000 above its own ports, too, where nothing is managed
-all-barred : NoCandidate alike (linesPacket 1 0x00 0x00 16 14)
+all-barred : NoCandidate alike (ioAsked (linesPacket 1 0x00 0x00 16 14))
 all-barred y c = either-way (managed-alike y (c .managed y first-own))
   where
     first-own : Within y y 16
@@ -192,7 +192,7 @@ ten-managed q own l e w = below-or-not (decLt q 0x2F8)
     below-or-not (yes m) = record { range = range 0 0x2F8; listed = inl refl; has = record { from = omega arith; below = m } }
     below-or-not (no m) = upper-managed q (omega (arith, e, w .from, w .below)) l
 
-ten-candidate : Candidate boardsPorts (linesPacket 1 0x00 0x00 8 4) 0x10
+ten-candidate : Candidate boardsPorts (ioAsked (linesPacket 1 0x00 0x00 8 4)) 0x10
 ten-candidate =
     record {
       step = 8;
@@ -207,22 +207,22 @@ ten-candidate =
     }
 
 -- 8 is no candidate, and no range is reserved: so 10 comes first
-ten-first : CandidateTaken boardsPorts (linesPacket 1 0x00 0x00 8 4) 0x10
+ten-first : CandidateTaken boardsPorts (ioAsked (linesPacket 1 0x00 0x00 8 4)) 0x10
 ten-first =
     record {
       fits = ten-candidate;
       first = λ y c. inr ((λ u. unreserved y c, λ u. unreserved 0x10 ten-candidate), omega (arith, is y c, c .positive, not-eight y c));
     }
   where
-    is : (y : ℕ) (c : Candidate boardsPorts (linesPacket 1 0x00 0x00 8 4) y) → y ≡ c .times * 8
+    is : (y : ℕ) (c : Candidate boardsPorts (ioAsked (linesPacket 1 0x00 0x00 8 4)) y) → y ≡ c .times * 8
     is y c = rw (smallest-power-unique 8 8 (c .step) (eight 8 (omega arith)) (c .align)) (c .multiple)
 
-    not-eight : (y : ℕ) → Candidate boardsPorts (linesPacket 1 0x00 0x00 8 4) y → y ≢ 8
+    not-eight : (y : ℕ) → Candidate boardsPorts (ioAsked (linesPacket 1 0x00 0x00 8 4)) y → y ≢ 8
     not-eight y c e =
         board-unmanaged boardsPorts refl
         (c .answers 0x2F8 (record { below = omega arith; own = 8; own-in = record { from = omega (arith, e); below = omega (arith, e) }; equal = refl }))
 
-    unreserved : (y : ℕ) → Candidate boardsPorts (linesPacket 1 0x00 0x00 8 4) y → WhollyUnreserved boardsPorts y 8
+    unreserved : (y : ℕ) → Candidate boardsPorts (ioAsked (linesPacket 1 0x00 0x00 8 4)) y → WhollyUnreserved boardsPorts y 8
     unreserved y c q w =
         let m = c .managed q w in
         (m, ⊎-elim (ap (λ (r : Range). r .reserved)) (⊎-elim (ap (λ (r : Range). r .reserved)) absurd) (m .listed))
@@ -295,9 +295,9 @@ answering-cases =
                           range 0x2F8 8,
                           (inr (inl refl), refl, refl),
                           record {
-                            socket = 1;
-                            grant = _;
-                            live = refl;
+                            seat = 1;
+                            range = _;
+                            held = refl;
                             port = 0x2F8;
                             has = omega arith;
                             answers = six-answers;

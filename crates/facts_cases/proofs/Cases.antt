@@ -96,7 +96,7 @@ deregisters =
     (inr (
       (omega arith)
           then (λ e. e (record { client = _; listed = inl refl; handle = refl }))
-          then ((λ h. Option·none-ne-some _ (h .live)) nor (λ h. Option·none-ne-some _ (h .live))
+          then ((λ h. Option·none-ne-some _ (h .held)) nor (λ h. Option·none-ne-some _ (h .live))
           nor (λ h. Option·none-ne-some _ (rw (listed-alone (h .2 .listed)) at (h .2 .mask))))
           then tt,
       (refl, as-left _),
@@ -111,11 +111,11 @@ cases =
       n4 = record { one = 0x100; other = 0x200; one-in = omega arith; other-in = omega arith; equal = refl };
       n5 = (adds 0xF8 (omega arith), adds-not 0xF9 (omega arith));
       n6 = (
-        gives-3 (twoLevels .irq) 0 0x00 bits-B0 (omega arith) refl refl (none-to-join (λ s. refl)) (level-fits (inl (refl, refl)) refl),
+        gives-3 (twoLevels .irq) 0 0x00 bits-B0 (omega arith) refl refl (none-to-join (λ s. refl)) (level-fits refl refl),
         gives-5 (threeHeld .irq) 1 0x00 bits-B0 (omega arith) refl refl (λ l j. j .joining .shares refl)
             (held-fits-not 0 refl refl (λ t. t .shares refl))
             (record {
-              named = inl (refl, refl);
+              named = refl;
               managed = refl;
               free = inl (λ s g h. omega (arith, h .at, ap (λ (x : IrqGrant). x .level) (only-grant 3 Exclusive 5 s g h)));
             }),
@@ -123,10 +123,10 @@ cases =
             (held-fits-not 1 refl refl (λ t. t .shares refl)),
       );
       n7 = (
-        gives-3 (twoLevels .irq) 0 0x02 bits-A3 (omega arith) refl refl (none-to-join (λ s. refl)) (level-fits (inr (omega arith, refl)) refl),
+        gives-3 (twoLevels .irq) 0 0x02 bits-A3 (omega arith) refl refl (none-to-join (λ s. refl)) (level-fits refl refl),
         gives-none (oneSharer .irq) 1 0x01 bits-A3 (omega arith) refl refl (held-fits-not 0 refl refl (λ t. omega (arith, ap typeOf (t .equal))))
-            (λ f. (omega arith nor omega arith) (f .named)),
-        joins-at 3 bits-A3 refl (inr (omega arith, refl)) refl,
+            (λ f. omega (arith, f .named)),
+        joins-at 3 bits-A3 refl refl refl,
         exactly (sharers-unique twoSharers 3) (inr (omega arith, (refl, refl))),
       );
       n8 = gives-308 (halfHeld .io) (range 0x300 16) 8 (omega arith) refl (omega arith) half-meets-none half-leaves-308;
@@ -135,10 +135,10 @@ cases =
           (λ b t e inside meets-none. omega arith);
       n10 = (registers (fresh 2) (omega arith), deregisters, registers noClient (omega arith));
       n11 = (
-        gives-3 (twoLevels .irq) 0 0x02 bits-B0 (omega arith) refl refl (none-to-join (λ s. refl)) (level-fits (inl (refl, refl)) refl),
-        gives-3 (twoLevels .irq) 0 0x02 bits-D0 (omega arith) refl refl (none-to-join (λ s. refl)) (level-fits (inl (refl, refl)) refl),
+        gives-3 (twoLevels .irq) 0 0x02 bits-B0 (omega arith) refl refl (none-to-join (λ s. refl)) (level-fits refl refl),
+        gives-3 (twoLevels .irq) 0 0x02 bits-D0 (omega arith) refl refl (none-to-join (λ s. refl)) (level-fits refl refl),
       );
       n12 =
           adjusts unheldRange (omega arith) 0x02 0x00 0x00 0x00 0x00 0x00 (omega arith)
-          (first-shows (range 0x300 16) (fresh 2) (omega arith) (λ h. Option·none-ne-some _ (h .holder .live)));
+          (first-shows (range 0x300 16) (fresh 2) (omega arith) (λ h. Option·none-ne-some _ (h .holder .held)));
     }

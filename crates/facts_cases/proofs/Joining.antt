@@ -1,7 +1,8 @@
 -- The cases of K1 hold. Assumes nothing.
 use Rattle.facts.proofs.Words.{_≡_, refl, sym, ap, _∙_, _⊎_, inl, inr, ⊎-elim, List, some, Option·none-ne-some, Option·some-injective, ℕ, arith}
+use Rattle.facts.proofs.Words.{true≢false}
 use Rattle.facts.specs.{Manner, Exclusive, TimeMultiplexed, DynamicLevel, DynamicPulse, Facts, IrqGrant, Holds, typeOf, levelAdded, reserveBit}
-use Rattle.facts.specs.{Lowest, RequestIrq, Fits, Named, Joins, mannerAsked}
+use Rattle.facts.specs.{Lowest, RequestIrq, Fits, Named, Joins, mannerAsked, IrqAsked, irqAsked}
 use Rattle.facts_cases.specs.{Exactly, ready, twoLevels, grantingIrq, JoiningCases, either, sharing, firstShared, alone, fiveHeld, bothShared}
 use Rattle.facts.proofs.{put-is}
 use Rattle.facts_cases.proofs.Permitted.{_nor_}
@@ -9,7 +10,7 @@ use Rattle.facts_cases.proofs.Levels.{granted, bits-B0, bits-A3, plain-
 use Rattle.facts_cases.proofs.Levels.{only-grant}
 
 -- where the socket 0 holds 5, nobody holds 3
-three-fits : (m : Manner) {p : List ℕ} → Named p 3 → Fits (fiveHeld m) p 3
+three-fits : (m : Manner) {p : IrqAsked} → Named p 3 → Fits (fiveHeld m) p 3
 three-fits m named =
     record {
       named = named;
@@ -18,9 +19,9 @@ three-fits m named =
     }
 
 -- and what is joined there is 5, in that manner
-joined-five : (m : Manner) (p : List ℕ) (l : ℕ) → Joins (fiveHeld m) p l → (l ≡ 5) × (m ≡ mannerAsked p)
+joined-five : (m : Manner) (p : IrqAsked) (l : ℕ) → Joins (fiveHeld m) p l → (l ≡ 5) × (m ≡ p .manner)
 joined-five m p l j =
-    let only = only-grant 5 m l (j .socket) (j .grant) (j .holds) in (
+    let only = only-grant 5 m l (j .seat) (j .grant) (j .holds) in (
       sym (j .holds .at) ∙ ap (λ (g : IrqGrant). g .level) only,
       sym (ap (λ (g : IrqGrant). g .manner) only) ∙ j .manner,
     )
@@ -35,7 +36,7 @@ pulses DynamicPulse = 1
 -- a dynamic request from the socket 1 that names both leaves 5 where that is of another manner
 left : (m : Manner) → (m ≡ DynamicLevel → ⊥) → Exactly (RequestIrq (fiveHeld m) 1 (either 1 sharing 0)) (granted (fiveHeld m) 1 (either 1 sharing 0) 3)
 left m other =
-    gives-3 (fiveHeld m .irq) 1 sharing bits-B0 (omega arith) refl refl (λ l j. other (joined-five m _ l j .1)) (three-fits m (inl (refl, refl)))
+    gives-3 (fiveHeld m .irq) 1 sharing bits-B0 (omega arith) refl refl (λ l j. other (joined-five m _ l j .1)) (three-fits m refl)
 
 -- both levels are shared, whichever is reserved: the lowest is joined
 module _ (a₃ a₅ : ℕ) where
@@ -55,15 +56,15 @@ module _ (a₃ a₅ : ℕ) where
       of-grant : {k : ℕ} → some g ≡ some (record { client = 1; level = k; manner = DynamicLevel }) → g .manner ≡ DynamicLevel
       of-grant e = ap (λ (x : IrqGrant). x .manner) (Option·some-injective g _ e)
 
-  lowest : Lowest (Joins table request) 3
+  lowest : Lowest (Joins table (irqAsked request)) 3
   lowest =
       record {
         fits =
             record {
-              joining = record { shares = λ e. omega (arith, ap typeOf e); not-first = omega arith };
-              named = inl (refl, refl);
+              joining = record { shares = λ e. omega (arith, ap typeOf e); not-first = refl };
+              named = refl;
               managed = refl;
-              socket = 1;
+              seat = 1;
               grant = record { client = 1; level = 3; manner = DynamicLevel };
               holds = record { live = refl; at = refl };
               manner = refl;
@@ -71,12 +72,12 @@ module _ (a₃ a₅ : ℕ) where
         least = λ y j. ⊎-elim (λ e. omega arith) (λ e. omega arith) (managed-are a₃ a₅ y (j .managed));
       }
 
-  fits : Fits table request 3
+  fits : Fits table (irqAsked request) 3
   fits =
       record {
-        named = inl (refl, refl);
+        named = refl;
         managed = refl;
-        free = inr (omega arith, λ s g h. record { equal = both-dynamic 3 s g h; shares = λ e. omega (arith, ap typeOf (sym (both-dynamic 3 s g h) ∙ e)) });
+        free = inr (refl, λ s g h. record { equal = both-dynamic 3 s g h; shares = λ e. omega (arith, ap typeOf (sym (both-dynamic 3 s g h) ∙ e)) });
       }
 
   both-joined : Exactly (RequestIrq table 1 request) (granted table 1 request 3)
@@ -85,19 +86,19 @@ module _ (a₃ a₅ : ℕ) where
 pub joining-cases : JoiningCases
 joining-cases =
     record {
-      reserved-joined = joins-at 5 bits-B0 refl (inl (refl, refl)) refl;
+      reserved-joined = joins-at 5 bits-B0 refl refl refl;
       lowest-joined = both-joined 0 reserveBit;
       lowest-reserved = both-joined reserveBit 0;
       time-multiplexed-left = left TimeMultiplexed (λ e. omega (arith, ap typeOf e));
       pulse-left = left DynamicPulse (λ e. omega (arith, ap pulses e));
       first-shared =
           given 0 reserveBit (fiveHeld DynamicLevel .irq) 1 firstShared bits-B0 (omega arith) (first-good 1 0xB0 0x28 refl) refl refl 3
-          (three-fits DynamicLevel (inl (refl, refl))) (three-taken (λ l j. j .joining .not-first refl) (three-fits DynamicLevel (inl (refl, refl))));
+          (three-fits DynamicLevel refl) (three-taken (λ l j. true≢false (j .joining .not-first)) (three-fits DynamicLevel refl));
       exclusive =
           gives-3 (fiveHeld DynamicLevel .irq) 1 alone bits-B0 (omega arith) refl refl (λ l j. j .joining .shares refl)
-          (three-fits DynamicLevel (inl (refl, refl)));
+          (three-fits DynamicLevel refl);
       not-named =
           gives-3 (fiveHeld DynamicLevel .irq) 1 0x02 bits-A3 (omega arith) refl refl
-          (λ l j. (omega arith nor (λ n. omega (arith, n .1, joined-five DynamicLevel _ l j .0))) (j .named))
-          (three-fits DynamicLevel (inr (omega arith, refl)));
+          (λ l j. let n = rw (joined-five DynamicLevel _ l j .0) at (j .named) in omega (arith, n))
+          (three-fits DynamicLevel refl);
     }

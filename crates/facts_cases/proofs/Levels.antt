@@ -3,7 +3,7 @@ use Rattle.facts.proofs.Words.{_≡_, refl, sym, ap, _∙_, _⊎_, inl, inr, �
 use Rattle.facts.proofs.Words.{Option·none-ne-some, Option·some-injective, ℕ, _<_, le-refl, arith, eqb}
 use Rattle.facts.specs.{BadIrq, Manner, DynamicLevel, Facts, Level, IrqGrant, bit, Lowest, Together, Holds, typeOf, _gives_, Outcome, Passed}
 use Rattle.facts.specs.{socketOf, levelAdded, reserveBit, Fits, Named, NoLevelFits, NoLevelJoined, LevelTaken, RequestIrq, IrqAttributesBad}
-use Rattle.facts.specs.{IrqInfoBad, irqAheadChecks, irqGrant, Joining, Joins, mannerAsked, assigning, withIrq}
+use Rattle.facts.specs.{IrqInfoBad, irqAheadChecks, irqGrant, Joining, Joins, mannerAsked, assigning, withIrq, IrqAsked, irqAsked}
 use Rattle.facts_cases.specs.{Exactly, done, refused, ready, twoLevels, grantingIrq, irqPacket}
 use Rattle.facts.proofs.{put-is, request-irq-unique}
 use Rattle.facts_cases.proofs.Permitted.{exactly, as-left, as-kept, _then_, _nor_, last-passed, last-refused, alone-chosen}
@@ -11,35 +11,35 @@ use Rattle.facts_cases.proofs.Permitted.{exactly, as-left, as-kept, _th
 -- what is done where the level l is taken
 abbrev pub granted : Facts → ℕ → List ℕ → ℕ → Outcome
 granted F h p l =
-    done h (assigning p l) (withIrq F (socketOf p) (some (irqGrant h p l)))
+    done h (assigning p l) (withIrq F (socketOf p) (some (irqGrant h (irqAsked p) l)))
 
 module _ (F : Facts) (h : ℕ) (p : List ℕ) (ahead : Passed (irqAheadChecks F h p [])) where
-  irq-done : (l : ℕ) → Fits F p l → LevelTaken F p l → Exactly (RequestIrq F h p) (granted F h p l)
+  irq-done : (l : ℕ) → Fits F (irqAsked p) l → LevelTaken F (irqAsked p) l → Exactly (RequestIrq F h p) (granted F h p l)
   irq-done l fits taken =
       exactly (request-irq-unique F h p)
       (inr (
-        last-passed (irqAheadChecks F h p []) (NoLevelFits F p gives BadIrq) ahead (λ none-fits. none-fits l fits),
+        last-passed (irqAheadChecks F h p []) (NoLevelFits F (irqAsked p) gives BadIrq) ahead (λ none-fits. none-fits l fits),
         (refl, record { level = l; taken = taken; leaves = as-left _ }),
       ))
 
-  irq-refused : NoLevelFits F p → Exactly (RequestIrq F h p) (refused BadIrq p F)
+  irq-refused : NoLevelFits F (irqAsked p) → Exactly (RequestIrq F h p) (refused BadIrq p F)
   irq-refused none-fits =
       exactly (request-irq-unique F h p)
-      (inl (last-refused (irqAheadChecks F h p []) (NoLevelFits F p gives BadIrq) ahead none-fits, as-kept BadIrq p F))
+      (inl (last-refused (irqAheadChecks F h p []) (NoLevelFits F (irqAsked p) gives BadIrq) ahead none-fits, as-kept BadIrq p F))
 
 -- a held level doesn't fit a manner that its grant's doesn't go together with
-pub held-fits-not : {F : Facts} {p : List ℕ} {l : ℕ} {g : IrqGrant} (s : ℕ) → F .irq s ≡ some g → g .level ≡ l
-    → (Together (g .manner) (mannerAsked p) → ⊥) → Fits F p l → ⊥
+pub held-fits-not : {F : Facts} {p : IrqAsked} {l : ℕ} {g : IrqGrant} (s : ℕ) → F .irq s ≡ some g → g .level ≡ l
+    → (Together (g .manner) (p .manner) → ⊥) → Fits F p l → ⊥
 held-fits-not {g = g} s live at apart f =
     let h : Holds _ _ s g = record { live = live; at = at } in
     ⊎-elim (λ free. free s g h) (λ all. apart (all .1 s g h)) (f .free)
 
 -- where nobody holds a level there is none to join
-pub none-to-join : {F : Facts} {p : List ℕ} → ((s : ℕ) → F .irq s ≡ none) → NoLevelJoined F p
-none-to-join nobody l j = Option·none-ne-some (j .grant) (sym (nobody (j .socket)) ∙ j .holds .live)
+pub none-to-join : {F : Facts} {p : IrqAsked} → ((s : ℕ) → F .irq s ≡ none) → NoLevelJoined F p
+none-to-join nobody l j = Option·none-ne-some (j .grant) (sym (nobody (j .seat)) ∙ j .holds .live)
 
 -- there, one that fits alone is taken
-pub alone-taken : {F : Facts} {p : List ℕ} {l : ℕ} → ((s : ℕ) → F .irq s ≡ none) → Fits F p l → ((k : ℕ) → Fits F p k → k ≡ l) → LevelTaken F p l
+pub alone-taken : {F : Facts} {p : IrqAsked} {l : ℕ} → ((s : ℕ) → F .irq s ≡ none) → Fits F p l → ((k : ℕ) → Fits F p k → k ≡ l) → LevelTaken F p l
 alone-taken nobody fits only = inr (none-to-join nobody, alone-chosen fits only)
 
 -- a level that is managed was added, or was managed before
@@ -111,10 +111,10 @@ module _ (a₃ a₅ : ℕ) (irq : ℕ → Option IrqGrant) (s t : ℕ) {i m : �
       then (λ e. e free)
       then tt
 
-  pub given : (l : ℕ) → Fits table packet l → LevelTaken table packet l → Exactly (RequestIrq table 1 packet) (granted table 1 packet l)
+  pub given : (l : ℕ) → Fits table (irqAsked packet) l → LevelTaken table (irqAsked packet) l → Exactly (RequestIrq table 1 packet) (granted table 1 packet l)
   given = irq-done _ _ _ ahead
 
-  refuses : (Fits table packet 3 → ⊥) → (Fits table packet 5 → ⊥) → Exactly (RequestIrq table 1 packet) (refused BadIrq packet table)
+  refuses : (Fits table (irqAsked packet) 3 → ⊥) → (Fits table (irqAsked packet) 5 → ⊥) → Exactly (RequestIrq table 1 packet) (refused BadIrq packet table)
   refuses not-3 not-5 =
       irq-refused _ _ _ ahead (λ l f. ⊎-elim (λ e. not-3 (rw e at f)) (λ e. not-5 (rw e at f)) (managed-are a₃ a₅ l (f .managed)))
 
@@ -122,7 +122,7 @@ module _ (a₃ a₅ : ℕ) (irq : ℕ → Option IrqGrant) (s t : ℕ) {i m : �
 abbrev pub irqTwo : (ℕ → Option IrqGrant) → Facts
 irqTwo irq = irqTable 0 reserveBit irq
 
-module _ {irq : ℕ → Option IrqGrant} {p : List ℕ} (unjoined : NoLevelJoined (irqTwo irq) p) where
+module _ {irq : ℕ → Option IrqGrant} {p : IrqAsked} (unjoined : NoLevelJoined (irqTwo irq) p) where
   pub three-taken : Fits (irqTwo irq) p 3 → LevelTaken (irqTwo irq) p 3
   three-taken fits =
       inr (
@@ -143,16 +143,16 @@ module _ (irq : ℕ → Option IrqGrant) (s t : ℕ) {i m : ℕ} (bits : CardBit
   good : IrqAttributesBad (irqPacket s t 0 i m) → ⊥
   good = plain-good s t i m (small .1) (bits .share)
 
-  pub gives-3 : NoLevelJoined (irqTwo irq) (irqPacket s t 0 i m) → Fits (irqTwo irq) (irqPacket s t 0 i m) 3
+  pub gives-3 : NoLevelJoined (irqTwo irq) (irqAsked (irqPacket s t 0 i m)) → Fits (irqTwo irq) (irqAsked (irqPacket s t 0 i m)) 3
       → Exactly (RequestIrq (irqTwo irq) 1 (irqPacket s t 0 i m)) (granted (irqTwo irq) 1 (irqPacket s t 0 i m) 3)
   gives-3 unjoined fits = given 0 reserveBit irq s t bits (small .0) good card free 3 fits (three-taken unjoined fits)
 
-  pub gives-5 : NoLevelJoined (irqTwo irq) (irqPacket s t 0 i m) → (Fits (irqTwo irq) (irqPacket s t 0 i m) 3 → ⊥)
-      → Fits (irqTwo irq) (irqPacket s t 0 i m) 5
+  pub gives-5 : NoLevelJoined (irqTwo irq) (irqAsked (irqPacket s t 0 i m)) → (Fits (irqTwo irq) (irqAsked (irqPacket s t 0 i m)) 3 → ⊥)
+      → Fits (irqTwo irq) (irqAsked (irqPacket s t 0 i m)) 5
       → Exactly (RequestIrq (irqTwo irq) 1 (irqPacket s t 0 i m)) (granted (irqTwo irq) 1 (irqPacket s t 0 i m) 5)
   gives-5 unjoined not-3 fits = given 0 reserveBit irq s t bits (small .0) good card free 5 fits (five-taken unjoined not-3 fits)
 
-  pub gives-none : (Fits (irqTwo irq) (irqPacket s t 0 i m) 3 → ⊥) → (Fits (irqTwo irq) (irqPacket s t 0 i m) 5 → ⊥)
+  pub gives-none : (Fits (irqTwo irq) (irqAsked (irqPacket s t 0 i m)) 3 → ⊥) → (Fits (irqTwo irq) (irqAsked (irqPacket s t 0 i m)) 5 → ⊥)
       → Exactly (RequestIrq (irqTwo irq) 1 (irqPacket s t 0 i m)) (refused BadIrq (irqPacket s t 0 i m) (irqTwo irq))
   gives-none = refuses 0 reserveBit irq s t bits (small .0) good card free
 
@@ -160,7 +160,7 @@ module _ (irq : ℕ → Option IrqGrant) (s t : ℕ) {i m : ℕ} (bits : CardBit
 free : (l s : ℕ) (g : IrqGrant) → Holds twoLevels l s g → ⊥
 free l s g h = Option·none-ne-some g (h .live)
 
-pub level-fits : {p : List ℕ} {l : ℕ} → Named p l → twoLevels .level l .managed ≡ true → Fits twoLevels p l
+pub level-fits : {p : IrqAsked} {l : ℕ} → Named p l → twoLevels .level l .managed ≡ true → Fits twoLevels p l
 level-fits {l = l} named managed = record { named = named; managed = managed; free = inl (free l) }
 
 pub only-grant : (k : ℕ) (m : Manner) (l s : ℕ) (g : IrqGrant) → Holds (grantingIrq 0 k m twoLevels) l s g
@@ -170,7 +170,7 @@ only-grant k m l s g h =
     (put-is (twoLevels .irq) 0 (some (record { client = 1; level = k; manner = m })) s)
 
 -- the socket 0 shares the level k, which a dynamic request of the socket 1 joins
-module _ (k : ℕ) {i m : ℕ} (bits : CardBits i m) (manner : mannerAsked (irqPacket 1 0x02 0 i m) ≡ DynamicLevel) (named : Named (irqPacket 1 0x02 0 i m) k)
+module _ (k : ℕ) {i m : ℕ} (bits : CardBits i m) (manner : mannerAsked (irqPacket 1 0x02 0 i m) ≡ DynamicLevel) (named : Named (irqAsked (irqPacket 1 0x02 0 i m)) k)
     (managed : twoLevels .level k .managed ≡ true) where
   abbrev shared : Facts
   shared = grantingIrq 0 k DynamicLevel twoLevels
@@ -178,10 +178,10 @@ module _ (k : ℕ) {i m : ℕ} (bits : CardBits i m) (manner : mannerAsked (irqP
   abbrev request : List ℕ
   request = irqPacket 1 0x02 0 i m
 
-  joining : Joining request
-  joining = record { shares = λ e. omega (arith, ap typeOf (sym manner ∙ e)); not-first = omega arith }
+  joining : Joining (irqAsked request)
+  joining = record { shares = λ e. omega (arith, ap typeOf (sym manner ∙ e)); not-first = refl }
 
-  lowest : Lowest (Joins shared request) k
+  lowest : Lowest (Joins shared (irqAsked request)) k
   lowest =
       record {
         fits =
@@ -189,15 +189,15 @@ module _ (k : ℕ) {i m : ℕ} (bits : CardBits i m) (manner : mannerAsked (irqP
               joining = joining;
               named = named;
               managed = managed;
-              socket = 0;
+              seat = 0;
               grant = record { client = 1; level = k; manner = DynamicLevel };
               holds = record { live = refl; at = refl };
               manner = sym manner;
             };
-        least = λ y j. omega (arith, j .holds .at, ap (λ (g : IrqGrant). g .level) (only-grant k DynamicLevel y (j .socket) (j .grant) (j .holds)));
+        least = λ y j. omega (arith, j .holds .at, ap (λ (g : IrqGrant). g .level) (only-grant k DynamicLevel y (j .seat) (j .grant) (j .holds)));
       }
 
-  fits : Fits shared request k
+  fits : Fits shared (irqAsked request) k
   fits =
       record {
         named = named;

@@ -1,7 +1,7 @@
 -- Ports that meet or don't, and the base that RequestIO gives where one range is managed: for N1 to N4, N8 and N9. Assumes nothing.
 use Rattle.facts.proofs.Words.{_≡_, refl, sym, _∙_, _≢_, inl, inr, ⊎-elim, List, [], _∷_, true≢false, Option, none, some, Option·none-ne-some}
 use Rattle.facts.proofs.Words.{Option·some-injective, ℕ, _+_, _-_, _*_, _^_, _≤_, _<_, min, mod-eq-of-lt, decLe, arith, pow-mono, Ports}
-use Rattle.facts.specs.{Facts, Range, IoGrant, Meet, Has, Managed, Answers, Candidate, SmallestPower, RequestIo}
+use Rattle.facts.specs.{Facts, Range, IoGrant, Meet, Has, Managed, Answers, Candidate, SmallestPower, RequestIo, ioAsked}
 use Rattle.facts_cases.specs.{Exactly, done, ports, ready, grantingIo, halfHeld, ioPacket}
 use Rattle.facts.proofs.{put-is, smallest-power-unique, request-io-unique}
 use Rattle.facts_cases.proofs.Permitted.{exactly, as-left, _then_, _nor_, listed-alone, alone-chosen}
@@ -51,10 +51,10 @@ module _ (io : ℕ → Option IoGrant) (r : Range) (n : ℕ) (sized : (4 < n) ×
   managed-in x m = rw (listed-alone (m .listed)) at (m .has)
 
   -- a candidate is a multiple of 8 in the range
-  candidate-multiple : (b : ℕ) (c : Candidate (ioTable io r) (asking n) b) → b ≡ c .times * 8
+  candidate-multiple : (b : ℕ) (c : Candidate (ioTable io r) (ioAsked (asking n)) b) → b ≡ c .times * 8
   candidate-multiple b c = rw (smallest-power-unique n 8 (c .step) (eight n sized) (c .align)) (c .multiple)
 
-  candidate-in : (b : ℕ) → Candidate (ioTable io r) (asking n) b → (r .base ≤ b) × (b + n ≤ r .base + r .count)
+  candidate-in : (b : ℕ) → Candidate (ioTable io r) (ioAsked (asking n)) b → (r .base ≤ b) × (b + n ≤ r .base + r .count)
   candidate-in b c =
       let low = managed-in b (c .managed b (omega arith)) in
       let high = managed-in (b + n - 1) (c .managed (b + n - 1) (omega arith)) in
@@ -65,7 +65,7 @@ module _ (io : ℕ → Option IoGrant) (r : Range) (n : ℕ) (sized : (4 < n) ×
       → ((b t : ℕ) → b ≡ t * 8 → (r .base ≤ b) × (b + n ≤ r .base + r .count) → MeetsNone io (ports b n 16) → b ≡ 0x308)
       → Exactly (RequestIo (ioTable io r) 1 (asking n)) (done 1 (ioPacket 1 0x08 0x03 n) (grantingIo 1 (ports 0x308 n 16) (ioTable io r)))
   gives-308 free inside meets-none only =
-      let c : Candidate (ioTable io r) (asking n) 0x308 =
+      let c : Candidate (ioTable io r) (ioAsked (asking n)) 0x308 =
       record {
         step = 8;
         times = 97;

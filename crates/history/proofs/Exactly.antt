@@ -2,6 +2,7 @@
 use Rattle.facts.proofs.Words.{_≡_, refl, ap, sym, subst, _⊎_, inl, inr, ⊎-elim, _≢_, List, ℕ, T, WellFormed}
 use Rattle.facts.specs.{Code, Success, Facts, Check, Outcome, Passed, Ruled, RequestIrq, GrantsIrq, Fits, assignedIrq, irqRequestChecks, RequestIo}
 use Rattle.facts.specs.{GrantsIo, Candidate, BaseTaken, baseAsked, ioRequestChecks, Service, requestIrq, requestIo, serviceNumber, ruleOf, Call}
+use Rattle.facts.specs.{ioAsked, irqAsked}
 use Rattle.facts.proofs.{number-injective, noSuccess, none-succeeds, ruled-then-success, exactly-when}
 use Rattle.layout.specs.{Accepted}
 use Rattle.history.specs.{call, Ours, RefusedExactly}
@@ -30,16 +31,16 @@ module _ (F : Facts) (h : ℕ) (p : List ℕ) (o : Outcome) (success : o .code �
   io-granted = granted (ioRequestChecks F h p) tt (GrantsIo F h p)
 
   -- the level that it writes fits
-  level-fits : WellFormed F → RequestIrq F h p o → Fits F p (assignedIrq (o .packet))
+  level-fits : WellFormed F → RequestIrq F h p o → Fits F (irqAsked p) (assignedIrq (o .packet))
   level-fits w r =
       let d = irq-granted r in
-      subst (Fits F p) (sym (level-answered F h p o (d .0) (d .1))) (exactly-when .irq-taken F p (d .1 .level) w (d .1 .taken))
+      subst (Fits F (irqAsked p)) (sym (level-answered F h p o (d .0) (d .1))) (exactly-when .irq-taken F p (d .1 .level) w (d .1 .taken))
 
   -- the base that it writes is the one taken
-  base-taken : RequestIo F h p o → BaseTaken F p (baseAsked (o .packet))
-  base-taken r = let d = io-granted r in subst (BaseTaken F p) (sym (base-answered F h p o (d .0) (d .1))) (d .1 .taken)
+  base-taken : RequestIo F h p o → BaseTaken F (ioAsked p) (baseAsked (o .packet))
+  base-taken r = let d = io-granted r in subst (BaseTaken F (ioAsked p)) (sym (base-answered F h p o (d .0) (d .1))) (d .1 .taken)
 
-  base-candidate : baseAsked p ≡ 0 → RequestIo F h p o → Candidate F p (baseAsked (o .packet))
+  base-candidate : baseAsked p ≡ 0 → RequestIo F h p o → Candidate F (ioAsked p) (baseAsked (o .packet))
   base-candidate zero r = ⊎-elim (λ named. absurd (named .0 zero)) (λ chosen. chosen .1 .fits) (base-taken r)
 
 -- a named base stays in the packet, granted or refused

@@ -3,8 +3,8 @@ use Rattle.facts.proofs.Words.{_≡_, refl, ap, inl, inr, ⊎-elim, List, [], _
 use Rattle.facts.proofs.Words.{_+_, _≤_, _<_, arith, length, WellFormed}
 use Rattle.facts.specs.{Exclusive, Facts, Range, fresh, _∈_, Apart, withClients, RequestSocketMask, withCard, withMask, levelAdded, rangeAdded}
 use Rattle.facts.specs.{withRanges, RequestIrq, Fits, IrqAttributesBad, IrqInfoBad, RequestIo, IoAttributesBad, IoSizeBad, requestIrq, requestIo}
-use Rattle.facts.specs.{requestSocketMask, mostIssued, mostRanges}
-use Rattle.facts.proofs.{card-formed, clients-formed, ranges-formed, listing, level-added-formed, range-added-formed}
+use Rattle.facts.specs.{requestSocketMask, mostIssued, mostRanges, irqAsked}
+use Rattle.facts.proofs.{card-formed, clients-formed, ranges-formed, listing, level-added-formed, range-added-formed, named-one}
 use Rattle.facts_cases.specs.{done, oneClient, range, ports, grantingIrq, grantingIo}
 use Rattle.facts_cases.proofs.{alone-taken, as-left, _then_, _nor_, listed-alone}
 use Rattle.history.proofs.Giving.{left}
@@ -33,11 +33,11 @@ abbrev pub ioAt : ℕ → ℕ → List ℕ
 ioAt low high = low ∷ high ∷ 0x08 ∷ 0x00 ∷ 0x00 ∷ 0x00 ∷ 0x00 ∷ 0x00 ∷ 0x10 ∷ []
 
 -- what the client 1 asks for: the level 3, the ports 300 to 307, and the event mask 1
-abbrev pub irqAsked : List ℕ
-irqAsked = irqNaming 3 0
+abbrev pub packetIrq : List ℕ
+packetIrq = irqNaming 3 0
 
-abbrev pub ioAsked : List ℕ
-ioAsked = ioAt 0x00 0x03
+abbrev pub packetIo : List ℕ
+packetIo = ioAt 0x00 0x03
 
 abbrev pub maskAsked : List ℕ
 maskAsked = 0x01 ∷ 0x00 ∷ []
@@ -61,32 +61,32 @@ ioHeld = grantingIo 0 (ports 0x300 8 16) irqHeld
 abbrev pub busy : Facts
 busy = withClients ioHeld (withMask 1 0 (some 1) (ioHeld .clients))
 
-pub irq-granted : RequestIrq idle 1 (for 0 irqAsked) (done 1 (for 0 (irqNaming 3 3)) irqHeld)
+pub irq-granted : RequestIrq idle 1 (for 0 packetIrq) (done 1 (for 0 (irqNaming 3 3)) irqHeld)
 irq-granted =
     inr (
-      own-passed irqRequests idle-ready irqAsked refl
+      own-passed irqRequests idle-ready packetIrq refl
           (true≢false then irq-good 3 (omega arith) .0 then irq-good 3 (omega arith) .1 then (λ e. e refl) then (λ e. e 3 fits) then tt),
-      (refl, record { level = 3; taken = alone-taken (λ s. refl) fits (λ l f. ⊎-elim (omega arith) (λ n. n .1) (f .named)); leaves = as-left _ }),
+      (refl, record { level = 3; taken = alone-taken (λ s. refl) fits (λ l f. named-one (for 0 packetIrq) l (omega arith) (f .named)); leaves = as-left _ }),
     )
   where
-    fits : Fits idle (for 0 irqAsked) 3
-    fits = record { named = inr (omega arith, refl); managed = refl; free = inl (λ s g h. Option·none-ne-some g (h .live)) }
+    fits : Fits idle (irqAsked (for 0 packetIrq)) 3
+    fits = record { named = refl; managed = refl; free = inl (λ s g h. Option·none-ne-some g (h .live)) }
 
 pub irq-ready : Ready irqHeld
 irq-ready =
-    ready (left (idle-ready .formed) requestIrq 1 (for 0 irqAsked) (done 1 (for 0 (irqNaming 3 3)) irqHeld) tt irq-granted) _ (inl refl) refl
+    ready (left (idle-ready .formed) requestIrq 1 (for 0 packetIrq) (done 1 (for 0 (irqNaming 3 3)) irqHeld) tt irq-granted) _ (inl refl) refl
 
-pub io-granted : RequestIo irqHeld 1 (for 0 ioAsked) (done 1 (for 0 ioAsked) ioHeld)
+pub io-granted : RequestIo irqHeld 1 (for 0 packetIo) (done 1 (for 0 packetIo) ioHeld)
 io-granted =
     inr (
-      own-passed ioRequests irq-ready ioAsked refl
+      own-passed ioRequests irq-ready packetIo refl
           (true≢false
           then io-good 0x00 0x03 .0
           then io-good 0x00 0x03 .1
           then (λ e. e refl)
           then (λ e. (omega arith nor (λ u. u (λ x m. record { range = _; listed = inl refl; has = omega arith }))
           nor (λ u. u (λ x a. record { range = _; listed = inl refl; has = omega (arith, a .below) }))) (e .1))
-          then (λ e. Option·none-ne-some _ (e .1 .live))
+          then (λ e. Option·none-ne-some _ (e .1 .held))
           then (omega arith)
           then tt),
       (refl, record { base = 0x300; taken = inl (omega arith, refl); leaves = as-left _ }),
@@ -94,7 +94,7 @@ io-granted =
 
 pub io-ready : Ready ioHeld
 io-ready =
-    ready (left (irq-ready .formed) requestIo 1 (for 0 ioAsked) (done 1 (for 0 ioAsked) ioHeld) tt io-granted) _ (inl refl) refl
+    ready (left (irq-ready .formed) requestIo 1 (for 0 packetIo) (done 1 (for 0 packetIo) ioHeld) tt io-granted) _ (inl refl) refl
 
 pub mask-granted : RequestSocketMask ioHeld 1 (for 0 maskAsked) (done 1 (for 0 maskAsked) busy)
 mask-granted =

@@ -11,6 +11,7 @@ use Rattle.layout.specs.{image}
 use Rattle.layout.proofs.{image-length}
 use Rattle.promises.specs.{CardAnswers}
 use Rattle.facts_cases.specs.{done, refused, managing, range, oneClient, noClient, clientPacket, addPacket}
+use Rattle.facts.proofs.{named-one}
 use Rattle.facts_cases.proofs.{cases, as-left, as-kept, _then_, _nor_}
 use Rattle.history.specs.{Ours, Asked, service, no-service, card-in, card-out, boot-list, sharers-of, fresh-table, codesOf, CanGive}
 use Rattle.history.proofs.Listed.{Each}
@@ -19,7 +20,7 @@ use Rattle.history.proofs.Giving.{range-named, first, here, _past_}
 use Rattle.history.proofs.OnSockets.{two-sockets, one-client, for, own-passed, own-refuses, begins, irqRequests, irqReleases, ioRequests}
 use Rattle.history.proofs.OnSockets.{ioReleases, maskRequests, maskReleases}
 use Rattle.history.proofs.ExampleTables.{irqHeld, ioHeld, busy, idle-ready, irq-ready, io-ready, busy-ready, spent-formed, full-formed}
-use Rattle.history.proofs.ExampleTables.{irqNaming, ioAt, irqAsked, ioAsked, maskAsked, irq-good, io-good, irq-granted, io-granted}
+use Rattle.history.proofs.ExampleTables.{irqNaming, ioAt, packetIrq, packetIo, maskAsked, irq-good, io-good, irq-granted, io-granted}
 use Rattle.history.proofs.ExampleTables.{mask-granted, one-port-length, one-port-below}
 
 -- what the client 1 holds where it holds everything: a mask, and a level; a packet that gives the level back, by its type
@@ -135,7 +136,7 @@ examples (service deregisterClient) =
     then refuses two-sockets deregisterClient 0 [] BadHandle tt (first ((omega arith) past here (λ l. l .listed)))
     then refuses (busy-ready .formed) deregisterClient 1 [] InUse tt
     (first ((omega arith) past (λ e. e (busy-ready .live)) past
-    here (inl (record { socket = 0; grant = _; live = refl; holder = refl }))))
+    here (inl (record { seat = 0; range = _; held = refl; holder = refl }))))
     then gives (one-client .formed) deregisterClient 1 [] (done 1 [] noClient) tt (cases .n10 .1 .permitted)
     then tt
 examples (service adjustResourceInfo) =
@@ -151,16 +152,16 @@ examples (service adjustResourceInfo) =
     then tt)
 examples (service requestIrq) =
     begins irqRequests tt
-    (own-refuses irqRequests one-client irqAsked refl tt NoCard (here refl)
+    (own-refuses irqRequests one-client packetIrq refl tt NoCard (here refl)
     then own-refuses irqRequests idle-ready (3 ∷ replicate 5 0) refl tt BadAttribute (true≢false past here (inl refl))
     then own-refuses irqRequests idle-ready (replicate 6 0) refl tt BadArgs
     (true≢false past (omega arith nor omega arith nor omega arith nor omega arith nor omega arith) past here (inl (omega arith, omega arith)))
-    then own-refuses irqRequests busy-ready irqAsked refl tt InUse
+    then own-refuses irqRequests busy-ready packetIrq refl tt InUse
     (true≢false past irq-good 3 (omega arith) .0 past irq-good 3 (omega arith) .1 past here (λ e. Option·none-ne-some _ (sym e)))
     then own-refuses irqRequests idle-ready (irqNaming 4 0) refl tt BadIrq
     (true≢false past irq-good 4 (omega arith) .0 past irq-good 4 (omega arith) .1 past (λ e. e refl) past
-    here (λ l f. ⊎-elim (λ n. omega (arith, n .0)) (λ n. false≢true (rw (n .1) at (f .managed))) (f .named)))
-    then gives (idle-ready .formed) requestIrq 1 (for 0 irqAsked) (done 1 (for 0 (irqNaming 3 3)) irqHeld) tt irq-granted
+    here (λ l f. false≢true (rw (named-one (for 0 (irqNaming 4 0)) l (omega arith) (f .named)) at (f .managed))))
+    then gives (idle-ready .formed) requestIrq 1 (for 0 packetIrq) (done 1 (for 0 (irqNaming 3 3)) irqHeld) tt irq-granted
     then tt)
 examples (service releaseIrq) =
     begins irqReleases tt
@@ -177,24 +178,24 @@ examples (service releaseIrq) =
     then tt)
 examples (service requestIo) =
     begins ioRequests tt
-    (own-refuses ioRequests one-client ioAsked refl tt NoCard (here refl)
+    (own-refuses ioRequests one-client packetIo refl tt NoCard (here refl)
     then own-refuses ioRequests idle-ready (replicate 9 0) refl tt BadAttribute (true≢false past here (inr (inr (inl refl))))
     then own-refuses ioRequests idle-ready (replicate 8 0 ++ (0x10 ∷ [])) refl tt BadSize
     (true≢false past (omega arith nor omega arith nor omega arith nor omega arith) past here (inl refl))
-    then own-refuses ioRequests busy-ready ioAsked refl tt InUse
+    then own-refuses ioRequests busy-ready packetIo refl tt InUse
     (true≢false past io-good 0x00 0x03 .0 past io-good 0x00 0x03 .1 past here (λ e. Option·none-ne-some _ (sym e)))
     then own-refuses ioRequests idle-ready (ioAt 0xFF 0xFF) refl tt BadBase
     (true≢false past io-good 0xFF 0xFF .0 past io-good 0xFF 0xFF .1 past (λ e. e refl) past here (omega arith, inl (omega arith)))
-    then gives (irq-ready .formed) requestIo 1 (for 0 ioAsked) (done 1 (for 0 ioAsked) ioHeld) tt io-granted
+    then gives (irq-ready .formed) requestIo 1 (for 0 packetIo) (done 1 (for 0 packetIo) ioHeld) tt io-granted
     then tt)
 examples (service releaseIo) =
     begins ioReleases tt
     (own-refuses ioReleases one-client (replicate 6 0 ++ (1 ∷ 0 ∷ 0 ∷ [])) refl tt BadSize (here (omega arith))
-    then own-refuses ioReleases one-client ioAsked refl tt BadBase ((omega arith) past here (λ h. Option·none-ne-some _ (h .live)))
-    then gives (busy-ready .formed) releaseIo 1 (for 0 ioAsked) (done 1 (for 0 ioAsked) (withIo busy 0 none)) tt
+    then own-refuses ioReleases one-client packetIo refl tt BadBase ((omega arith) past here (λ h. Option·none-ne-some _ (h .held)))
+    then gives (busy-ready .formed) releaseIo 1 (for 0 packetIo) (done 1 (for 0 packetIo) (withIo busy 0 none)) tt
     (inr (
-      own-passed ioReleases busy-ready ioAsked refl
-          ((omega arith) then (λ e. e (record { grant = _; live = refl; client = refl; base-is = refl; count-is = refl })) then tt),
+      own-passed ioReleases busy-ready packetIo refl
+          ((omega arith) then (λ e. e (record { range = _; held = refl; client = refl; base-is = refl; count-is = refl })) then tt),
       (refl, as-left _),
     ))
     then tt)

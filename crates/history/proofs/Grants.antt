@@ -5,7 +5,7 @@ use Rattle.facts.specs.{Manner, Exclusive, TimeMultiplexed, DynamicLevel, Dynam
 use Rattle.facts.specs.{socketOf, withCard, withLevel, typeOf, GrantsIrq, IrqHeld, withIrq, irqGrant, irqRequestChecks, irqReleaseChecks}
 use Rattle.facts.specs.{requestIrqLength, ownIrqChecks, levelChecks, mannerAsked, typeAsked, withPulse, assignedIrq, GrantsIo, IoHeld, BaseTaken}
 use Rattle.facts.specs.{withIo, ioGrant, ioRequestChecks, ioReleaseChecks, requestIoLength, ownIoChecks, baseChecks, baseAsked, countAsked}
-use Rattle.facts.specs.{requestIrq, releaseIrq, requestIo, releaseIo, allPorts}
+use Rattle.facts.specs.{requestIrq, releaseIrq, requestIo, releaseIo, allPorts, ioAsked, irqAsked}
 use Rattle.facts.proofs.{put-same, told, request-passed}
 use Rattle.layout.proofs.{byte-same, word-length, word-low, word-high}
 use Rattle.history.specs.{Fact, card, level, io, irq, Made, GivenBack, io-made, irq-made, io-back, irq-back, Tells}
@@ -73,8 +73,8 @@ module _ (F : Facts) (h : ℕ) (p : List ℕ) (o : Outcome) where
   pub base-answered : Passed (ioRequestChecks F h p) → (granted : GrantsIo F h p o) → baseAsked (o .packet) ≡ granted .base
   base-answered passed granted = ap baseAsked (granted .leaves .packet) ∙ word-back p (granted .base) (omega (arith, size)) (small (granted .taken))
     where
-      own : Passed (ownIoChecks F p (baseChecks F p))
-      own = request-passed requestIoLength F h p (ownIoChecks F p (baseChecks F p)) passed
+      own : Passed (ownIoChecks F p (baseChecks F (ioAsked p)))
+      own = request-passed requestIoLength F h p (ownIoChecks F p (baseChecks F (ioAsked p))) passed
 
       size : length p ≡ requestIoLength
       size = told (ℕ-discrete (length p) requestIoLength) (passed .0)
@@ -82,7 +82,7 @@ module _ (F : Facts) (h : ℕ) (p : List ℕ) (o : Outcome) where
       port : 1 ≤ countAsked p
       port = told (decLe 1 (countAsked p)) (λ d. own .1 .0 (inl (omega arith)))
 
-      small : BaseTaken F p (granted .base) → granted .base < allPorts
+      small : BaseTaken F (ioAsked p) (granted .base) → granted .base < allPorts
       small (inl named) =
           omega (arith, port, named .1, told (decLe (baseAsked p + countAsked p) allPorts) (λ d. own .1 .1 .1 .0 (named .0, inl (omega arith))))
       small (inr chosen) = omega (arith, port, chosen .1 .fits .within)
@@ -91,16 +91,16 @@ module _ (F : Facts) (h : ℕ) (p : List ℕ) (o : Outcome) where
       → Turns (GivenBack h p requestIo) (Made h p (o .handle) (o .packet) requestIo) 0 F (o .facts)
   request-io-turns passed granted =
       subst (Turns (GivenBack h p requestIo) (Made h p (o .handle) (o .packet) requestIo) 0 F) (sym (granted .leaves .facts))
-      (io-turns F (socketOf p) _ _ (some new) (io-only _ (put-same (F .io) (socketOf p) (some new) ∙ ap (λ (b : ℕ). some (ioGrant h p b)) (sym answered)))
+      (io-turns F (socketOf p) _ _ (some new) (io-only _ (put-same (F .io) (socketOf p) (some new) ∙ ap (λ (b : ℕ). some (ioGrant h (ioAsked p) b)) (sym answered)))
       (request-io-keeps _) (λ g e. unless (own .1 .1 .0) e)
       (λ g e. inl (subst (λ (x : IoGrant). Made h p (o .handle) (o .packet) requestIo (io (socketOf p) x))
-      (ap (ioGrant h p) answered ∙ Option·some-injective new g e) io-made)))
+      (ap (ioGrant h (ioAsked p)) answered ∙ Option·some-injective new g e) io-made)))
     where
       new : IoGrant
-      new = ioGrant h p (granted .base)
+      new = ioGrant h (ioAsked p) (granted .base)
 
-      own : Passed (ownIoChecks F p (baseChecks F p))
-      own = request-passed requestIoLength F h p (ownIoChecks F p (baseChecks F p)) passed
+      own : Passed (ownIoChecks F p (baseChecks F (ioAsked p)))
+      own = request-passed requestIoLength F h p (ownIoChecks F p (baseChecks F (ioAsked p))) passed
 
       answered : baseAsked (o .packet) ≡ granted .base
       answered = base-answered passed granted
@@ -118,10 +118,10 @@ module _ (F : Facts) (h : ℕ) (p : List ℕ) (o : Outcome) where
       Holds = IoHeld F h (socketOf p) (baseAsked p) (countAsked p)
 
       -- the grant that stands there is the one that the client holds
-      own : (g : IoGrant) → F .io (socketOf p) ≡ some g → (number : IoGrant → ℕ) (n : ℕ) → ((held : Holds) → number (held .grant) ≡ n) → number g ≡ n
+      own : (g : IoGrant) → F .io (socketOf p) ≡ some g → (number : IoGrant → ℕ) (n : ℕ) → ((held : Holds) → number (held .range) ≡ n) → number g ≡ n
       own g e number n is =
           told (ℕ-discrete (number g) n)
-          (λ d. io-release-passed F h p passed (λ held. d (ap number (Option·some-injective g (held .grant) (sym e ∙ held .live)) ∙ is held)))
+          (λ d. io-release-passed F h p passed (λ held. d (ap number (Option·some-injective g (held .range) (sym e ∙ held .held)) ∙ is held)))
 
   -- the level that a granted RequestIRQ writes is the one that is taken
   pub level-answered : Passed (irqRequestChecks F h p) → (granted : GrantsIrq F h p o) → assignedIrq (o .packet) ≡ granted .level
@@ -142,16 +142,16 @@ module _ (F : Facts) (h : ℕ) (p : List ℕ) (o : Outcome) where
       → Turns (GivenBack h p requestIrq) (Made h p (o .handle) (o .packet) requestIrq) 0 F (o .facts)
   request-irq-turns passed granted =
       subst (Turns (GivenBack h p requestIrq) (Made h p (o .handle) (o .packet) requestIrq) 0 F) (sym (granted .leaves .facts))
-      (irq-turns F (socketOf p) _ _ (some new) (irq-only _ (put-same (F .irq) (socketOf p) (some new) ∙ ap (λ (l : ℕ). some (irqGrant h p l)) (sym answered)))
+      (irq-turns F (socketOf p) _ _ (some new) (irq-only _ (put-same (F .irq) (socketOf p) (some new) ∙ ap (λ (l : ℕ). some (irqGrant h (irqAsked p) l)) (sym answered)))
       (request-irq-keeps _) (λ g e. unless (own .1 .1 .0) e)
       (λ g e. inl (subst (λ (x : IrqGrant). Made h p (o .handle) (o .packet) requestIrq (irq (socketOf p) x))
-      (ap (irqGrant h p) answered ∙ Option·some-injective new g e) irq-made)))
+      (ap (irqGrant h (irqAsked p)) answered ∙ Option·some-injective new g e) irq-made)))
     where
       new : IrqGrant
-      new = irqGrant h p (granted .level)
+      new = irqGrant h (irqAsked p) (granted .level)
 
-      own : Passed (ownIrqChecks F p (levelChecks F p))
-      own = request-passed requestIrqLength F h p (ownIrqChecks F p (levelChecks F p)) passed
+      own : Passed (ownIrqChecks F p (levelChecks F (irqAsked p)))
+      own = request-passed requestIrqLength F h p (ownIrqChecks F p (levelChecks F (irqAsked p))) passed
 
       answered : assignedIrq (o .packet) ≡ granted .level
       answered = level-answered passed granted

@@ -2,8 +2,9 @@
 use Rattle.facts.proofs.Words.{_≡_, List, Bool, ℕ, length}
 use Rattle.facts.specs.{Record, Width, IoGrant, IrqGrant, clientAttributes, clientEvents, socketOf, eventsAsked, actionOf, resourceOf, add, remove}
 use Rattle.facts.specs.{irqLevel, ioRange, levelGiven, levelAttributes, ioAdjustLength, reserves, baseGiven, countGiven, attributesGiven, typeOf}
-use Rattle.facts.specs.{assignedIrq, typeAsked, mannerAsked, baseAsked, countAsked, portsAt, sharedAsked, registerClient, deregisterClient}
-use Rattle.facts.specs.{adjustResourceInfo, requestIrq, releaseIrq, requestIo, releaseIo, requestSocketMask, releaseSocketMask}
+use Rattle.facts.specs.{assignedIrq, typeAsked, mannerAsked, baseAsked, countAsked, portsAt, registerClient, deregisterClient}
+use Rattle.facts.specs.{adjustResourceInfo, requestIrq, releaseIrq, requestIo, releaseIo, requestSocketMask, releaseSocketMask, ioGrant, irqGrant}
+use Rattle.facts.specs.{ioAsked, irqAsked}
 use Rattle.history.specs.{Fact, client, mask, level, range, io, irq, Made, GivenBack, Recorded, client-made, mask-made, level-made, range-made}
 use Rattle.history.specs.{io-made, irq-made, client-back, mask-back, level-back, range-back, io-back, irq-back, level-recorded, range-recorded}
 
@@ -14,11 +15,11 @@ module _ {h : ℕ} {p : List ℕ} {a : ℕ} {q : List ℕ} (P : Fact → Type 0)
   pub mask-only : P (mask h (socketOf p) (eventsAsked p)) → (f : Fact) → Made h p a q requestSocketMask f → P f
   mask-only x f mask-made = x
 
-  pub io-only : P (io (socketOf p) (record { client = h; ports = portsAt p (baseAsked q); shared = sharedAsked p }))
+  pub io-only : P (io (socketOf p) (ioGrant h (ioAsked p) (baseAsked q)))
       → (f : Fact) → Made h p a q requestIo f → P f
   io-only x f io-made = x
 
-  pub irq-only : P (irq (socketOf p) (record { client = h; level = assignedIrq q; manner = mannerAsked p }))
+  pub irq-only : P (irq (socketOf p) (irqGrant h (irqAsked p) (assignedIrq q)))
       → (f : Fact) → Made h p a q requestIrq f → P f
   irq-only x f irq-made = x
 

@@ -13,7 +13,7 @@ use Rattle.history.specs.{Event, makeFresh, call, cardIn, Keeper, Ours, 
 use Rattle.history.proofs.Answered.{accepted-one}
 use Rattle.history.proofs.Giving.{accepted, serving, serves, left, level-named, range-named}
 use Rattle.history.proofs.OnSockets.{Ready, ready, two-sockets, one-client, for}
-use Rattle.history.proofs.ExampleTables.{idle, irqHeld, ioHeld, idle-ready, irq-ready, irqAsked, ioAsked, irqNaming, irq-granted, io-granted}
+use Rattle.history.proofs.ExampleTables.{idle, irqHeld, ioHeld, idle-ready, irq-ready, packetIrq, packetIo, irqNaming, irq-granted, io-granted}
 
 -- from a fresh table of two sockets
 pub made-two : Ours (makeFresh 2 Success) (image (fresh 2)) (image (fresh 2))
@@ -98,16 +98,16 @@ range-in =
 
 -- what is asked for: the level 3, and the ports 300 to 307
 abbrev pub asksIrq : Event
-asksIrq = call (serviceNumber requestIrq) 1 (for 0 irqAsked) Success 1 (for 0 (irqNaming 3 3))
+asksIrq = call (serviceNumber requestIrq) 1 (for 0 packetIrq) Success 1 (for 0 (irqNaming 3 3))
 
 abbrev pub asksIo : Event
-asksIo = call (serviceNumber requestIo) 1 (for 0 ioAsked) Success 1 (for 0 ioAsked)
+asksIo = call (serviceNumber requestIo) 1 (for 0 packetIo) Success 1 (for 0 packetIo)
 
 pub irq-step : Ours asksIrq (image idle) (image irqHeld)
-irq-step = serves (idle-ready .formed) requestIrq 1 (for 0 irqAsked) (done 1 (for 0 (irqNaming 3 3)) irqHeld) tt irq-granted
+irq-step = serves (idle-ready .formed) requestIrq 1 (for 0 packetIrq) (done 1 (for 0 (irqNaming 3 3)) irqHeld) tt irq-granted
 
 pub io-step : Ours asksIo (image irqHeld) (image ioHeld)
-io-step = serves (irq-ready .formed) requestIo 1 (for 0 ioAsked) (done 1 (for 0 ioAsked) ioHeld) tt io-granted
+io-step = serves (irq-ready .formed) requestIo 1 (for 0 packetIo) (done 1 (for 0 packetIo) ioHeld) tt io-granted
 
 -- a client more registers, where there is room
 pub register-permitted : (F : Facts) → length (F .clients) < mostClients → F .issued < mostIssued

@@ -3,7 +3,7 @@ use Rattle.facts.proofs.Words.{_≡_, refl, ap, sym, _∙_, subst, _⊎_, inl, 
 use Rattle.facts.proofs.Words.{Option·none-ne-some, Option·some-injective, ℕ, _+_, arith, length, WellFormed}
 use Rattle.facts.specs.{Code, Success, GeneralFailure, BadSocket, BadHandle, InUse, numberOf, Facts, Client, Level, IrqGrant, fresh, _∈_, byte}
 use Rattle.facts.specs.{withClients, registered as entered, withCard, withMask, withIrq, irqGrant, levelAsked, assigning, ioGrant, Service}
-use Rattle.facts.specs.{registerClient, deregisterClient, requestIrq, requestIo, serviceNumber}
+use Rattle.facts.specs.{registerClient, deregisterClient, requestIrq, requestIo, serviceNumber, ioAsked, irqAsked}
 use Rattle.facts.proofs.{put-is, card-formed, irq-formed, mask-formed}
 use Rattle.layout.specs.{image, Accepted}
 use Rattle.facts_cases.specs.{done, refused, oneClient, noClient, clientPacket}
@@ -17,7 +17,7 @@ use Rattle.history.proofs.Standing.{stands-never}
 use Rattle.history.proofs.Runs.{exact}
 use Rattle.history.proofs.Giving.{serving, serves, accepted, left, here, _past_}
 use Rattle.history.proofs.OnSockets.{two-sockets, one-client, for}
-use Rattle.history.proofs.ExampleTables.{idle, irqHeld, ioHeld, busy, idle-ready, irq-ready, busy-ready, irqAsked, ioAsked, irqNaming}
+use Rattle.history.proofs.ExampleTables.{idle, irqHeld, ioHeld, busy, idle-ready, irq-ready, busy-ready, packetIrq, packetIo, irqNaming}
 use Rattle.history.proofs.SampleRuns.{made-two, from-two, says, registers, before, Ungranted, registered, BeginsAlike, set-up, ours-begins}
 use Rattle.history.proofs.SampleRuns.{asksIrq, asksIo, irq-step, io-step}
 
@@ -83,9 +83,9 @@ once-wrong x =
       (image irqHeld, irq-step, inl (unheld (idle-ready .formed) (λ s g. Option·none-ne-some g), refl)),
       (tt, image irqHeld, (image ioHeld, io-step, inr ((accepted (irq-ready .formed), 0, _, refl), refl)), refl),
     )) in
-    let stands : Stands (before ++ (asksIrq ∷ asksIo ∷ [])) (io 0 (ioGrant 1 (for 0 ioAsked) 0x300)) =
+    let stands : Stands (before ++ (asksIrq ∷ asksIo ∷ [])) (io 0 (ioGrant 1 (ioAsked (for 0 packetIo)) 0x300)) =
     record { earlier = before ++ (asksIrq ∷ []); maker = asksIo; later = []; are = refl; made = (refl, requestIo, refl, io-made); lasts = λ e m. absurd m } in
-    Option·none-ne-some _ (subst (λ (F : Facts). F .io 0 ≡ some (ioGrant 1 (for 0 ioAsked) 0x300)) (says (irq-ready .formed) (t .accepted)) (t .tells _ .1 stands))
+    Option·none-ne-some _ (subst (λ (F : Facts). F .io 0 ≡ some (ioGrant 1 (ioAsked (for 0 packetIo)) 0x300)) (says (irq-ready .formed) (t .accepted)) (t .tells _ .1 stands))
 
 -- "Taking grants away at card out"
 abbrev TakesAway : Keeper
@@ -104,7 +104,7 @@ takes-away-wrong x =
       card-left (irq-ready .formed),
       refl,
     ) in
-    let g : IrqGrant = irqGrant 1 (for 0 irqAsked) 3 in
+    let g : IrqGrant = irqGrant 1 (irqAsked (for 0 packetIrq)) 3 in
     Option·none-ne-some g (subst (λ (F : Facts). F .irq 0 ≡ some g) (says v (y .after))
     (y .holds (irq 0 g) (λ e. omega (arith, ap kind e)) .0 (subst (λ (F : Facts). F .irq 0 ≡ some g) (sym (says (irq-ready .formed) (y .before))) refl)))
 
@@ -154,7 +154,7 @@ tidied-step =
         busy,
         serves (busy-ready .formed) deregisterClient 1 [] (refused InUse [] busy) tt
             (inl (
-              (omega arith) past (λ e. e (busy-ready .live)) past here (inl (record { socket = 0; grant = _; live = refl; holder = refl })),
+              (omega arith) past (λ e. e (busy-ready .live)) past here (inl (record { seat = 0; range = _; held = refl; holder = refl })),
               as-kept InUse [] busy,
             )),
         refl,
@@ -187,10 +187,10 @@ WritesFirst = At requestIrq λ h p k a q b b′. (r : List ℕ) × Ours (call (s
 
 pub writes-first-wrong : RefusalKeeps WritesFirst → ⊥
 writes-first-wrong x =
-    let step = serves two-sockets requestIrq 1 (for 0 irqAsked) (refused BadHandle (for 0 irqAsked) (fresh 2)) tt
-    (inl ((λ e. e refl) past here (λ l. l .listed), as-kept BadHandle (for 0 irqAsked) (fresh 2))) in
-    let kept = x (call (serviceNumber requestIrq) 1 (for 0 irqAsked) BadHandle 0 (for 0 (irqNaming 3 3))) (image (fresh 2)) (image (fresh 2))
-    (inl (refl, (for 0 irqAsked, step, refl))) (λ e. omega (arith, ap numberOf e)) in
+    let step = serves two-sockets requestIrq 1 (for 0 packetIrq) (refused BadHandle (for 0 packetIrq) (fresh 2)) tt
+    (inl ((λ e. e refl) past here (λ l. l .listed), as-kept BadHandle (for 0 packetIrq) (fresh 2))) in
+    let kept = x (call (serviceNumber requestIrq) 1 (for 0 packetIrq) BadHandle 0 (for 0 (irqNaming 3 3))) (image (fresh 2)) (image (fresh 2))
+    (inl (refl, (for 0 packetIrq, step, refl))) (λ e. omega (arith, ap numberOf e)) in
     omega (arith, ap (λ (q : List ℕ). byte q 4) (kept .1))
 
 -- RegisterClient does as it should, and answers another handle
@@ -267,7 +267,7 @@ other-level-wrong x =
     ⊎-elim
     (λ k. omega (arith, ap (λ (g : IrqGrant). g .level) (Option·some-injective _ _ (sym (k .1) ∙ told)), y .1 .2))
     (λ k. Option·none-ne-some _ (sym (k .1) ∙ told))
-    (put-is (idle .irq) 0 (some (irqGrant 1 (for 0 irqAsked) 3)) (y .0))
+    (put-is (idle .irq) 0 (some (irqGrant 1 (irqAsked (for 0 packetIrq)) 3)) (y .0))
 
 -- any answer at all, and a handle that is left open
 abbrev Anything : Keeper

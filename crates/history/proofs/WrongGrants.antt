@@ -5,8 +5,9 @@ use Rattle.facts.proofs.Words.{T}
 use Rattle.facts.specs.{Code, Success, BadBase, Exclusive, Facts, Range, IoGrant, IrqGrant, _∈_, withWord, Meet, Overlap, Managed, Together, Holds}
 use Rattle.facts.specs.{typeOf, Check, _gives_, Passed, socketOf, RequestIrq, IrqAttributesBad, IrqInfoBad, Fits, Mask, irqAheadChecks, withIrq}
 use Rattle.facts.specs.{irqGrant, levelAsked, mannerAsked, assigning, assignedIrq, RequestIo, IoAttributesBad, IoSizeBad, NotAllManaged}
-use Rattle.facts.specs.{ioAheadChecks, withIo, ioGrant, baseAsked, countAsked, portsAt, sharedAsked, Service, requestIrq, requestIo, serviceNumber}
-use Rattle.facts.proofs.{put-is, number-injective}
+use Rattle.facts.specs.{ioAheadChecks, withIo, ioGrant, baseAsked, countAsked, portsAt, Service, requestIrq, requestIo, serviceNumber}
+use Rattle.facts.specs.{ioAsked, irqAsked, Named}
+use Rattle.facts.proofs.{put-is, number-injective, one-named, named-one}
 use Rattle.layout.specs.{image}
 use Rattle.facts_cases.specs.{done, range, irqPacket}
 use Rattle.facts_cases.proofs.{cases, bits-A3, alone-taken, as-left, _then_, _nor_}
@@ -66,13 +67,13 @@ keeps-all v h p k a q keeps f b = keeps f (subst (λ (x : Service). GivenBack h 
 
 -- ports at a named base that pass every check but for the live grants are granted where Joins holds of what is asked for and each of those
 abbrev managedChecks : Facts → List ℕ → List Check
-managedChecks F p = (((baseAsked p ≢ 0) × NotAllManaged F p) gives BadBase) ∷ []
+managedChecks F p = (((baseAsked p ≢ 0) × NotAllManaged F (ioAsked p)) gives BadBase) ∷ []
 
 abbrev WronglyIo : (List ℕ → IoGrant → Type 0) → ℕ → List ℕ → Code → ℕ → List ℕ → List ℕ → List ℕ → Type 0
 WronglyIo Joins h p k a q b b′ =
     (F : Facts) × (b ≡ image F) × Passed (ioAheadChecks F h p (managedChecks F p)) × (baseAsked p ≢ 0)
     × ((s : ℕ) (g : IoGrant) → F .io s ≡ some g → Joins p g) × (k ≡ Success) × (a ≡ h) × (q ≡ p)
-    × (b′ ≡ image (withIo F (socketOf p) (some (ioGrant h p (baseAsked p)))))
+    × (b′ ≡ image (withIo F (socketOf p) (some (ioGrant h (ioAsked p) (baseAsked p)))))
 
 -- "Comparing ports without the decoded lines"
 abbrev NoLines : Keeper
@@ -80,22 +81,22 @@ NoLines = Also requestIo (WronglyIo λ p g. Overlap (baseAsked p) (countAsked p)
 
 -- ports are shared that only the second of two asked to share, or only the first
 abbrev SecondShares : Keeper
-SecondShares = Also requestIo (WronglyIo λ p g. sharedAsked p ≡ true)
+SecondShares = Also requestIo (WronglyIo λ p g. ioAsked p .shared ≡ true)
 
 abbrev FirstShares : Keeper
 FirstShares = Also requestIo (WronglyIo λ p g. g .shared ≡ true)
 
 -- the table on which the client h has the ports that a packet asks for
 abbrev pub ioAlso : Facts → ℕ → List ℕ → Facts
-ioAlso F h p = withIo F (socketOf p) (some (ioGrant h p (baseAsked p)))
+ioAlso F h p = withIo F (socketOf p) (some (ioGrant h (ioAsked p) (baseAsked p)))
 
 -- two sockets ask for ports, each for a client of its own, and the second is granted them beside the first
 two-ports : (Joins : List ℕ → IoGrant → Type 0) (p p′ : List ℕ) → T (allBytes p) → RequestIo pair 1 p (done 1 p (ioAlso pair 1 p))
-    → Passed (ioAheadChecks (ioAlso pair 1 p) 2 p′ (managedChecks (ioAlso pair 1 p) p′)) → baseAsked p′ ≢ 0 → Joins p′ (ioGrant 1 p (baseAsked p))
-    → Meet (portsAt p (baseAsked p)) (portsAt p′ (baseAsked p′)) → PortsApart (Also requestIo (WronglyIo Joins))
-    → (sharedAsked p ≡ true) × (sharedAsked p′ ≡ true)
+    → Passed (ioAheadChecks (ioAlso pair 1 p) 2 p′ (managedChecks (ioAlso pair 1 p) p′)) → baseAsked p′ ≢ 0 → Joins p′ (ioGrant 1 (ioAsked p) (baseAsked p))
+    → Meet (portsAt (ioAsked p) (baseAsked p)) (portsAt (ioAsked p′) (baseAsked p′)) → PortsApart (Also requestIo (WronglyIo Joins))
+    → (ioAsked p .shared ≡ true) × (ioAsked p′ .shared ≡ true)
 two-ports Joins p p′ bytes granted passed named joins meet x =
-    x 2 (before ++ (registers 2 ∷ one ∷ other ∷ [])) (image both) (socketOf p) (socketOf p′) (ioGrant 1 p (baseAsked p)) (ioGrant 2 p′ (baseAsked p′))
+    x 2 (before ++ (registers 2 ∷ one ∷ other ∷ [])) (image both) (socketOf p) (socketOf p′) (ioGrant 1 (ioAsked p) (baseAsked p)) (ioGrant 2 (ioAsked p′) (baseAsked p′))
     (set-up-two (Also requestIo (WronglyIo Joins)) (also-begins requestIo (WronglyIo Joins)) (one ∷ other ∷ []) (image both) (
       tt,
       image (ioAlso pair 1 p),
@@ -118,10 +119,10 @@ two-ports Joins p p′ bytes granted passed named joins meet x =
     held : (s : ℕ) (g : IoGrant) → ioAlso pair 1 p .io s ≡ some g → Joins p′ g
     held s g e =
         ⊎-elim (λ k. subst (Joins p′) (Option·some-injective _ g (sym (k .1) ∙ e)) joins) (λ k. absurd (Option·none-ne-some g (sym (k .1) ∙ e)))
-        (put-is (pair .io) (socketOf p) (some (ioGrant 1 p (baseAsked p))) s)
+        (put-is (pair .io) (socketOf p) (some (ioGrant 1 (ioAsked p) (baseAsked p))) s)
 
 -- all ports are managed, so that a base that is named is, and wherever its card answers
-all-managed : (F : Facts) → F .ranges ≡ pair .ranges → (p : List ℕ) → baseAsked p + countAsked p ≤ 0x10000 → NotAllManaged F p → ⊥
+all-managed : (F : Facts) → F .ranges ≡ pair .ranges → (p : List ℕ) → baseAsked p + countAsked p ≤ 0x10000 → NotAllManaged F (ioAsked p) → ⊥
 all-managed F e p below =
     (λ l. omega (arith, l, below)) nor (λ u. u (λ x w. managed x (omega (arith, w .below, below)))) nor (λ u. u (λ x a. managed x (a .below)))
   where
@@ -152,7 +153,7 @@ first-granted q n kept =
           then n .sizes
           then (λ e. e refl)
           then (λ e. all-managed pair refl (for 0 q) (n .below) (e .1))
-          then (λ e. Option·none-ne-some _ (e .1 .live))
+          then (λ e. Option·none-ne-some _ (e .1 .held))
           then (λ e. omega (arith, e .0, n .from))
           then tt),
       (
@@ -203,8 +204,8 @@ no-lines-wrong x =
 
 -- 300 to 307, which each of the two asks to share or not
 at-300 : (Joins : List ℕ → IoGrant → Type 0) (a a′ : ℕ) → a ≤ 1 → a′ ≤ 1 → T (allBytes (for 0 (eight 0x00 0x03 a 16)))
-    → Joins (for 1 (eight 0x00 0x03 a′ 16)) (ioGrant 1 (for 0 (eight 0x00 0x03 a 16)) 0x300) → PortsApart (Also requestIo (WronglyIo Joins))
-    → (sharedAsked (for 0 (eight 0x00 0x03 a 16)) ≡ true) × (sharedAsked (for 1 (eight 0x00 0x03 a′ 16)) ≡ true)
+    → Joins (for 1 (eight 0x00 0x03 a′ 16)) (ioGrant 1 (ioAsked (for 0 (eight 0x00 0x03 a 16))) 0x300) → PortsApart (Also requestIo (WronglyIo Joins))
+    → (ioAsked (for 0 (eight 0x00 0x03 a 16)) .shared ≡ true) × (ioAsked (for 1 (eight 0x00 0x03 a′ 16)) .shared ≡ true)
 at-300 Joins a a′ l l′ bytes joins =
     let names = eight-names 0 0x00 0x03 a 16 l (omega arith) (omega arith) (omega arith) (omega arith) (omega arith) in
     let names′ = eight-names 1 0x00 0x03 a′ 16 l′ (omega arith) (omega arith) (omega arith) (omega arith) (omega arith) in
@@ -222,7 +223,7 @@ first-shares-wrong x = false≢true (at-300 _ 1 0 (omega arith) (omega arith) tt
 abbrev WronglyIrq : (Facts → List ℕ → Type 0) → ℕ → List ℕ → Code → ℕ → List ℕ → List ℕ → List ℕ → Type 0
 WronglyIrq Joins h p k a q b b′ =
     (F : Facts) × (b ≡ image F) × Passed (irqAheadChecks F h p []) × (Mask p → ⊥) × (F .level (levelAsked p) .managed ≡ true) × Joins F p
-    × (k ≡ Success) × (a ≡ h) × (q ≡ assigning p (levelAsked p)) × (b′ ≡ image (withIrq F (socketOf p) (some (irqGrant h p (levelAsked p)))))
+    × (k ≡ Success) × (a ≡ h) × (q ≡ assigning p (levelAsked p)) × (b′ ≡ image (withIrq F (socketOf p) (some (irqGrant h (irqAsked p) (levelAsked p)))))
 
 -- "Letting Exclusive join a shared level when its count is one"
 abbrev JoinsOne : Keeper
@@ -242,7 +243,7 @@ asking s t i = irqPacket s t 0 i 0
 
 -- the table on which the client h has the level 3 as a packet asks for it
 abbrev irqAlso : Facts → ℕ → List ℕ → Facts
-irqAlso F h p = withIrq F (socketOf p) (some (irqGrant h p 3))
+irqAlso F h p = withIrq F (socketOf p) (some (irqGrant h (irqAsked p) 3))
 
 -- a request for the level 3 that passes the checks of its packet
 pub record AsksThree (s t i : ℕ) : Type 0 where
@@ -256,21 +257,21 @@ pub record AsksThree (s t i : ℕ) : Type 0 where
 first-three : (t i : ℕ) → AsksThree 0 t i → RequestIrq pair 1 (asking 0 t i) (done 1 (assigning (asking 0 t i) 3) (irqAlso pair 1 (asking 0 t i)))
 first-three t i a =
     inr (
-      own-passed irqRequests pair-ready _ refl (true≢false then a .attributes then a .info then (λ e. e refl) then (λ e. e 3 fits) then tt),
+      own-passed irqRequests pair-ready (t ∷ 0 ∷ 0 ∷ i ∷ 0 ∷ 0 ∷ []) refl (true≢false then a .attributes then a .info then (λ e. e refl) then (λ e. e 3 fits) then tt),
       (
         refl,
-        record { level = 3; taken = alone-taken (λ s. refl) fits (λ l f. ⊎-elim (λ n. absurd (a .clear (n .0))) (λ n. n .1 ∙ a .three) (f .named)); leaves = as-left _ },
+        record { level = 3; taken = alone-taken (λ s. refl) fits (λ l f. named-one (asking 0 t i) l (a .clear) (f .named) ∙ a .three); leaves = as-left _ },
       ),
     )
   where
-    fits : Fits pair (asking 0 t i) 3
-    fits = record { named = inr (a .clear, sym (a .three)); managed = refl; free = inl (λ s g h. Option·none-ne-some g (h .live)) }
+    fits : Fits pair (irqAsked (asking 0 t i)) 3
+    fits = record { named = subst (Named (irqAsked (asking 0 t i))) (a .three) (one-named (asking 0 t i) (a .clear)); managed = refl; free = inl (λ s g h. Option·none-ne-some g (h .live)) }
 
 module _ (t i : ℕ) where
-  only-one : (s : ℕ) (g : IrqGrant) → irqAlso pair 1 (asking 0 t i) .irq s ≡ some g → (s ≡ 0) × (irqGrant 1 (asking 0 t i) 3 ≡ g)
+  only-one : (s : ℕ) (g : IrqGrant) → irqAlso pair 1 (asking 0 t i) .irq s ≡ some g → (s ≡ 0) × (irqGrant 1 (irqAsked (asking 0 t i)) 3 ≡ g)
   only-one s g e =
       ⊎-elim (λ k. (k .0, Option·some-injective _ g (sym (k .1) ∙ e))) (λ k. absurd (Option·none-ne-some g (sym (k .1) ∙ e)))
-      (put-is (pair .irq) 0 (some (irqGrant 1 (asking 0 t i) 3)) s)
+      (put-is (pair .irq) 0 (some (irqGrant 1 (irqAsked (asking 0 t i)) 3)) s)
 
   -- the second, on the socket 1, passes the checks ahead of the fit
   second-asks : (t′ i′ : ℕ) → AsksThree 1 t′ i′ → Passed (irqAheadChecks (irqAlso pair 1 (asking 0 t i)) 2 (asking 1 t′ i′) [])
@@ -328,7 +329,7 @@ two-levels Joins t i t′ i′ a a′ bytes joins x =
     first = irqAlso pair 1 (asking 0 t i)
 
     both : Facts
-    both = withIrq (irqAlso pair 1 (asking 0 t i)) 1 (some (irqGrant 2 (asking 1 t′ i′) (levelAsked (asking 1 t′ i′))))
+    both = withIrq (irqAlso pair 1 (asking 0 t i)) 1 (some (irqGrant 2 (irqAsked (asking 1 t′ i′)) (levelAsked (asking 1 t′ i′))))
 
 -- dynamic sharing and time-multiplexed, of a card with the Level and Share bits; exclusive, of one with the Level bit
 dynamic-three : (s : ℕ) → AsksThree s 0x02 0xA3

@@ -4,8 +4,9 @@ use Rattle.facts.proofs.Words.{_+_, _<_, add-zero, arith, length, WellFormed}
 use Rattle.facts.specs.{Code, Success, Record, Width, Facts, IoGrant, IrqGrant, _∈_, Meet, Together, typeOf, clientAttributes, clientEvents}
 use Rattle.facts.specs.{socketOf, eventsAsked, actionOf, resourceOf, add, remove, first, next, irqLevel, ioRange, levelGiven, ioAdjustLength}
 use Rattle.facts.specs.{baseGiven, countGiven, levelAttributes, attributesGiven, reserves, assignedIrq, typeAsked, mannerAsked, baseAsked}
-use Rattle.facts.specs.{countAsked, portsAt, sharedAsked, recordsIn, Service, registerClient, deregisterClient, adjustResourceInfo, requestIrq}
-use Rattle.facts.specs.{releaseIrq, requestIo, releaseIo, requestSocketMask, releaseSocketMask, serviceNumber, mostSockets}
+use Rattle.facts.specs.{countAsked, portsAt, recordsIn, Service, registerClient, deregisterClient, adjustResourceInfo, requestIrq}
+use Rattle.facts.specs.{releaseIrq, requestIo, releaseIo, requestSocketMask, releaseSocketMask, serviceNumber, mostSockets, irqGrant, irqAsked}
+use Rattle.facts.specs.{ioGrant, ioAsked}
 use Rattle.facts.proofs.{in-right, number-injective}
 use Rattle.layout.specs.{image, Accepted}
 use Rattle.history.specs.{Event, makeFresh, call, cardIn, cardOut, boot, sharers, Keeper, Ours, GoesOn, Runs, FromFresh, Fact, client, mask}
@@ -146,9 +147,9 @@ mustMake h p a q adjustResourceInfo f =
     ⊎ ((resourceOf p ≡ ioRange)
     × ((w : Width) × (length p ≡ ioAdjustLength w)
     × (f ≡ range (record { base = baseGiven w p; count = countGiven w p; reserved = reserves (attributesGiven w p) })))))
-mustMake h p a q requestIrq f = f ≡ irq (socketOf p) (record { client = h; level = assignedIrq q; manner = mannerAsked p })
+mustMake h p a q requestIrq f = f ≡ irq (socketOf p) (irqGrant h (irqAsked p) (assignedIrq q))
 mustMake h p a q releaseIrq f = ⊥
-mustMake h p a q requestIo f = f ≡ io (socketOf p) (record { client = h; ports = portsAt p (baseAsked q); shared = sharedAsked p })
+mustMake h p a q requestIo f = f ≡ io (socketOf p) (ioGrant h (ioAsked p) (baseAsked q))
 mustMake h p a q releaseIo f = ⊥
 mustMake h p a q requestSocketMask f = f ≡ mask h (socketOf p) (eventsAsked p)
 mustMake h p a q releaseSocketMask f = ⊥

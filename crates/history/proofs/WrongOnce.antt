@@ -3,7 +3,7 @@
 use Rattle.facts.proofs.Words.{_≡_, refl, subst, _⊎_, inl, inr, _≢_, List, [], _∷_, ℕ, _+_, _*_, _<_, arith, length, WellFormed}
 use Rattle.facts.specs.{Code, Success, BadBase, BadIrq, GeneralFailure, InUse, numberOf, Facts, _∈_, Passed, Fits, NoLevelFits, assignedIrq}
 use Rattle.facts.specs.{irqAheadChecks, NotAllManaged, InTheWay, Candidate, NoCandidate, baseAsked, ioAheadChecks, recordSize, recordsIn}
-use Rattle.facts.specs.{recordsAdded, Service, requestIrq, requestIo, serviceNumber, Serves, allLevels, mostRanges}
+use Rattle.facts.specs.{recordsAdded, Service, requestIrq, requestIo, serviceNumber, Serves, allLevels, mostRanges, ioAsked, irqAsked}
 use Rattle.facts.proofs.{code-byte}
 use Rattle.layout.specs.{image, Accepted}
 use Rattle.history.specs.{Event, given, codeIn, makeFresh, call, cardIn, cardOut, boot, sharers, Keeper, Ours, Fact, Makes, Tells, Between}
@@ -151,19 +151,19 @@ module _ (h : ℕ) (p : List ℕ) (a : ℕ) (q b b′ : List ℕ) (t : Accepted 
   answers-irq : (k : Code) → AnswersIrq k (call (serviceNumber requestIrq) h p k a q) b b′
   answers-irq k = besides (call (serviceNumber requestIrq) h p k a q) b b′
 
-  pub unfit-granted-wrong : NoLevelFits (t .facts) p → RefusedExactly (AnswersIrq Success) → ⊥
+  pub unfit-granted-wrong : NoLevelFits (t .facts) (irqAsked p) → RefusedExactly (AnswersIrq Success) → ⊥
   unfit-granted-wrong none x = x .irq h p Success a q b b′ t passed (answers-irq Success) .1 none refl
 
-  pub fit-refused-wrong : (k : Code) → k ≢ Success → (NoLevelFits (t .facts) p → ⊥) → RefusedExactly (AnswersIrq k) → ⊥
+  pub fit-refused-wrong : (k : Code) → k ≢ Success → (NoLevelFits (t .facts) (irqAsked p) → ⊥) → RefusedExactly (AnswersIrq k) → ⊥
   fit-refused-wrong k refused fits x = fits (x .irq h p k a q b b′ t passed (answers-irq k) .0 refused)
 
-  pub unfit-code-wrong : (k : Code) → k ≢ BadIrq → NoLevelFits (t .facts) p → RefusedExactly (AnswersIrq k) → ⊥
+  pub unfit-code-wrong : (k : Code) → k ≢ BadIrq → NoLevelFits (t .facts) (irqAsked p) → RefusedExactly (AnswersIrq k) → ⊥
   unfit-code-wrong k other none x = other (x .irq-code h p k a q b b′ t passed (answers-irq k) .1 none)
 
-  pub fit-bad-irq-wrong : (NoLevelFits (t .facts) p → ⊥) → RefusedExactly (AnswersIrq BadIrq) → ⊥
+  pub fit-bad-irq-wrong : (NoLevelFits (t .facts) (irqAsked p) → ⊥) → RefusedExactly (AnswersIrq BadIrq) → ⊥
   fit-bad-irq-wrong fits x = fits (x .irq-code h p BadIrq a q b b′ t passed (answers-irq BadIrq) .0 refl)
 
-  pub other-level-written-wrong : (Fits (t .facts) p (assignedIrq q) → ⊥) → RefusedExactly (AnswersIrq Success) → ⊥
+  pub other-level-written-wrong : (Fits (t .facts) (irqAsked p) (assignedIrq q) → ⊥) → RefusedExactly (AnswersIrq Success) → ⊥
   other-level-written-wrong unfit x = unfit (x .irq-fits h p Success a q b b′ t passed (answers-irq Success) refl)
 
 module _ (h : ℕ) (p : List ℕ) (a : ℕ) (q b b′ : List ℕ) (t : Accepted b) (passed : Passed (ioAheadChecks (t .facts) h p [])) where
@@ -177,22 +177,22 @@ module _ (h : ℕ) (p : List ℕ) (a : ℕ) (q b b′ : List ℕ) (t : Accepted 
   -- all is managed, another code where it isn't; IN_USE where it isn't all managed or nothing is in the way, another code where something is;
   -- another base written
   module _ (named : baseAsked p ≢ 0) where
-    pub barred-granted-wrong : NotAllManaged (t .facts) p ⊎ InTheWay (t .facts) p → RefusedExactly (AnswersIo Success) → ⊥
+    pub barred-granted-wrong : NotAllManaged (t .facts) (ioAsked p) ⊎ InTheWay (t .facts) (ioAsked p) → RefusedExactly (AnswersIo Success) → ⊥
     barred-granted-wrong bars x = x .io-named h p Success a q b b′ t passed (answers-io Success) named .1 bars refl
 
-    pub clear-refused-wrong : (k : Code) → k ≢ Success → (NotAllManaged (t .facts) p ⊎ InTheWay (t .facts) p → ⊥) → RefusedExactly (AnswersIo k) → ⊥
+    pub clear-refused-wrong : (k : Code) → k ≢ Success → (NotAllManaged (t .facts) (ioAsked p) ⊎ InTheWay (t .facts) (ioAsked p) → ⊥) → RefusedExactly (AnswersIo k) → ⊥
     clear-refused-wrong k refused clear x = clear (x .io-named h p k a q b b′ t passed (answers-io k) named .0 refused)
 
-    pub managed-bad-base-wrong : (NotAllManaged (t .facts) p → ⊥) → RefusedExactly (AnswersIo BadBase) → ⊥
+    pub managed-bad-base-wrong : (NotAllManaged (t .facts) (ioAsked p) → ⊥) → RefusedExactly (AnswersIo BadBase) → ⊥
     managed-bad-base-wrong managed x = managed (x .io-base h p BadBase a q b b′ t passed (answers-io BadBase) named .0 refl)
 
-    pub unmanaged-code-wrong : (k : Code) → k ≢ BadBase → NotAllManaged (t .facts) p → RefusedExactly (AnswersIo k) → ⊥
+    pub unmanaged-code-wrong : (k : Code) → k ≢ BadBase → NotAllManaged (t .facts) (ioAsked p) → RefusedExactly (AnswersIo k) → ⊥
     unmanaged-code-wrong k other unmanaged x = other (x .io-base h p k a q b b′ t passed (answers-io k) named .1 unmanaged)
 
-    pub clear-in-use-wrong : ((NotAllManaged (t .facts) p → ⊥) × InTheWay (t .facts) p → ⊥) → RefusedExactly (AnswersIo InUse) → ⊥
+    pub clear-in-use-wrong : ((NotAllManaged (t .facts) (ioAsked p) → ⊥) × InTheWay (t .facts) (ioAsked p) → ⊥) → RefusedExactly (AnswersIo InUse) → ⊥
     clear-in-use-wrong clear x = clear (x .io-in-use h p InUse a q b b′ t passed (answers-io InUse) named .0 refl)
 
-    pub in-the-way-code-wrong : (k : Code) → k ≢ InUse → (NotAllManaged (t .facts) p → ⊥) → InTheWay (t .facts) p → RefusedExactly (AnswersIo k) → ⊥
+    pub in-the-way-code-wrong : (k : Code) → k ≢ InUse → (NotAllManaged (t .facts) (ioAsked p) → ⊥) → InTheWay (t .facts) (ioAsked p) → RefusedExactly (AnswersIo k) → ⊥
     in-the-way-code-wrong k other managed way x = other (x .io-in-use h p k a q b b′ t passed (answers-io k) named .1 (managed, way))
 
     pub other-base-written-wrong : (k : Code) → baseAsked q ≢ baseAsked p → RefusedExactly (AnswersIo k) → ⊥
@@ -201,19 +201,19 @@ module _ (h : ℕ) (p : List ℕ) (a : ℕ) (q b b′ : List ℕ) (t : Accepted 
   -- with base 0: granted although there is no candidate, refused although there is one, refused for that with another code, with IN_USE although
   -- there is one, granted a base that is none
   module _ (zero : baseAsked p ≡ 0) where
-    pub none-granted-wrong : NoCandidate (t .facts) p → RefusedExactly (AnswersIo Success) → ⊥
+    pub none-granted-wrong : NoCandidate (t .facts) (ioAsked p) → RefusedExactly (AnswersIo Success) → ⊥
     none-granted-wrong none x = x .io-chosen h p Success a q b b′ t passed (answers-io Success) zero .1 none refl
 
-    pub candidate-refused-wrong : (k : Code) → k ≢ Success → (NoCandidate (t .facts) p → ⊥) → RefusedExactly (AnswersIo k) → ⊥
+    pub candidate-refused-wrong : (k : Code) → k ≢ Success → (NoCandidate (t .facts) (ioAsked p) → ⊥) → RefusedExactly (AnswersIo k) → ⊥
     candidate-refused-wrong k refused some x = some (x .io-chosen h p k a q b b′ t passed (answers-io k) zero .0 refused)
 
-    pub none-code-wrong : (k : Code) → k ≢ InUse → NoCandidate (t .facts) p → RefusedExactly (AnswersIo k) → ⊥
+    pub none-code-wrong : (k : Code) → k ≢ InUse → NoCandidate (t .facts) (ioAsked p) → RefusedExactly (AnswersIo k) → ⊥
     none-code-wrong k other none x = other (x .io-chosen-code h p k a q b b′ t passed (answers-io k) zero .1 none)
 
-    pub candidate-in-use-wrong : (NoCandidate (t .facts) p → ⊥) → RefusedExactly (AnswersIo InUse) → ⊥
+    pub candidate-in-use-wrong : (NoCandidate (t .facts) (ioAsked p) → ⊥) → RefusedExactly (AnswersIo InUse) → ⊥
     candidate-in-use-wrong some x = some (x .io-chosen-code h p InUse a q b b′ t passed (answers-io InUse) zero .0 refl)
 
-    pub no-candidate-written-wrong : (Candidate (t .facts) p (baseAsked q) → ⊥) → RefusedExactly (AnswersIo Success) → ⊥
+    pub no-candidate-written-wrong : (Candidate (t .facts) (ioAsked p) (baseAsked q) → ⊥) → RefusedExactly (AnswersIo Success) → ⊥
     no-candidate-written-wrong none x = none (x .io-fits h p Success a q b b′ t passed (answers-io Success) zero refl)
 
 -- ExactCodes: a code more than those listed, at any service or host call

@@ -3,7 +3,7 @@ use Rattle.facts.proofs.Words.{_≡_, refl, ap, sym, _∙_, subst, inl, inr, �
 use Rattle.facts.proofs.Words.{Option·none-ne-some, ℕ, arith, WellFormed}
 use Rattle.facts.specs.{Code, Success, Facts, Client, Level, IoGrant, IrqGrant, fresh, withClients, registered as entered, withMask, levelAdded}
 use Rattle.facts.specs.{withLevel, withIrq, irqGrant, RequestIo, withIo, ioGrant, Service, registerClient, adjustResourceInfo, requestIrq, requestIo}
-use Rattle.facts.specs.{releaseIo, serviceNumber}
+use Rattle.facts.specs.{releaseIo, serviceNumber, ioAsked, irqAsked}
 use Rattle.facts.proofs.{put-is, number-injective, fresh-formed, level-formed, io-formed, irq-formed, mask-formed, level-added-formed}
 use Rattle.layout.specs.{image}
 use Rattle.facts_cases.specs.{done, oneClient, clientPacket}
@@ -17,7 +17,7 @@ use Rattle.history.proofs.Runs.{exact}
 use Rattle.history.proofs.Standing.{last-stands}
 use Rattle.history.proofs.Giving.{left, serves}
 use Rattle.history.proofs.OnSockets.{for, one-client}
-use Rattle.history.proofs.ExampleTables.{idle, irqHeld, ioHeld, busy, idle-ready, irq-ready, io-ready, busy-ready, irqAsked, ioAsked, ioAt}
+use Rattle.history.proofs.ExampleTables.{idle, irqHeld, ioHeld, busy, idle-ready, irq-ready, io-ready, busy-ready, packetIrq, packetIo, ioAt}
 use Rattle.history.proofs.ExampleTables.{irqNaming}
 use Rattle.history.proofs.SampleRuns.{made-two, from-two, says, registers, before, ours-begins, set-up, set-up-two, register-permitted, pair}
 use Rattle.history.proofs.SampleRuns.{pair-formed, asksIrq, asksIo, irq-step, io-step}
@@ -53,9 +53,9 @@ numberNamed the-sockets = 0
 -- Frame: a granted RequestIO that takes the socket's IRQ grant
 pub io-takes-irq-wrong : Frame (Besides asksIo (image irqHeld) (image (withIrq ioHeld 0 none))) → ⊥
 io-takes-irq-wrong =
-    success-takes-wrong requestIo 1 (for 0 ioAsked) 1 (for 0 ioAsked) (irq-ready .formed)
+    success-takes-wrong requestIo 1 (for 0 packetIo) 1 (for 0 packetIo) (irq-ready .formed)
     (irq-formed ioHeld (io-ready .formed) 0 none (λ g e. absurd (Option·none-ne-some g e)) (λ t g g′ d e. absurd (Option·none-ne-some g e)))
-    (irq 0 (irqGrant 1 (for 0 irqAsked) 3)) (⊎-elim (λ e. omega (arith, ap nameKind e)) absurd) (λ e. omega (arith, ap serviceNumber (e .0))) refl
+    (irq 0 (irqGrant 1 (irqAsked (for 0 packetIrq)) 3)) (⊎-elim (λ e. omega (arith, ap nameKind e)) absurd) (λ e. omega (arith, ap serviceNumber (e .0))) refl
     (λ e. Option·none-ne-some _ e)
 
 -- Frame: a RegisterClient that drops a mask
@@ -107,35 +107,35 @@ granted-both =
     set-up Ours ours-begins (asksIrq ∷ asksIo ∷ []) (image ioHeld) (tt, image irqHeld, irq-step, (tt, image ioHeld, io-step, refl))
 
 abbrev givesIo : ℕ → Event
-givesIo h = call (serviceNumber releaseIo) h (for 0 ioAsked) Success h (for 0 ioAsked)
+givesIo h = call (serviceNumber releaseIo) h (for 0 packetIo) Success h (for 0 packetIo)
 
 pub release-says-so-wrong : Exact (Besides (givesIo 1) (image ioHeld) (image ioHeld)) → ⊥
 release-says-so-wrong =
     exact-stays-wrong 2 (before ++ (asksIrq ∷ asksIo ∷ [])) (image ioHeld) granted-both (givesIo 1) tt (io-ready .formed)
-    (io 0 (ioGrant 1 (for 0 ioAsked) 0x300)) (refl, releaseIo, refl, io-back refl refl refl)
-    (makes-none-of releaseIo 1 (for 0 ioAsked) Success 1 (for 0 ioAsked) (release-io-makes-none (λ (f : Fact). ⊥)) _) refl
+    (io 0 (ioGrant 1 (ioAsked (for 0 packetIo)) 0x300)) (refl, releaseIo, refl, io-back refl refl refl)
+    (makes-none-of releaseIo 1 (for 0 packetIo) Success 1 (for 0 packetIo) (release-io-makes-none (λ (f : Fact). ⊥)) _) refl
 
 -- Exact: the client 2 gives back what the client 1 holds
 abbrev held : Facts
-held = ioAlso pair 1 (for 0 ioAsked)
+held = ioAlso pair 1 (for 0 packetIo)
 
-held-permitted : RequestIo pair 1 (for 0 ioAsked) (done 1 (for 0 ioAsked) held)
+held-permitted : RequestIo pair 1 (for 0 packetIo) (done 1 (for 0 packetIo) held)
 held-permitted =
-    first-granted ioAsked (eight-names 0 0x00 0x03 0 16 (omega arith) (omega arith) (omega arith) (omega arith) (omega arith) (omega arith)) refl
+    first-granted packetIo (eight-names 0 0x00 0x03 0 16 (omega arith) (omega arith) (omega arith) (omega arith) (omega arith) (omega arith)) refl
 
 held-granted : FromFresh Ours 2 (before ++ (registers 2 ∷ asksIo ∷ [])) (image held)
 held-granted =
     set-up-two Ours ours-begins (asksIo ∷ []) (image held)
-    (tt, image held, serves pair-formed requestIo 1 (for 0 ioAsked) (done 1 (for 0 ioAsked) held) tt held-permitted, refl)
+    (tt, image held, serves pair-formed requestIo 1 (for 0 packetIo) (done 1 (for 0 packetIo) held) tt held-permitted, refl)
 
 held-formed : WellFormed held
-held-formed = left pair-formed requestIo 1 (for 0 ioAsked) (done 1 (for 0 ioAsked) held) tt held-permitted
+held-formed = left pair-formed requestIo 1 (for 0 packetIo) (done 1 (for 0 packetIo) held) tt held-permitted
 
 pub stranger-releases-wrong : Exact (Besides (givesIo 2) (image held) (image (withIo held 0 none))) → ⊥
 stranger-releases-wrong =
-    io-strange-wrong 2 (before ++ (registers 2 ∷ asksIo ∷ [])) (image held) held-granted 2 (for 0 ioAsked) 2 (for 0 ioAsked)
+    io-strange-wrong 2 (before ++ (registers 2 ∷ asksIo ∷ [])) (image held) held-granted 2 (for 0 packetIo) 2 (for 0 packetIo)
     (io-formed held held-formed 0 none (λ g e. absurd (Option·none-ne-some g e)) (λ t g g′ d e. absurd (Option·none-ne-some g e))) 0
-    (ioGrant 1 (for 0 ioAsked) 0x300) (last-stands _ (before ++ (registers 2 ∷ [])) asksIo (inl (refl, requestIo, refl, io-made)))
+    (ioGrant 1 (ioAsked (for 0 packetIo)) 0x300) (last-stands _ (before ++ (registers 2 ∷ [])) asksIo (inl (refl, requestIo, refl, io-made)))
     (λ e. Option·none-ne-some _ e) (inl (omega arith))
 
 -- Exact: a question that makes a socket more
@@ -155,22 +155,22 @@ abbrev asksIoAgain : Event
 asksIoAgain = call (serviceNumber requestIo) 1 (for 0 (ioAt 0x08 0x03)) Success 1 (for 0 (ioAt 0x08 0x03))
 
 abbrev asksIrqAgain : Event
-asksIrqAgain = call (serviceNumber requestIrq) 1 (for 0 irqAsked) Success 1 (for 0 (irqNaming 3 5))
+asksIrqAgain = call (serviceNumber requestIrq) 1 (for 0 packetIrq) Success 1 (for 0 (irqNaming 3 5))
 
-io-stands : Stands log (io 0 (ioGrant 1 (for 0 ioAsked) 0x300))
+io-stands : Stands log (io 0 (ioGrant 1 (ioAsked (for 0 packetIo)) 0x300))
 io-stands = last-stands _ (before ++ (asksIrq ∷ [])) asksIo (inl (refl, requestIo, refl, io-made))
 
-irq-stands : Stands log (irq 0 (irqGrant 1 (for 0 irqAsked) 3))
+irq-stands : Stands log (irq 0 (irqGrant 1 (irqAsked (for 0 packetIrq)) 3))
 irq-stands =
     last-stands _ (before ++ (asksIrq ∷ [])) asksIo (inr (
       last-stands _ before asksIrq (inl (refl, requestIrq, refl, irq-made)),
-      keeps-all requestIo 1 (for 0 ioAsked) Success 1 (for 0 ioAsked) (request-io-keeps (λ (f : Fact). ⊥)) _,
+      keeps-all requestIo 1 (for 0 packetIo) Success 1 (for 0 packetIo) (request-io-keeps (λ (f : Fact). ⊥)) _,
     ))
 
 pub second-io-wrong : OneGrant (Besides asksIoAgain (image ioHeld) (image ioHeld)) → ⊥
 second-io-wrong =
-    two-ios-wrong 2 log (image ioHeld) granted-both asksIoAgain tt (image ioHeld) 0 (ioGrant 1 (for 0 ioAsked) 0x300)
-    (ioGrant 1 (for 0 (ioAt 0x08 0x03)) 0x308)
+    two-ios-wrong 2 log (image ioHeld) granted-both asksIoAgain tt (image ioHeld) 0 (ioGrant 1 (ioAsked (for 0 packetIo)) 0x300)
+    (ioGrant 1 (ioAsked (for 0 (ioAt 0x08 0x03))) 0x308)
     (record {
       stood = io-stands;
       kept = keeps-all requestIo 1 (for 0 (ioAt 0x08 0x03)) Success 1 (for 0 (ioAt 0x08 0x03)) (request-io-keeps (λ (f : Fact). ⊥)) _;
@@ -180,27 +180,27 @@ second-io-wrong =
 
 pub second-irq-wrong : OneGrant (Besides asksIrqAgain (image ioHeld) (image ioHeld)) → ⊥
 second-irq-wrong =
-    two-irqs-wrong 2 log (image ioHeld) granted-both asksIrqAgain tt (image ioHeld) 0 (irqGrant 1 (for 0 irqAsked) 3) (irqGrant 1 (for 0 irqAsked) 5)
+    two-irqs-wrong 2 log (image ioHeld) granted-both asksIrqAgain tt (image ioHeld) 0 (irqGrant 1 (irqAsked (for 0 packetIrq)) 3) (irqGrant 1 (irqAsked (for 0 packetIrq)) 5)
     (record {
       stood = irq-stands;
-      kept = keeps-all requestIrq 1 (for 0 irqAsked) Success 1 (for 0 (irqNaming 3 5)) (request-irq-keeps (λ (f : Fact). ⊥)) _;
+      kept = keeps-all requestIrq 1 (for 0 packetIrq) Success 1 (for 0 (irqNaming 3 5)) (request-irq-keeps (λ (f : Fact). ⊥)) _;
       made = (refl, requestIrq, refl, irq-made);
     })
     (λ e. omega (arith, ap (λ (g : IrqGrant). g .level) e))
 
 -- PortsApart, LevelsApart: the socket 1 is granted the ports, or the level, that the socket 0 has for itself
 abbrev asksIoToo : Event
-asksIoToo = call (serviceNumber requestIo) 1 (for 1 ioAsked) Success 1 (for 1 ioAsked)
+asksIoToo = call (serviceNumber requestIo) 1 (for 1 packetIo) Success 1 (for 1 packetIo)
 
 abbrev asksIrqToo : Event
-asksIrqToo = call (serviceNumber requestIrq) 1 (for 1 irqAsked) Success 1 (for 1 (irqNaming 3 3))
+asksIrqToo = call (serviceNumber requestIrq) 1 (for 1 packetIrq) Success 1 (for 1 (irqNaming 3 3))
 
 pub same-ports-wrong : PortsApart (Besides asksIoToo (image ioHeld) (image ioHeld)) → ⊥
 same-ports-wrong =
-    ports-unshared-wrong 2 log (image ioHeld) granted-both asksIoToo tt (image ioHeld) 0 1 (ioGrant 1 (for 0 ioAsked) 0x300) (ioGrant 1 (for 1 ioAsked) 0x300)
+    ports-unshared-wrong 2 log (image ioHeld) granted-both asksIoToo tt (image ioHeld) 0 1 (ioGrant 1 (ioAsked (for 0 packetIo)) 0x300) (ioGrant 1 (ioAsked (for 1 packetIo)) 0x300)
     (record {
       stood = io-stands;
-      kept = keeps-all requestIo 1 (for 1 ioAsked) Success 1 (for 1 ioAsked) (request-io-keeps (λ (f : Fact). ⊥)) _;
+      kept = keeps-all requestIo 1 (for 1 packetIo) Success 1 (for 1 packetIo) (request-io-keeps (λ (f : Fact). ⊥)) _;
       made = (refl, requestIo, refl, io-made);
     })
     (λ e. omega (arith, ap (λ (f : Fact). numberNamed (nameOf f)) e))
@@ -208,10 +208,10 @@ same-ports-wrong =
 
 pub same-level-wrong : LevelsApart (Besides asksIrqToo (image ioHeld) (image ioHeld)) → ⊥
 same-level-wrong =
-    level-unshared-wrong 2 log (image ioHeld) granted-both asksIrqToo tt (image ioHeld) 0 1 (irqGrant 1 (for 0 irqAsked) 3) (irqGrant 1 (for 1 irqAsked) 3)
+    level-unshared-wrong 2 log (image ioHeld) granted-both asksIrqToo tt (image ioHeld) 0 1 (irqGrant 1 (irqAsked (for 0 packetIrq)) 3) (irqGrant 1 (irqAsked (for 1 packetIrq)) 3)
     (record {
       stood = irq-stands;
-      kept = keeps-all requestIrq 1 (for 1 irqAsked) Success 1 (for 1 (irqNaming 3 3)) (request-irq-keeps (λ (f : Fact). ⊥)) _;
+      kept = keeps-all requestIrq 1 (for 1 packetIrq) Success 1 (for 1 (irqNaming 3 3)) (request-irq-keeps (λ (f : Fact). ⊥)) _;
       made = (refl, requestIrq, refl, irq-made);
     })
     (λ e. omega (arith, ap (λ (f : Fact). numberNamed (nameOf f)) e)) refl (λ together. together .shares refl)
@@ -228,4 +228,4 @@ two-told-wrong = counted-twice-wrong 2 log (image ioHeld) granted-both 3 0 only
         let x = exact 2 log (image ioHeld) granted-both in
         let told = subst (λ (F : Facts). F .irq t ≡ some g) (says (io-ready .formed) (x .accepted)) (x .tells (irq t g) .1 stands) in
         ⊎-elim (λ k. k .0) (λ k. absurd (Option·none-ne-some g (sym (k .1) ∙ told)))
-        (put-is (idle .irq) 0 (some (irqGrant 1 (for 0 irqAsked) 3)) t)
+        (put-is (idle .irq) 0 (some (irqGrant 1 (irqAsked (for 0 packetIrq)) 3)) t)

@@ -11,8 +11,8 @@ use Rattle.facts.specs.Table
 use Rattle.facts.specs.Table.{Facts}
 use Rattle.facts.specs.Sets.{_∈_}
 use Rattle.facts.specs.Checks.{Check, Passed}
-use Rattle.facts.specs.Irq.{Fits, NoLevelFits, assignedIrq, irqAheadChecks}
-use Rattle.facts.specs.Io.{NotAllManaged, InTheWay, Candidate, NoCandidate, baseAsked, ioAheadChecks}
+use Rattle.facts.specs.Irq.{irqAsked, Fits, NoLevelFits, assignedIrq, irqAheadChecks}
+use Rattle.facts.specs.Io.{ioAsked, NotAllManaged, InTheWay, Candidate, NoCandidate, baseAsked, ioAheadChecks}
 use Rattle.facts.specs.Boot.{recordSize, recordsIn, recordsAdded}
 use Rattle.facts.specs.Services.{Service, requestIrq, requestIo, serviceNumber}
 use Rattle.layout.specs.Layout.{image}
@@ -87,19 +87,19 @@ IoAnswers K = WherePassed K requestIo (λ F h p. ioAheadChecks F h p [])
 -- demand 2: "Where the earlier checks pass, an I/O or IRQ request is refused exactly when no resource fits."
 pub record RefusedExactly (K : Keeper) : Type 0 where
   -- RequestIRQ is refused exactly if no level fits, and then with BAD_IRQ; the level that it writes fits
-  pub irq : IrqAnswers K (λ F p k q. (k ≢ Success) ↔ NoLevelFits F p)
-  pub irq-code : IrqAnswers K (λ F p k q. (k ≡ BadIrq) ↔ NoLevelFits F p)
-  pub irq-fits : IrqAnswers K (λ F p k q. k ≡ Success → Fits F p (assignedIrq q))
+  pub irq : IrqAnswers K (λ F p k q. (k ≢ Success) ↔ NoLevelFits F (irqAsked p))
+  pub irq-code : IrqAnswers K (λ F p k q. (k ≡ BadIrq) ↔ NoLevelFits F (irqAsked p))
+  pub irq-fits : IrqAnswers K (λ F p k q. k ≡ Success → Fits F (irqAsked p) (assignedIrq q))
   -- RequestIO with a named base is refused exactly if not all is managed, with BAD_BASE, or else if a grant is in the way, with IN_USE; the base
   -- that it writes is the one named
-  pub io-named : IoAnswers K (λ F p k q. baseAsked p ≢ 0 → (k ≢ Success) ↔ (NotAllManaged F p ⊎ InTheWay F p))
-  pub io-base : IoAnswers K (λ F p k q. baseAsked p ≢ 0 → (k ≡ BadBase) ↔ NotAllManaged F p)
-  pub io-in-use : IoAnswers K (λ F p k q. baseAsked p ≢ 0 → (k ≡ InUse) ↔ ((NotAllManaged F p → ⊥) × InTheWay F p))
+  pub io-named : IoAnswers K (λ F p k q. baseAsked p ≢ 0 → (k ≢ Success) ↔ (NotAllManaged F (ioAsked p) ⊎ InTheWay F (ioAsked p)))
+  pub io-base : IoAnswers K (λ F p k q. baseAsked p ≢ 0 → (k ≡ BadBase) ↔ NotAllManaged F (ioAsked p))
+  pub io-in-use : IoAnswers K (λ F p k q. baseAsked p ≢ 0 → (k ≡ InUse) ↔ ((NotAllManaged F (ioAsked p) → ⊥) × InTheWay F (ioAsked p)))
   pub io-kept : IoAnswers K (λ F p k q. baseAsked p ≢ 0 → baseAsked q ≡ baseAsked p)
   -- RequestIO with base 0 is refused exactly if there is no candidate, and then with IN_USE; the base that it writes is a candidate
-  pub io-chosen : IoAnswers K (λ F p k q. baseAsked p ≡ 0 → (k ≢ Success) ↔ NoCandidate F p)
-  pub io-chosen-code : IoAnswers K (λ F p k q. baseAsked p ≡ 0 → (k ≡ InUse) ↔ NoCandidate F p)
-  pub io-fits : IoAnswers K (λ F p k q. baseAsked p ≡ 0 → k ≡ Success → Candidate F p (baseAsked q))
+  pub io-chosen : IoAnswers K (λ F p k q. baseAsked p ≡ 0 → (k ≢ Success) ↔ NoCandidate F (ioAsked p))
+  pub io-chosen-code : IoAnswers K (λ F p k q. baseAsked p ≡ 0 → (k ≡ InUse) ↔ NoCandidate F (ioAsked p))
+  pub io-fits : IoAnswers K (λ F p k q. baseAsked p ≡ 0 → k ≡ Success → Candidate F (ioAsked p) (baseAsked q))
 
 -- for each service and host call, exactly the codes that it can give
 abbrev pub ExactCodes : Keeper → Type 0

@@ -17,8 +17,8 @@ use Rattle.facts.specs.Sockets.{socketOf, eventsAsked}
 use Rattle.facts.specs.Resources.{actionOf, resourceOf, add, remove, irqLevel, ioRange, levelGiven, levelAttributes, ioAdjustLength, reserves}
 use Rattle.facts.specs.Resources.{baseGiven, countGiven, attributesGiven}
 use Rattle.facts.specs.Levels.{typeOf}
-use Rattle.facts.specs.Irq.{assignedIrq, typeAsked, mannerAsked}
-use Rattle.facts.specs.Io.{baseAsked, countAsked, portsAt, sharedAsked}
+use Rattle.facts.specs.Irq.{assignedIrq, typeAsked, irqAsked, irqGrant}
+use Rattle.facts.specs.Io.{baseAsked, countAsked, ioAsked, ioGrant}
 use Rattle.facts.specs.Boot.{recordsIn}
 use Rattle.facts.specs.Services.{Service, registerClient, deregisterClient, adjustResourceInfo, requestIrq, releaseIrq, requestIo, releaseIo}
 use Rattle.facts.specs.Services.{requestSocketMask, releaseSocketMask, serviceNumber}
@@ -45,8 +45,8 @@ pub data Made (h : ℕ) (p : List ℕ) (a : ℕ) (q : List ℕ) : Service → Fa
       → Made h p a q adjustResourceInfo (level (levelGiven p) (reserves (levelAttributes p)))
   range-made : (w : Width) → length p ≡ ioAdjustLength w → resourceOf p ≡ ioRange → actionOf p ≡ add
       → Made h p a q adjustResourceInfo (range (record { base = baseGiven w p; count = countGiven w p; reserved = reserves (attributesGiven w p) }))
-  io-made : Made h p a q requestIo (io (socketOf p) (record { client = h; ports = portsAt p (baseAsked q); shared = sharedAsked p }))
-  irq-made : Made h p a q requestIrq (irq (socketOf p) (record { client = h; level = assignedIrq q; manner = mannerAsked p }))
+  io-made : Made h p a q requestIo (io (socketOf p) (ioGrant h (ioAsked p) (baseAsked q)))
+  irq-made : Made h p a q requestIrq (irq (socketOf p) (irqGrant h (irqAsked p) (assignedIrq q)))
 
 -- what it gives back
 pub data GivenBack (h : ℕ) (p : List ℕ) : Service → Fact → Type 0 where

@@ -1,14 +1,14 @@
 -- The rows of the gaps, filled in one after the other, are those of the table. Assumes nothing.
 use Rattle.facts.proofs.Words.{_≡_, refl, ap, sym, subst, _∙_, _⊎_, inl, inr, _≢_, List, ℕ, _+_, _-_, _%_, _^_, _≤_, _<_, min, add-zero, mod-lt}
 use Rattle.facts.proofs.Words.{mod-eq-of-lt, eq-or-lt-of-le, decLt, ℕ-discrete, arith, eqb-true, eqb-false, eqb, length, getD, set, length-set}
-use Rattle.facts.proofs.Words.{getD-replicate, getD-set-same, getD-set-other, pow-pos, pow-mono, Ports, Says}
+use Rattle.facts.proofs.Words.{replicate, length-replicate, getD-replicate, getD-set-same, getD-set-other, pow-pos, pow-mono, Ports, Says, Bool}
 use Rattle.facts.specs.{Meet, allPorts, mostLines, mostRanges}
 use Rattle.layout.specs.{rangesIn, RangesSound, rangeBase, endBefore}
 use Rattle.layout.proofs.{rangeEnd, end-next}
 use Rattle.table_read.proofs.{All, all-none}
+use Rattle.facts.proofs.{says-as}
 use Rattle.io_ranges.proofs.{meet-near, near-meet}
-use Rattle.io_answering.specs.{startAt, gapIn, MeetsGap, mostGaps, mostCounted, noGaps, rowAt, RowsFit, MeetsRows, GapsAre, portsFrom}
-use Rattle.io_answering.specs.{LeapsRows}
+use Rattle.io_answering.specs.{startAt, gapIn, MeetsGap, mostGaps, mostCounted, NoGaps, rowAt, RowsFit, MeetsRows, GapsAre, portsFrom}
 use Rattle.io_answering.proofs.Gaps.{start-listed, start-last, ends-within, gap-ends}
 
 -- the row of a gap: its base, where it has ports, and its count, up to the most that is counted
@@ -62,12 +62,12 @@ module _ (g row a : Ports) (is : RowIs g row) (all : g .lines ≡ mostLines) (lo
         base = is .base (omega (arith, is .count, m .other-in .from, m .other-in .below))
 
 -- rows in which one gap is entered
-module _ (rows : List ℕ) (n base count : ℕ) (long : length rows ≡ mostGaps + mostGaps) (l : n < mostGaps) where
+module _ (rows : List ℕ) (n base count : ℕ) (long : mostGaps + mostGaps ≤ length rows) (l : n < mostGaps) where
   abbrev entered : List ℕ
   entered = set (set rows n base) (mostGaps + n) count
 
-  pub entered-long : length entered ≡ mostGaps + mostGaps
-  entered-long = length-set (set rows n base) (mostGaps + n) count ∙ length-set rows n base ∙ long
+  pub entered-long : mostGaps + mostGaps ≤ length entered
+  entered-long = omega (arith, length-set (set rows n base) (mostGaps + n) count ∙ length-set rows n base, long)
 
   entered-base : rowAt entered n .base ≡ base
   entered-base =
@@ -87,7 +87,7 @@ module _ (rows : List ℕ) (n base count : ℕ) (long : length rows ≡ mostGaps
 
 -- the gaps before the place n are filled in, and the others have no port
 pub record Filled (b rows : List ℕ) (n : ℕ) : Type 0 where
-  pub long : length rows ≡ mostGaps + mostGaps
+  pub long : mostGaps + mostGaps ≤ length rows
   pub bases : (i : ℕ) → i < mostGaps → rowAt rows i .base ≤ allPorts
   pub filled : All n (λ i. RowIs (gapIn b i) (rowAt rows i))
   pub rest : (i : ℕ) → n ≤ i → i < mostGaps → rowAt rows i .count ≡ 0
@@ -98,24 +98,28 @@ pub record Filling (b rows : List ℕ) (end i : ℕ) : Type 0 where
   pub ends : end ≡ endBefore b i
   pub filled : Filled b rows i
 
--- before the first gap is, all are 0
-pub filled-none : (b : List ℕ) → Filled b noGaps 0
-filled-none b =
-    record {
-      long = refl;
-      bases = λ i l. omega (arith, zeros i (omega arith));
-      filled = all-none _;
-      rest = λ i l h. zeros (mostGaps + i) (omega arith);
-    }
+-- zeros have no gap yet
+pub none-yet : (n : ℕ) (rows : List ℕ) → rows ≡ replicate n 0 → mostGaps + mostGaps ≤ n → NoGaps rows
+none-yet n rows e l = subst NoGaps (sym e) (record { room = omega (arith, long); empty = λ i h. getD-replicate n i 0 0 (omega (arith, long)) })
   where
-    zeros : (i : ℕ) → i < mostGaps + mostGaps → _≡_ {A = ℕ} (getD noGaps i 0) 0
-    zeros i l = getD-replicate (mostGaps + mostGaps) i 0 0 l
+    long : length {A = ℕ} (replicate n 0) ≡ n
+    long = length-replicate n 0
 
-pub filling-start : (b rows : List ℕ) → rows ≡ noGaps → Filling b rows 0 0
-filling-start b rows e = record { listed = omega arith; ends = refl; filled = subst (λ (rs : List ℕ). Filled b rs 0) (sym e) (filled-none b) }
+-- before the first gap is, all are 0
+pub filled-none : (b rows : List ℕ) → NoGaps rows → Filled b rows 0
+filled-none b rows none =
+    record {
+      long = none .room;
+      bases = λ i l. omega (arith, none .empty i (omega (arith, none .room)));
+      filled = all-none _;
+      rest = λ i l h. none .empty (mostGaps + i) (omega (arith, none .room));
+    }
+
+pub filling-start : (b rows : List ℕ) → NoGaps rows → Filling b rows 0 0
+filling-start b rows none = record { listed = omega arith; ends = refl; filled = filled-none b rows none }
 
 -- rows without a port, for a card that decodes all lines
-pub none-are : (b rows : List ℕ) (lines : ℕ) → rows ≡ noGaps → lines ≡ mostLines → GapsAre b lines rows
+pub none-are : (b rows : List ℕ) (lines : ℕ) → NoGaps rows → lines ≡ mostLines → GapsAre b lines rows
 none-are b rows lines none e =
     record {
       fits = record { bases = f .bases; counts = λ i l. omega (arith, f .rest i (omega arith) l) };
@@ -123,7 +127,7 @@ none-are b rows lines none e =
     }
   where
     f : Filled b rows 0
-    f = subst (λ (rs : List ℕ). Filled b rs 0) (sym none) (filled-none b)
+    f = filled-none b rows none
 
 module _ (b rows : List ℕ) (s : RangesSound b) where
   -- the next gap, from `end` up to a start
@@ -232,13 +236,9 @@ module _ (b rows : List ℕ) (s : RangesSound b) (most : rangesIn b ≤ mostRang
   pub rows-are : (lines : ℕ) → GapsAre b lines rows
   rows-are lines = record { fits = fits; are = λ l. record { has = has; only = only } }
 
--- a card has nothing to leave behind exactly if it answers in no gap
-pub leaps-says : (b rows : List ℕ) (count lines x r : ℕ) → GapsAre b lines rows → lines < mostLines → LeapsRows rows count lines x r
-    → Says (eqb r 0) (MeetsGap b (portsFrom count lines x) → ⊥)
-leaps-says b rows count lines x r gaps l leaps =
-    record {
-      holds = λ e m. leaps .none (eqb-true r 0 e) (gaps .are l .has (portsFrom count lines x) l m);
-      fails = λ e n.
-          let some : 0 < r = omega (arith, eqb-false r 0 e) in
-          n (gaps .are l .only (portsFrom count lines x) l (rw (add-zero x) at (leaps .each 0 some)));
-    }
+-- a card answers in no gap of the rows exactly if it does in none of the table
+pub gaps-say : (b rows : List ℕ) (count lines x : ℕ) → GapsAre b lines rows → lines < mostLines → {r : Bool}
+    → Says r (MeetsRows rows (portsFrom count lines x) → ⊥)
+    → Says r (MeetsGap b (portsFrom count lines x) → ⊥)
+gaps-say b rows count lines x gaps l s =
+    says-as s (λ n m. n (gaps .are l .has (portsFrom count lines x) l m)) (λ n m. n (gaps .are l .only (portsFrom count lines x) l m))

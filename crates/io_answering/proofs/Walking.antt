@@ -1,10 +1,12 @@
--- How far a card has to move to be out of the gaps in the rows that it answers in. Assumes nothing.
+-- Whether a card answers in a gap of the rows: how far it is ahead of each. Assumes nothing.
 use Rattle.facts.proofs.Words.{_≡_, refl, ap, sym, _∙_, subst, _⊎_, inl, inr, _≢_, List, Bool, cond, ℕ, _+_, _-_, _*_, _/_, _%_, _^_, _≤_, _<_, min}
 use Rattle.facts.proofs.Words.{max, mod-lt, mod-le, mod-add-mod, add-mul-mod-self-right, div-add-mod', one-mul, add-mul, eq-or-lt-of-le, decLt}
-use Rattle.facts.proofs.Words.{arith, bitAnd, and-mask, ne-eqb, pow-pos, pow-mono, Ports}
+use Rattle.facts.proofs.Words.{arith, bitAnd, and-mask, ne-eqb, pow-pos, pow-mono, Ports, Says, bitOr, eqb, ℕ-discrete}
 use Rattle.facts.specs.{Meet, allPorts, mostLines}
+use Rattle.facts.proofs.{says-as, says-eq, told}
+use Rattle.table_read.proofs.{or-says}
 use Rattle.io_ranges.proofs.{all-ports-mod, meet-near, near-meet}
-use Rattle.io_answering.specs.{mostGaps, mostCounted, rowAt, RowsFit, MeetsRows, LowBits, reachOf, aheadOf, portsFrom, LeapsRows}
+use Rattle.io_answering.specs.{mostGaps, mostCounted, rowAt, RowsFit, MeetsRows, LowBits, reachOf, aheadOf, portsFrom}
 
 -- a ones takes the remainder by the period
 pub masked : (n ones : ℕ) → LowBits ones → bitAnd n ones ≡ n % (ones + 1)
@@ -80,70 +82,35 @@ module _ (g : Ports) (low : g .base ≤ allPorts) (counted : g .count ≤ mostCo
       let port : 1 ≤ g .count = omega (arith, m .other-in .from, m .other-in .below) in
       omega (arith, e, filled port, meet-near (portsFrom count lines x) g lines least (omega arith) some port low m)
 
-  pub far-each : (e : ℕ) → e < far → Meet (portsFrom count lines (x + e)) g
-  far-each e l = below-or-not (decLt 0 (g .count))
+  pub far-some : far ≢ 0 → Meet (portsFrom count lines x) g
+  far-some n = below-or-not (decLt 0 (g .count))
     where
-      reached : (back n : ℕ) {here : ℕ} → here ≤ back + e → e < n + (count - 1) - back → here < count + n - 1
-      reached back n h k = omega (arith, some)
+      below-or-not : Dec (0 < g .count) → Meet (portsFrom count lines x) g
+      below-or-not (no d) = absurd (n (empty (omega arith)))
+      below-or-not (yes h) = near-meet (portsFrom count lines x) g lines least (omega arith) some h low (omega (arith, n, filled h))
 
-      below-or-not : Dec (0 < g .count) → Meet (portsFrom count lines (x + e)) g
-      below-or-not (no d) = absurd (omega (arith, l, empty (omega arith)))
-      below-or-not (yes h) =
-          let moved : x + e + count - 1 + allPorts - g .base ≡ x + count - 1 + allPorts - g .base + e = omega (arith, low) in
-          let less : (x + e + count - 1 + allPorts - g .base) % 2 ^ lines ≤ behind + e =
-          rw (moved, ← mod-add-mod) (mod-le (behind + e) (2 ^ lines)) in
-          near-meet (portsFrom count lines (x + e)) g lines least (omega arith) some h low (reached behind (g .count) less (rw (filled h) at l))
-
-  pub far-most : count < 256 → far ≤ allPorts
-  far-most few = below-or-not (decLt 0 (g .count))
-    where
-      below-or-not : Dec (0 < g .count) → far ≤ allPorts
-      below-or-not (no d) = omega (arith, empty (omega arith))
-      below-or-not (yes h) = omega (arith, filled h, counted)
-
--- the farthest of the first n gaps
-pub record Leaping (rows : List ℕ) (count lines x n r : ℕ) : Type 0 where
-  pub within : n ≤ mostGaps
-  pub none : r ≡ 0 → (i : ℕ) → i < n → Meet (portsFrom count lines x) (rowAt rows i) → ⊥
-  pub each : (e : ℕ) → e < r → MeetsRows rows (portsFrom count lines (x + e))
-  pub most : r ≤ allPorts
+-- a number is 0 exactly if none of the first n gaps is met
+abbrev pub Clear : List ℕ → ℕ → ℕ → ℕ → ℕ → ℕ → Type 0
+Clear rows count lines x n all = Says (eqb all 0) ((i : ℕ) → i < n → Meet (portsFrom count lines x) (rowAt rows i) → ⊥)
 
 module _ (rows : List ℕ) (count lines x : ℕ) where
-  pub leaping-start : Leaping rows count lines x 0 0
-  leaping-start =
-      record { within = omega arith; none = λ _ i l. absurd (omega arith); each = λ e l. absurd (omega arith); most = omega arith }
-
-  module _ (fit : RowsFit rows) (some : 1 ≤ count) (few : count < 256) (fewer : lines < mostLines) where
-    pub leaping-more : (n r d : ℕ) → Leaping rows count lines x n r → n < mostGaps
+  module _ (fit : RowsFit rows) (some : 1 ≤ count) (fewer : lines < mostLines) where
+    pub clear-more : (n all d : ℕ) → Clear rows count lines x n all → n < mostGaps
         → d ≡ aheadOf (rowAt rows n .base) (rowAt rows n .count) ((x + count - 1) % 2 ^ lines) (count - 1) (2 ^ lines)
-        → Leaping rows count lines x (n + 1) (max r d)
-    leaping-more n r d so l e =
-        record { within = omega arith; none = none; each = each; most = omega (arith, so .most, e, far-most g low counted refl count lines some fewer x few) }
+        → Clear rows count lines x (n + 1) (bitOr all d)
+    clear-more n all d so l e =
+        says-as (or-says all d so here) (λ z i m. either-way z i (eq-or-lt-of-le (omega arith)))
+        (λ z. ((λ i m. z i (omega arith)), z n (omega arith)))
       where
-        g : Ports
-        g = rowAt rows n
+        here : Says (eqb d 0) (Meet (portsFrom count lines x) (rowAt rows n) → ⊥)
+        here =
+            says-as (says-eq d 0) (λ z. far-none (rowAt rows n) (fit .bases n l) (fit .counts n l) refl count lines some fewer x (sym e ∙ z))
+            (λ z. told (ℕ-discrete d 0) (λ k. z (far-some (rowAt rows n) (fit .bases n l) (fit .counts n l) refl count lines some fewer x (λ q. k (e ∙ q)))))
 
-        low : g .base ≤ allPorts
-        low = fit .bases n l
+        either-way : ((i : ℕ) → i < n → Meet (portsFrom count lines x) (rowAt rows i) → ⊥) × (Meet (portsFrom count lines x) (rowAt rows n) → ⊥)
+            → (i : ℕ) → (i ≡ n) ⊎ (i < n) → Meet (portsFrom count lines x) (rowAt rows i) → ⊥
+        either-way z i (inl q) = subst (λ (j : ℕ). Meet (portsFrom count lines x) (rowAt rows j) → ⊥) (sym q) (z .1)
+        either-way z i (inr q) = z .0 i q
 
-        counted : g .count ≤ mostCounted
-        counted = fit .counts n l
-
-        none : max r d ≡ 0 → (i : ℕ) → i < n + 1 → Meet (portsFrom count lines x) (rowAt rows i) → ⊥
-        none z i m k = either-way (eq-or-lt-of-le (omega arith))
-          where
-            either-way : (i ≡ n) ⊎ (i < n) → ⊥
-            either-way (inl q) =
-                far-none g low counted refl count lines some fewer x (omega (arith, e))
-                (subst (λ (j : ℕ). Meet (portsFrom count lines x) (rowAt rows j)) q k)
-            either-way (inr q) = so .none (omega arith) i q k
-
-        each : (i : ℕ) → i < max r d → MeetsRows rows (portsFrom count lines (x + i))
-        each i m = below-or-not (decLt i r)
-          where
-            below-or-not : Dec (i < r) → MeetsRows rows (portsFrom count lines (x + i))
-            below-or-not (yes k) = so .each i k
-            below-or-not (no k) = (n, l, far-each g low counted refl count lines some fewer x i (omega (arith, e)))
-
-  pub leaping-end : (n r : ℕ) → Leaping rows count lines x n r → mostGaps ≤ n → LeapsRows rows count lines x r
-  leaping-end n r so l = record { none = λ z m. so .none z (m .0) (omega (arith, m .1)) (m .2); each = so .each; most = so .most }
+  pub clear-all : (n all : ℕ) → n ≡ mostGaps → Clear rows count lines x n all → Says (eqb all 0) (MeetsRows rows (portsFrom count lines x) → ⊥)
+  clear-all n all e so = says-as so (λ z m. z (m .0) (omega (arith, m .1)) (m .2)) (λ z i l m. z (i, omega arith, m))

@@ -2,4 +2,4 @@
 pub mod Gaps
 pub mod Rows
 pub use Gaps.{startAt, gapIn, MeetsGap, AllManagedIn}
-pub use Rows.{mostGaps, mostCounted, noGaps, rowAt, RowsFit, MeetsRows, GapsAre, LowBits, reachOf, aheadOf, portsFrom, LeapsRows, GappedIs}
+pub use Rows.{mostGaps, mostCounted, NoGaps, rowAt, RowsFit, MeetsRows, GapsAre, LowBits, reachOf, aheadOf, portsFrom}

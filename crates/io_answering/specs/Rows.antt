@@ -1,17 +1,15 @@
--- The gaps between the managed ranges in rows, and how far a card is from being out of those that it answers in. Assumes nothing.
+-- The gaps between the managed ranges in rows. Assumes nothing.
 use mathlib.Core.Path.{_≡_}
 use mathlib.Core.Logic.{_⊎_}
 use mathlib.Core.List.{List}
 use mathlib.Core.Bool.{cond}
 use Prim.Native.Nat.{ℕ, _+_, _-_, _%_, _^_, _≤_, _<_}
 use lib.Dec.{eqb}
-use lib.ListN.{getD, replicate}
+use lib.ListN.{length, getD}
 use Rattle.facts.specs.Table
 use Rattle.facts.specs.Table.{Ports}
 use Rattle.facts.specs.Ports.{Meet}
 use Rattle.io_answering.specs.Gaps.{MeetsGap}
-use Rattle.io_answering.specs.declared.Gapped.{Gapped}
-use Rattle.io_answering.specs.declared.Gapped.the-variants.{Somewhere, Nowhere}
 
 -- room for all gaps
 abbrev pub mostGaps : ℕ
@@ -21,9 +19,10 @@ mostGaps = 40
 abbrev pub mostCounted : ℕ
 mostCounted = 2 ^ 15
 
--- rows that have nothing
-abbrev pub noGaps : List ℕ
-noGaps = replicate (mostGaps + mostGaps) 0
+-- rows that have room, and nothing yet
+pub record NoGaps (rows : List ℕ) : Type 0 where
+  pub room : mostGaps + mostGaps ≤ length rows
+  pub empty : (i : ℕ) → i < length rows → getD rows i 0 ≡ 0
 
 -- the gap in the place i of the rows
 abbrev pub rowAt : List ℕ → ℕ → Ports
@@ -64,18 +63,3 @@ aheadOf base ports last more period = reachOf ports more - (last + period - base
 -- so many ports from x on, decoded by so many lines
 abbrev pub portsFrom : ℕ → ℕ → ℕ → Ports
 portsFrom count lines x = record { base = x; count = count; lines = lines }
-
--- at every base before x + r the ports meet a gap; r is 0 only if they don't at x
-pub record LeapsRows (rows : List ℕ) (count lines x r : ℕ) : Type 0 where
-  pub none : r ≡ 0 → MeetsRows rows (portsFrom count lines x) → ⊥
-  pub each : (e : ℕ) → e < r → MeetsRows rows (portsFrom count lines (x + e))
-  pub most : r ≤ Table.allPorts
-
--- no gap has more ports
-abbrev pub NoneWider : List ℕ → ℕ → Type 0
-NoneWider rows r = (i : ℕ) → i < mostGaps → rowAt rows i .count ≤ r
-
--- a card of so many lines can answer in a gap: they aren't all. Or it can't: they are, or no gap has a port
-abbrev pub GappedIs : List ℕ → ℕ → Gapped → Type 0
-GappedIs rows lines Somewhere = lines < Table.mostLines
-GappedIs rows lines Nowhere = (Table.mostLines ≤ lines) ⊎ ((i : ℕ) → i < mostGaps → rowAt rows i .count ≡ 0)

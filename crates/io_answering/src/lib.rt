@@ -1,5 +1,5 @@
 // Where a card answers: at its own ports and at every port that its lines don't tell from one of them. Whether all of these are managed, by the gaps
-// between the managed ranges; and how far a card is from a base at which it answers in none of those that it answers in.
+// between the managed ranges.
 use layout::ALL_PORTS;
 use layout::MOST_LINES;
 use layout::RANGE_SIZE;
@@ -14,7 +14,7 @@ ghost use Rattle.layout.specs.Layout.{tableSize};
 ghost use Rattle.layout.specs.Reading.{rangesIn};
 ghost use Rattle.layout.specs.Sound.{RangesSound};
 ghost use Rattle.io_answering.specs.Gaps.{AllManagedIn};
-ghost use Rattle.io_answering.specs.Rows.{mostCounted, noGaps, LowBits, reachOf, aheadOf, RowsFit, GapsAre, LeapsRows, NoneWider, GappedIs};
+ghost use Rattle.io_answering.specs.Rows.{mostCounted, NoGaps, LowBits, reachOf, aheadOf, portsFrom, RowsFit, MeetsRows, GapsAre};
 
 // The gaps stand in two rows of 16-bit numbers, one after the other, so that many are looked at side by side: where each begins, and how many ports it
 // has. There may be one more than ranges; the rows have room for whole eights, and the rest is 0.
@@ -27,9 +27,9 @@ const MOST_COUNTED: usize = 32768;
 
 // Fills the rows, which have nothing yet, for cards of so many lines; those of one that decodes all, which answers at its own ports alone, keep nothing.
 // `end` is where the ranges passed end, and the gap begins.
-pub fn gap_rows(t: &[u8], lines: usize, rows: &mut [u16; ROWS])
+pub fn gap_rows(t: &[u8], lines: usize, rows: &mut [u16])
     requires { ⌜ (length (now t) ≡ tableSize) × (rangesIn (now t) ≤ Table.mostRanges) × RangesSound (now t) ⌝ }
-    requires { ⌜ now rows ≡ noGaps ⌝ }
+    requires { ⌜ NoGaps (now rows) ⌝ }
     ensures { λ _. ⌜ GapsAre (now (t .entry)) lines (now (rows .exit)) ⌝ }
 {
     if lines == MOST_LINES {
@@ -72,57 +72,28 @@ fn ahead(base: u16, ports: u16, last: u16, more: u16, ones: u16) -> u16
     reach - behind
 }
 
-// How far the first base lies ahead at which a card with so many ports is out of the gaps that it answers in; 0 where it answers in none.
-pub fn leap(rows: &[u16; ROWS], base: usize, count: usize, lines: usize) -> usize
+// Whether a card with so many ports at a base answers in no gap: how far it is ahead of each, or-ed together with no early exit, so that many are looked
+// at side by side. A card of 10 lines at 2F8 answers at 6F8 as well: with the gap from 6F0 on, of 16 ports, it is 8 ports ahead, and the answer is no.
+fn clear(rows: &[u16; ROWS], base: usize, count: usize, lines: usize) -> bool
     requires { ⌜ RowsFit (now rows) × (base ≤ Table.allPorts) × (1 ≤ count) × (count < 256) × (lines < Table.mostLines) ⌝ }
-    ensures { λ r. ⌜ LeapsRows (now (rows .entry)) count lines base r ⌝ }
+    ensures { λ r. ⌜ Says r (MeetsRows (now (rows .entry)) (portsFrom count lines base) → ⊥) ⌝ }
 {
     let period = io_ranges::power(lines);
     let ones = period - 1;
     let last = (base + count - 1) & ones;
     let more = count - 1;
-    let mut far: u16 = 0;
+    let mut some: u16 = 0;
     for i in 0..MOST_GAPS {
-        far = io_ranges::larger_u16(
-            far,
-            ahead(
+        some = some
+            | ahead(
                 rows[i],
                 rows[MOST_GAPS + i],
                 last as u16,
                 more as u16,
                 ones as u16,
-            ),
-        );
+            );
     }
-    far as usize
-}
-
-fn widest(rows: &[u16; ROWS]) -> u16
-    ensures { λ r. ⌜ NoneWider (now (rows .entry)) r ⌝ }
-{
-    let mut most: u16 = 0;
-    for i in 0..MOST_GAPS {
-        most = io_ranges::larger_u16(most, rows[MOST_GAPS + i]);
-    }
-    most
-}
-
-// Whether a card of so many lines can answer in a gap: not if it decodes all lines, or if no gap has a port.
-pub enum Gapped {
-    Somewhere,
-    Nowhere,
-}
-
-pub fn can_answer(rows: &[u16; ROWS], lines: usize) -> Gapped
-    ensures { λ r. ⌜ GappedIs (now (rows .entry)) lines r ⌝ }
-{
-    if MOST_LINES <= lines {
-        return Gapped::Nowhere;
-    }
-    if widest(rows) == 0 {
-        return Gapped::Nowhere;
-    }
-    Gapped::Somewhere
+    some == 0
 }
 
 // Whether the ports are managed, and every other where a card with them answers. One that decodes all lines answers nowhere else.
@@ -137,5 +108,5 @@ pub fn managed(t: &[u8], rows: &[u16; ROWS], base: usize, count: usize, lines: u
     if ALL_PORTS < base + count {
         return false;
     }
-    leap(rows, base, count, lines) == 0
+    clear(rows, base, count, lines)
 }

@@ -1,24 +1,31 @@
 -- The bytes say which bases are candidates, and which of these lie wholly in unreserved ranges; so the two searches give the candidate that is
 -- taken. Assumes nothing.
-use Rattle.facts.proofs.Words.{_≡_, refl, ap, sym, _∙_, subst, inl, inr, ⊎-elim, List, false, ℕ, zero, suc, _+_, _-_, _*_, _≤_, _<_, decLt, arith, eqb-false}
+use Rattle.facts.proofs.Words.{_≡_, refl, ap, sym, _∙_, subst, _⊎_, inl, inr, ⊎-elim, List, false, ℕ, zero, suc, _+_, _-_, _*_, _≤_, _<_, decLt, arith, eqb-false}
 use Rattle.facts.proofs.Words.{ne-eqb}
 use Rattle.layout.proofs.Of
-use Rattle.facts.specs.{Range, IoGrant, Lowest, Meet, Has, Managed, Answers, WhollyUnreserved, countAsked, linesAsked, portsAt, SmallestPower}
-use Rattle.facts.specs.{Candidate, CandidateTaken, mostLines}
+use Rattle.facts.specs.{MeetsHeld, IoAsked, Range, Lowest, Has, Managed, Answers, WhollyUnreserved, portsAt, SmallestPower, Candidate, CandidateTaken}
+use Rattle.facts.specs.{mostLines, Facts}
 use Rattle.facts.proofs.{Unreserved, wholly-unreserved-told, chosen-first, chosen-then, smallest-power-unique}
 use Rattle.layout.specs.{rangesIn, rangeIn, ioIn, marked, Accepted, RangesSound}
 use Rattle.layout.proofs.{HasPort}
 use Rattle.table_read.proofs.{All}
 use Rattle.io_ranges.proofs.{answers-own}
 use Rattle.io_answering.proofs.{clear-answers, answers-clear}
-use Rattle.io_obstacles.specs.declared.Stretch.{Stretch}
-use Rattle.io_obstacles.specs.{Lies, Barring}
-use Rattle.io_obstacles.proofs.{met-barred}
 use Rattle.io_candidates.specs.declared.TakenBase.{TakenBase}
 use Rattle.io_candidates.specs.declared.TakenBase.the-variants.{Base, Nothing}
-use Rattle.io_candidates.specs.{reserveMark, Counts, Free, CandidateIn, FirstIs, TakenIs}
+use Rattle.io_answering.specs.{MeetsGap}
+use Rattle.io_candidates.specs.{reserveMark, Counts, SomeMarked, Free, CandidateIn, FirstIs}
 use Rattle.io_candidates.proofs.Choosing.{lowest-as}
 use Rattle.io_candidates.proofs.Runs.{counts-below}
+
+-- what bars a base at which the ports are asked for is a live grant that they meet, or a gap
+abbrev pub BarsOnly : List ℕ → Facts → IoAsked → (ℕ → Type 0) → Type 0
+BarsOnly b F q Bar = (x : ℕ) → Bar x → MeetsHeld F (portsAt q x) ⊎ MeetsGap b (portsAt q x)
+
+-- and each of these does: a gap, where the card doesn't decode all lines
+pub record BarsAll (b : List ℕ) (F : Facts) (q : IoAsked) (Bar : ℕ → Type 0) : Type 0 where
+  pub held : (x : ℕ) → MeetsHeld F (portsAt q x) → Bar x
+  pub gap : q .lines < mostLines → (x : ℕ) → MeetsGap b (portsAt q x) → Bar x
 
 module _ (b : List ℕ) (a : Accepted b) where
   ordered : RangesSound b
@@ -69,105 +76,101 @@ module _ (b : List ℕ) (a : Accepted b) where
             has = said-has (x .0) q (subst (λ (r : Range). Has r q) (x .2) (u .0 .has));
           }
 
-  module _ (p : List ℕ) (step : ℕ) (align : SmallestPower (countAsked p) step) (one : 1 ≤ countAsked p) (lines : linesAsked p ≤ mostLines)
-    where
-      abbrev Found : ℕ → ℕ → Type 0
-      Found most = CandidateIn b most (countAsked p) (linesAsked p) step
+  module _ (q : IoAsked) (step : ℕ) (align : SmallestPower (q .count) step) (one : 1 ≤ q .count) (lines : q .lines ≤ mostLines) (Bar : ℕ → Type 0) where
+    abbrev Search : ℕ → ℕ → Type 0
+    Search most = CandidateIn b Bar most (q .count) step
 
-      abbrev Early : ℕ → Type 0
-      Early x = WhollyUnreserved (a .facts) x (countAsked p)
+    abbrev Early : ℕ → Type 0
+    Early x = WhollyUnreserved (a .facts) x (q .count)
 
-      -- wherever its card answers is managed: no gap bars it, or it decodes all lines and answers at its own ports alone
-      found-answers : (most x : ℕ) → Found most x → (q : ℕ) → Answers (portsAt p x) q → Managed (a .facts) q
-      found-answers most x c q y = below-or-not (decLt (linesAsked p) mostLines)
-        where
-          below-or-not : Dec (linesAsked p < mostLines) → Managed (a .facts) q
-          below-or-not (yes l) = Of.managed-said b a q (clear-answers b ordered (portsAt p x) lines (λ m. c .free .unbarred (inr (l, m))) q y)
-          below-or-not (no l) =
-              let own = c .counted (y .own) (y .own-in) in
-              let all : linesAsked p ≡ mostLines = omega arith in
-              subst (Managed (a .facts)) (sym (answers-own (portsAt p x) all q y (counts-below b ordered most (y .own) own)))
-              (managed-by most (y .own) own)
-
-      -- a candidate by the bytes is a candidate, whichever ranges count
-      found-candidate : (most x : ℕ) → Found most x → Candidate (a .facts) p x
-      found-candidate most x c =
-          record {
-            step = step;
-            times = c .free .multiple .times;
-            align = align;
-            multiple = c .free .multiple .is;
-            positive = c .positive;
-            managed = λ q w. managed-by most q (c .counted q w);
-            answers = found-answers most x c;
-            within =
-                let last = c .counted (x + countAsked p - 1) (record { from = omega arith; below = omega arith }) in
-                omega (arith, counts-below b ordered most (x + countAsked p - 1) last);
-            meets-none = λ s g e m.
-                let said = Of.said-io b a s g e in
-                c .free .unbarred
-                (inl (
-                  s,
-                  said .0,
-                  record { used = said .1; meets = subst (λ (h : IoGrant). Meet (portsAt p x) (h .ports)) (sym (said .2)) m },
-                ));
-          }
-
-      -- and a candidate is one by the bytes, where all ranges count
-      candidate-free : (x : ℕ) → Candidate (a .facts) p x → Free b (countAsked p) (linesAsked p) step x
+    -- what bars a base is a live grant or a gap: then a candidate is one by the bytes, where all ranges count
+    module _ (only : BarsOnly b (a .facts) q Bar) where
+      pub candidate-free : (x : ℕ) → Candidate (a .facts) q x → Free Bar step x
       candidate-free x c =
           record {
             multiple = record {
               times = c .times;
-              is =
-                  subst (λ (n : ℕ). x ≡ c .times * n) (smallest-power-unique (countAsked p) (c .step) step (c .align) align) (c .multiple);
+              is = subst (λ (n : ℕ). x ≡ c .times * n) (smallest-power-unique (q .count) (c .step) step (c .align) align) (c .multiple);
             };
-            unbarred =
-                ⊎-elim (λ m. c .meets-none (m .0) (ioIn b (m .0)) (Of.io-said b a (m .0) (m .1) (m .2 .used)) (m .2 .meets))
-                (λ m. answers-clear b ordered (portsAt p x) lines (λ q y. Of.said-managed b a q (c .answers q y)) (m .1));
+            unbarred = λ y.
+                ⊎-elim (λ m. c .meets-none (m .seat) (m .range) (m .held) (m .meets))
+                (λ m. answers-clear b ordered (portsAt q x) lines (λ p w. Of.said-managed b a p (c .answers p w)) m) (only x y);
           }
 
-      candidate-found : (x : ℕ) → Candidate (a .facts) p x → Found 1 x
+      pub candidate-found : (x : ℕ) → Candidate (a .facts) q x → Search 1 x
       candidate-found x c =
-          record { free = candidate-free x c; positive = c .positive; counted = λ q w. managed-counts q (c .managed q w) }
+          record { free = candidate-free x c; positive = c .positive; counted = λ p w. managed-counts p (c .managed p w) }
 
-      -- where unreserved ranges alone count, it is one that lies wholly in them
-      found-early : (x : ℕ) → Found 0 x → Candidate (a .facts) p x × Early x
-      found-early x c = (found-candidate 0 x c, λ q w. counts-unreserved q (c .counted q w))
-
-      early-found : (x : ℕ) → Candidate (a .facts) p x × Early x → Found 0 x
+      -- and one that lies wholly in unreserved ranges, where these alone count
+      early-found : (x : ℕ) → Candidate (a .facts) q x × Early x → Search 0 x
       early-found x c =
-          record { free = candidate-free x (c .0); positive = c .0 .positive; counted = λ q w. unreserved-counts q (c .1 q w) }
+          record { free = candidate-free x (c .0); positive = c .0 .positive; counted = λ p w. unreserved-counts p (c .1 p w) }
 
-      -- the lowest of these is taken, or else the lowest of all
-      taken-early : (x : ℕ) → Lowest (Found 0) x → CandidateTaken (a .facts) p x
-      taken-early x low =
-          chosen-first (λ y _. wholly-unreserved-told (a .facts) y (countAsked p)) (lowest-as found-early early-found (Base x) low)
+      -- every live grant and, where a card doesn't decode all lines, every gap bars its bases: then what is found is a candidate
+      module _ (all : BarsAll b (a .facts) q Bar) where
+        -- wherever its card answers is managed: no gap bars it, or it decodes all lines and answers at its own ports alone
+        found-answers : (most x : ℕ) → Search most x → (p : ℕ) → Answers (portsAt q x) p → Managed (a .facts) p
+        found-answers most x c p y = below-or-not (decLt (q .lines) mostLines)
+          where
+            below-or-not : Dec (q .lines < mostLines) → Managed (a .facts) p
+            below-or-not (yes l) = Of.managed-said b a p (clear-answers b ordered (portsAt q x) lines (λ m. c .free .unbarred (all .gap l x m)) p y)
+            below-or-not (no l) =
+                let own = c .counted (y .own) (y .own-in) in
+                let every : q .lines ≡ mostLines = omega arith in
+                subst (Managed (a .facts)) (sym (answers-own (portsAt q x) every p y (counts-below b ordered most (y .own) own)))
+                (managed-by most (y .own) own)
 
-      taken-late : ((x : ℕ) → Found 0 x → ⊥) → (x : ℕ) → Lowest (Found 1) x → CandidateTaken (a .facts) p x
-      taken-late none x low = chosen-then (λ y c e. none y (early-found y (c, e))) (lowest-as (found-candidate 1) candidate-found (Base x) low)
+        found-candidate : (most x : ℕ) → Search most x → Candidate (a .facts) q x
+        found-candidate most x c =
+            record {
+              step = step;
+              times = c .free .multiple .times;
+              align = align;
+              multiple = c .free .multiple .is;
+              positive = c .positive;
+              managed = λ p w. managed-by most p (c .counted p w);
+              answers = found-answers most x c;
+              within =
+                  let last = c .counted (x + q .count - 1) (record { from = omega arith; below = omega arith }) in
+                  omega (arith, counts-below b ordered most (x + q .count - 1) last);
+              meets-none = λ s g e m. c .free .unbarred (all .held x (record { seat = s; range = g; held = e; meets = m }));
+            }
 
-module _ (b p : List ℕ) (step : ℕ) (align : SmallestPower (countAsked p) step) (one : 1 ≤ countAsked p) (lines : linesAsked p ≤ mostLines)
-  where
-    -- what comes first is taken
-    pub first-taken : (r : TakenBase) → FirstIs b (countAsked p) (linesAsked p) step r → TakenIs b p r
-    first-taken (Base x) (inl low) = λ a. taken-early b a p step align one lines x low
-    first-taken (Base x) (inr late) = λ a. taken-late b a p step align one lines (late .0) x (late .1)
-    first-taken Nothing none = λ a x c. none x (candidate-found b a p step align one lines x c)
+        found-early : (x : ℕ) → Search 0 x → Candidate (a .facts) q x × Early x
+        found-early x c = (found-candidate 0 x c, λ p w. counts-unreserved p (c .counted p w))
 
-    -- where every base lies in a stretch that is barred, nothing is
-    pub barred-taken : (most : ℕ) (known : Stretch) → Barring b (countAsked p) (linesAsked p) most step known → ((x : ℕ) → Lies known x)
-        → TakenIs b p Nothing
-    barred-taken most known bars all a x c =
-        let free = candidate-free b a p step align one lines x c in
-        free .unbarred (met-barred b (countAsked p) (linesAsked p) most x (bars .barred x (free .multiple) (all x)))
+        -- the lowest of these is taken, or else the lowest of all
+        pub first-taken : (x : ℕ) → FirstIs b Bar (q .count) step (Base x) → CandidateTaken (a .facts) q x
+        first-taken x (inl low) =
+            chosen-first (λ y _. wholly-unreserved-told (a .facts) y (q .count)) (lowest-as found-early early-found (Base x) low)
+        first-taken x (inr late) =
+            chosen-then (λ y c e. late .0 y (early-found y (c, e))) (lowest-as (found-candidate 1) candidate-found (Base x) (late .1))
 
 -- the two searches, one after the other
-module _ (b : List ℕ) (count lines step : ℕ) where
-  abbrev Search : ℕ → ℕ → Type 0
-  Search most = CandidateIn b most count lines step
+module _ (b : List ℕ) (Bar : ℕ → Type 0) (count step : ℕ) where
+  abbrev Found : ℕ → ℕ → Type 0
+  Found most = CandidateIn b Bar most count step
 
-  pub first-by : (most : ℕ) → most < 2 → All most (λ m. (x : ℕ) → Search m x → ⊥) → (x : ℕ) → Lowest (Search most) x → FirstIs b count lines step (Base x)
+  pub first-by : (most : ℕ) → most < 2 → All most (λ m. (x : ℕ) → Found m x → ⊥) → (x : ℕ) → Lowest (Found most) x → FirstIs b Bar count step (Base x)
   first-by zero l none x low = inl low
   first-by (suc zero) l none x low = inr (none 0 (omega arith), low)
   first-by (suc (suc most)) l none x low = absurd (omega arith)
+
+  -- where no range has a mark, or a higher one, those with lower marks are all
+  pub none-marked : (most : ℕ) → (SomeMarked b most → ⊥) → All most (λ m. (x : ℕ) → Found m x → ⊥) → 1 ≤ count → (x : ℕ) → Found 1 x → ⊥
+  none-marked zero n none one x c =
+      let p = c .counted x (record { from = omega arith; below = omega arith }) in n (record { range = p .range; listed = p .listed; marked = omega arith })
+  none-marked (suc most) n none one x c =
+      none most (omega arith) x
+      (record {
+        free = c .free;
+        positive = c .positive;
+        counted = λ p w. let k = c .counted p w in record { range = k .range; listed = k .listed; mark = lower (k .range) (k .listed); has = k .has };
+      })
+    where
+      lower : (i : ℕ) → i < rangesIn b → reserveMark b i ≤ most
+      lower i l = within-or-not (decLt most (reserveMark b i))
+        where
+          within-or-not : Dec (most < reserveMark b i) → reserveMark b i ≤ most
+          within-or-not (yes h) = absurd (n (record { range = i; listed = l; marked = omega arith }))
+          within-or-not (no h) = omega arith

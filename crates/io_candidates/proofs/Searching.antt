@@ -4,9 +4,7 @@ use Rattle.facts.specs.{Lowest}
 use Rattle.layout.specs.{rangesIn, RangesSound, rangeBase}
 use Rattle.layout.proofs.{rangeEnd, ends-before}
 use Rattle.table_read.proofs.{All}
-use Rattle.io_answering.specs.declared.Gapped.{Gapped}
-use Rattle.io_obstacles.specs.declared.Stretch.{Stretch}
-use Rattle.io_obstacles.specs.{FirstMultiple, Opened, Bars}
+use Rattle.io_obstacles.specs.{FirstMultiple, Opened}
 use Rattle.io_candidates.specs.declared.TakenBase.{TakenBase}
 use Rattle.io_candidates.specs.declared.TakenBase.the-variants.{Base, Nothing}
 use Rattle.io_candidates.specs.{ReachIs, FreeBetween, CandidateIn, StartsIn, LowestIs, Counts}
@@ -14,44 +12,37 @@ use Rattle.io_candidates.proofs.Choosing.{lowest-as}
 use Rattle.io_candidates.proofs.Runs.{counts-alike}
 
 -- the lowest that is not barred, past what a search leapt over
-module _ (b : List ℕ) (count lines step period : ℕ) (all : List Stretch) (rows : List ℕ) (gapped : Gapped) (known : Stretch)
-    (bars : Bars b count lines step period all rows gapped known) (from end x : ℕ) (o : Opened all rows known count lines gapped step from end x)
-  where
-    abbrev Fit : ℕ → Type 0
-    Fit = FreeBetween b count lines step from end
+module _ (Bar : ℕ → Type 0) (count step from end x : ℕ) (o : Opened Bar step count from end x) where
+  abbrev Fit : ℕ → Type 0
+  Fit = FreeBetween Bar count step from end
 
-    not-before : (y : ℕ) → Fit y → x ≤ y
-    not-before y f = below-or-not (decLt y x)
-      where
-        below-or-not : Dec (y < x) → x ≤ y
-        below-or-not (yes l) =
-            absurd (f .free .unbarred (bars .barred y (f .free .multiple) (o .barred y (f .free .multiple) (f .past) l)))
-        below-or-not (no l) = omega arith
+  not-before : (y : ℕ) → Fit y → x ≤ y
+  not-before y f = below-or-not (decLt y x)
+    where
+      below-or-not : Dec (y < x) → x ≤ y
+      below-or-not (yes l) = absurd (f .free .unbarred (o .barred y (f .free .multiple) (f .past) l))
+      below-or-not (no l) = omega arith
 
-    pub open-found : x + count ≤ end → LowestIs Fit (Base x)
-    open-found h =
-        record {
-          fits = record {
-            free = record { multiple = o .multiple; unbarred = λ m. o .free h (inl (bars .met x m)) };
-            past = o .past;
-            before = h;
-          };
-          least = not-before;
-        }
+  pub open-found : x + count ≤ end → LowestIs Fit (Base x)
+  open-found h =
+      record {
+        fits = record { free = record { multiple = o .multiple; unbarred = o .free h }; past = o .past; before = h };
+        least = not-before;
+      }
 
-    pub open-none : end < x + count → LowestIs Fit Nothing
-    open-none h y f = omega (arith, not-before y f, f .before)
+  pub open-none : end < x + count → LowestIs Fit Nothing
+  open-none h y f = omega (arith, not-before y f, f .before)
 
 -- no candidate starts in the range k
-abbrev pub NoneIn : List ℕ → ℕ → ℕ → ℕ → ℕ → ℕ → Type 0
-NoneIn b most count lines step k = (y : ℕ) → StartsIn b k most count lines step y → ⊥
+abbrev pub NoneIn : List ℕ → (ℕ → Type 0) → ℕ → ℕ → ℕ → ℕ → Type 0
+NoneIn b Bar most count step k = (y : ℕ) → StartsIn b Bar k most count step y → ⊥
 
-module _ (b : List ℕ) (s : RangesSound b) (most count lines step : ℕ) (h : 1 ≤ count) where
+module _ (b : List ℕ) (s : RangesSound b) (Bar : ℕ → Type 0) (most count step : ℕ) (h : 1 ≤ count) where
   -- those that start in the range i are those between its first multiple and where the ports that count end
   module _ (i from end : ℕ) (l : i < rangesIn b) (f : FirstMultiple (max (rangeBase b i) 1) step from)
       (r : ReachIs b i most (rangeEnd b i + count - 1) end)
     where
-      between-starts : (x : ℕ) → FreeBetween b count lines step from end x → StartsIn b i most count lines step x
+      between-starts : (x : ℕ) → FreeBetween Bar count step from end x → StartsIn b Bar i most count step x
       between-starts x y =
           record {
             candidate = record {
@@ -62,7 +53,7 @@ module _ (b : List ℕ) (s : RangesSound b) (most count lines step : ℕ) (h : 1
             has = record { from = omega (arith, f .past, y .past); below = omega (arith, y .before, r .wanted) };
           }
 
-      starts-between : (x : ℕ) → StartsIn b i most count lines step x → FreeBetween b count lines step from end x
+      starts-between : (x : ℕ) → StartsIn b Bar i most count step x → FreeBetween Bar count step from end x
       starts-between x y =
           record {
             free = c .free;
@@ -70,7 +61,7 @@ module _ (b : List ℕ) (s : RangesSound b) (most count lines step : ℕ) (h : 1
             before = each-way (decLe (x + count) end) (decLe x end);
           }
         where
-          c : CandidateIn b most count lines step x
+          c : CandidateIn b Bar most count step x
           c = y .candidate
 
           -- else the first port that does not count would be one of its own, or one of the range before it
@@ -84,31 +75,31 @@ module _ (b : List ℕ) (s : RangesSound b) (most count lines step : ℕ) (h : 1
               (r .ends (omega (arith, y .has .below))
               (counts-alike b s most i x end l (y .has) (record { from = r .from; below = omega (arith, y .has .below) }) here))
 
-      pub lowest-in : (x : TakenBase) → LowestIs (FreeBetween b count lines step from end) x → LowestIs (StartsIn b i most count lines step) x
+      pub lowest-in : (x : TakenBase) → LowestIs (FreeBetween Bar count step from end) x → LowestIs (StartsIn b Bar i most count step) x
       lowest-in = lowest-as between-starts starts-between
 
   abbrev Fits : ℕ → Type 0
-  Fits = CandidateIn b most count lines step
+  Fits = CandidateIn b Bar most count step
 
   -- a candidate starts in some range
-  starts : (y : ℕ) → Fits y → (k : ℕ) × (k < rangesIn b) × StartsIn b k most count lines step y
+  starts : (y : ℕ) → Fits y → (k : ℕ) × (k < rangesIn b) × StartsIn b Bar k most count step y
   starts y c =
       let p = c .counted y (record { from = omega arith; below = omega arith }) in
       (p .range, p .listed, record { candidate = c; has = p .has })
 
   -- where none starts in an earlier range, the lowest in the range i is the lowest of all
-  pub lowest-of : (i x : ℕ) → i < rangesIn b → All i (NoneIn b most count lines step) → Lowest (StartsIn b i most count lines step) x → Lowest Fits x
+  pub lowest-of : (i x : ℕ) → i < rangesIn b → All i (NoneIn b Bar most count step) → Lowest (StartsIn b Bar i most count step) x → Lowest Fits x
   lowest-of i x l none low = record { fits = low .fits .candidate; least = least }
     where
       least : (y : ℕ) → Fits y → x ≤ y
       least y c = let k = starts y c in below-or-not k (decLt (k .0) i) (decLt i (k .0))
         where
-          below-or-not : (k : (k : ℕ) × (k < rangesIn b) × StartsIn b k most count lines step y) → Dec (k .0 < i) → Dec (i < k .0) → x ≤ y
+          below-or-not : (k : (k : ℕ) × (k < rangesIn b) × StartsIn b Bar k most count step y) → Dec (k .0 < i) → Dec (i < k .0) → x ≤ y
           below-or-not k (yes m) d = absurd (none (k .0) m y (k .2))
           below-or-not k (no m) (yes n) = omega (arith, low .fits .has .below, k .2 .has .from, ends-before b s i (k .0) n (k .1))
           below-or-not k (no m) (no n) =
               let e : k .0 ≡ i = omega arith in
-              low .least y (subst (λ (j : ℕ). StartsIn b j most count lines step y) e (k .2))
+              low .least y (subst (λ (j : ℕ). StartsIn b Bar j most count step y) e (k .2))
 
-  pub none-of : (i : ℕ) → rangesIn b ≤ i → All i (NoneIn b most count lines step) → (y : ℕ) → Fits y → ⊥
+  pub none-of : (i : ℕ) → rangesIn b ≤ i → All i (NoneIn b Bar most count step) → (y : ℕ) → Fits y → ⊥
   none-of i l none y c = let k = starts y c in none (k .0) (omega (arith, k .1)) y (k .2)

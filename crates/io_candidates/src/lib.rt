@@ -1,24 +1,25 @@
 // The base that a request for I/O ports without a base takes, on a table that is the image of a well-formed set.
-use io_answering::Gapped;
-use io_answering::ROWS;
+use facts::IoAsked;
+use io_obstacles::GAP_ROWS;
+use io_obstacles::GRANT_ROWS;
 use io_obstacles::Stretch;
+use io_obstacles::Wanted;
 use layout::MARKED;
 use layout::MOST_LINES;
-use layout::MOST_SOCKETS;
 use layout::RANGE_RESERVED_AT;
 use layout::RANGE_SIZE;
 use layout::RANGES_AT;
 use layout::RANGES_IN;
 ghost use mathlib.Core.Path.{_≡_};
 ghost use Prim.Native.Nat.{_≤_, _<_};
-ghost use lib.ListN.{length};
 ghost use Rattle.facts.specs.Table;
 ghost use Rattle.facts.specs.Says.{Says};
-ghost use Rattle.facts.specs.Io.{requestIoLength, countAsked, linesAsked, SmallestPower};
+ghost use Rattle.facts.specs.Io.{SmallestPower};
 ghost use Rattle.layout.specs.Reading.{rangesIn};
 ghost use Rattle.layout.specs.Sound.{Accepted, rangeBase};
-ghost use Rattle.io_obstacles.specs.Obstacles.{Power, Barring, GapLines};
-ghost use Rattle.io_candidates.specs.Candidates.{FollowsOn, ReachIs, CandidateIn, StartsIn, Obstructs, Searched, FirstIs, TakenIs};
+ghost use Rattle.io_obstacles.specs.Bars.{Barring};
+ghost use Rattle.io_obstacles.specs.Search.{BarredFor, SearchFits};
+ghost use Rattle.io_candidates.specs.Candidates.{FollowsOn, ReachIs, SomeMarked, CandidateIn, StartsIn, Searched, FirstIs, Wants, TakenIs};
 
 // "candidates are the positive multiples".
 const LEAST: usize = 1;
@@ -74,69 +75,52 @@ fn reach(t: &[u8], i: usize, most: usize, want: usize) -> usize
     want
 }
 
-// What a search looks for: so many ports, decoded by so many lines, at multiples of the step; whether such a card can answer in a gap; and the period
-// after which what is barred repeats.
-pub struct Wanted {
-    pub count: usize,
-    pub lines: usize,
-    pub step: usize,
-    pub gapped: Gapped,
-    pub period: usize,
-}
-
 // What a search among the candidates finds.
 pub enum TakenBase {
     Base(usize),
     Nothing,
 }
 
-// What it found, and the stretch of bases that it learnt to be barred.
-pub struct Search {
+// What it found, and the stretch of bases that it knows to be barred.
+pub struct Found {
     pub taken: TakenBase,
-    pub learnt: Stretch,
+    pub known: Stretch,
 }
 
-// The lowest candidate whose first port the range `i` has: the lowest multiple that no live grant and no gap bars, of those whose ports end where the
-// ports that count do.
+// The lowest candidate whose first port the range `i` has: the lowest multiple that nothing bars, of those whose ports end where the ports that count do.
 fn first_in(
     t: &[u8],
     i: usize,
     most: usize,
+    grants: &[u16],
+    gaps: &[u16],
     wanted: Wanted,
-    all: [Stretch; MOST_SOCKETS],
-    rows: &[u16; ROWS],
     known: Stretch,
-) -> Search
-    requires { ⌜ Accepted (now t) × (i < rangesIn (now t)) × (1 ≤ wanted .count) × (wanted .count < 256) ⌝ }
-    requires { ⌜ Power (wanted .step) × Obstructs (now t) wanted all (now rows) known ⌝ }
-    ensures { λ r. ⌜ Searched (now (t .entry)) wanted all (now (rows .entry)) (StartsIn (now (t .entry)) i most (wanted .count) (wanted .lines) (wanted .step)) r ⌝ }
+) -> Found
+    requires { ⌜ Accepted (now t) × (i < rangesIn (now t)) × SearchFits (now grants) (now gaps) wanted ⌝ }
+    requires { ⌜ Barring (BarredFor (now grants) (now gaps) wanted) (wanted .step) known ⌝ }
+    ensures { λ r. ⌜ Searched (BarredFor (now (grants .entry)) (now (gaps .entry)) wanted) (wanted .step)
+        (StartsIn (now (t .entry)) (BarredFor (now (grants .entry)) (now (gaps .entry)) wanted) i most (wanted .count) (wanted .step)) r ⌝ }
 {
     let count = wanted.count;
     let step = wanted.step;
+    let limit = wanted.limit;
     let base = table_read::word(t, RANGES_AT + i * RANGE_SIZE);
     let from = io_obstacles::up(io_ranges::larger(base, LEAST), step);
     let end = reach(t, i, most, managed_search::range_end(t, i) + count - 1);
-    let gapped = wanted.gapped;
-    let open = io_obstacles::lowest(
-        all,
-        rows,
-        known,
-        count,
-        wanted.lines,
-        gapped,
-        step,
-        from,
-        end,
-    );
+    let search = io_obstacles::lowest(grants, gaps, wanted, known, from, end);
+    let open = search.base;
+    let barred = search.known;
     if open + count <= end {
-        return Search {
+        return Found {
             taken: TakenBase::Base(open),
-            learnt: known,
+            known: barred,
         };
     }
-    Search {
+    let long = io_obstacles::period(limit, step);
+    Found {
         taken: TakenBase::Nothing,
-        learnt: io_obstacles::learnt(known, from, open, wanted.period),
+        known: io_obstacles::learnt(barred, from, open, long),
     }
 }
 
@@ -144,62 +128,63 @@ fn first_in(
 fn first_of(
     t: &[u8],
     most: usize,
+    grants: &[u16],
+    gaps: &[u16],
     wanted: Wanted,
-    all: [Stretch; MOST_SOCKETS],
-    rows: &[u16; ROWS],
     known: Stretch,
-) -> Search
-    requires { ⌜ Accepted (now t) × (1 ≤ wanted .count) × (wanted .count < 256) ⌝ }
-    requires { ⌜ Power (wanted .step) × Obstructs (now t) wanted all (now rows) known ⌝ }
-    ensures { λ r. ⌜ Searched (now (t .entry)) wanted all (now (rows .entry)) (CandidateIn (now (t .entry)) most (wanted .count) (wanted .lines) (wanted .step)) r ⌝ }
+) -> Found
+    requires { ⌜ Accepted (now t) × SearchFits (now grants) (now gaps) wanted ⌝ }
+    requires { ⌜ Barring (BarredFor (now grants) (now gaps) wanted) (wanted .step) known ⌝ }
+    ensures { λ r. ⌜ Searched (BarredFor (now (grants .entry)) (now (gaps .entry)) wanted) (wanted .step)
+        (CandidateIn (now (t .entry)) (BarredFor (now (grants .entry)) (now (gaps .entry)) wanted) most (wanted .count) (wanted .step)) r ⌝ }
 {
     let ranges = table_read::byte(t, RANGES_IN);
     let mut learnt = known;
     for i in 0..ranges {
-        let found = first_in(t, i, most, wanted, all, rows, learnt);
-        learnt = found.learnt;
+        let found = first_in(t, i, most, grants, gaps, wanted, learnt);
+        learnt = found.known;
         let taken = found.taken;
         if let TakenBase::Base(base) = taken {
-            return Search {
+            return Found {
                 taken: TakenBase::Base(base),
-                learnt,
+                known: learnt,
             };
         }
     }
-    Search {
+    Found {
         taken: TakenBase::Nothing,
-        learnt,
+        known: learnt,
     }
 }
 
-// "Candidates wholly in unreserved ranges come first, then the lowest": what the search in them finds, or else what the search in all ranges does.
-fn first(
-    t: &[u8],
-    rows: &[u16; ROWS],
-    count: usize,
-    lines: usize,
-    gapped: Gapped,
-    step: usize,
-    known: Stretch,
-) -> TakenBase
-    requires { ⌜ Accepted (now t) × (1 ≤ count) × (count < 256) × (lines ≤ Table.mostLines) × Power step ⌝ }
-    requires { ⌜ GapLines (now t) (now rows) count lines gapped × Barring (now t) count lines Table.mostLines step known ⌝ }
-    ensures { λ r. ⌜ FirstIs (now (t .entry)) count lines step r ⌝ }
+// Whether some range has this reserve mark, or a higher one.
+fn some_marked(t: &[u8], mark: usize) -> bool
+    requires { ⌜ Accepted (now t) ⌝ }
+    ensures { λ r. ⌜ Says r (SomeMarked (now (t .entry)) mark) ⌝ }
 {
-    let met = io_obstacles::lines_met(t, lines, gapped);
-    let period = io_obstacles::period(met, step);
-    let all = io_obstacles::stretches(t, count, lines, met);
-    let wanted = Wanted {
-        count,
-        lines,
-        step,
-        gapped,
-        period,
-    };
+    let ranges = table_read::byte(t, RANGES_IN);
+    for i in 0..ranges {
+        if mark <= table_read::byte(t, RANGES_AT + i * RANGE_SIZE + RANGE_RESERVED_AT) {
+            return true;
+        }
+    }
+    false
+}
+
+// "Candidates wholly in unreserved ranges come first, then the lowest": what the search in them finds, or else, where some range is reserved, what the
+// search in all ranges does.
+fn first(t: &[u8], grants: &[u16], gaps: &[u16], wanted: Wanted, known: Stretch) -> TakenBase
+    requires { ⌜ Accepted (now t) × SearchFits (now grants) (now gaps) wanted ⌝ }
+    requires { ⌜ Barring (BarredFor (now grants) (now gaps) wanted) (wanted .step) known ⌝ }
+    ensures { λ r. ⌜ FirstIs (now (t .entry)) (BarredFor (now (grants .entry)) (now (gaps .entry)) wanted) (wanted .count) (wanted .step) r ⌝ }
+{
     let mut learnt = known;
     for most in UNRESERVED..ALL + 1 {
-        let found = first_of(t, most, wanted, all, rows, learnt);
-        learnt = found.learnt;
+        if !some_marked(t, most) {
+            return TakenBase::Nothing;
+        }
+        let found = first_of(t, most, grants, gaps, wanted, learnt);
+        learnt = found.known;
         let taken = found.taken;
         if let TakenBase::Base(base) = taken {
             return TakenBase::Base(base);
@@ -208,21 +193,51 @@ fn first(
     TakenBase::Nothing
 }
 
-// The base that is taken, of those that a request without a base can have.
-pub fn choose(t: &[u8], p: &[u8]) -> TakenBase
-    requires { ⌜ Accepted (now t) × (length (now p) ≡ requestIoLength) ⌝ }
-    requires { ⌜ (1 ≤ countAsked (now p)) × (linesAsked (now p) ≤ Table.mostLines) ⌝ }
-    ensures { λ r. ⌜ TakenIs (now (t .entry)) (now (p .entry)) r ⌝ }
+// The base that is taken past the grants' bars, and past the gaps', which are looked at only where the grants don't bar every base. Where both do,
+// there is none.
+fn past_bars(t: &[u8], asked: IoAsked, grants: &[u16], wanted: Wanted) -> TakenBase
+    requires { ⌜ Accepted (now t) × Wants (now t) asked (now grants) wanted ⌝ }
+    ensures { λ r. ⌜ TakenIs (now (t .entry)) asked r ⌝ }
 {
-    let count = io_packets::count_asked(p);
-    let lines = io_packets::lines_asked(p);
-    let step = align(count);
-    let mut rows: [u16; ROWS] = [0; ROWS];
-    io_answering::gap_rows(t, lines, &mut rows);
-    let gapped = io_answering::can_answer(&rows, lines);
-    let known = io_obstacles::passed(t, &rows, count, lines, gapped, step);
+    let known = io_obstacles::passed(grants, wanted);
     if io_obstacles::everywhere(known) {
         return TakenBase::Nothing;
     }
-    first(t, &rows, count, lines, gapped, step, known)
+    let count = wanted.count;
+    let mut rows: [u16; GAP_ROWS] = [0; GAP_ROWS];
+    let gaps = io_bars::gap_bars(t, count, asked.lines, &mut rows);
+    let gapped = Wanted {
+        count,
+        step: wanted.step,
+        limit: wanted.limit,
+        few: wanted.few,
+        gaps,
+    };
+    let swept = io_obstacles::swept(grants, &rows, gapped, known);
+    if io_obstacles::everywhere(swept) {
+        return TakenBase::Nothing;
+    }
+    first(t, grants, &rows, gapped, swept)
+}
+
+// The base that is taken, of those that a request without a base can have.
+pub fn choose(t: &[u8], asked: IoAsked) -> TakenBase
+    requires { ⌜ Accepted (now t) × (1 ≤ asked .count) × (asked .count < 256) × (asked .lines ≤ Table.mostLines) ⌝ }
+    ensures { λ r. ⌜ TakenIs (now (t .entry)) asked r ⌝ }
+{
+    let count = asked.count;
+    let lines = asked.lines;
+    let step = align(count);
+    let limit = io_obstacles::limit_of(lines);
+    let mut grants: [u16; GRANT_ROWS] = [0; GRANT_ROWS];
+    io_bars::grant_bars(t, count, lines, &mut grants);
+    let few = io_obstacles::shortest(io_obstacles::periods(&grants), limit);
+    let wanted = Wanted {
+        count,
+        step,
+        limit,
+        few,
+        gaps: 0,
+    };
+    past_bars(t, asked, &grants, wanted)
 }

@@ -1,3 +1,3 @@
--- The ports of a socket's grant. Assumes nothing.
+-- Ports that meet some that are held. Assumes nothing.
 pub mod Held
-pub use Held.{meets-held}
+pub use Held.{meets-held, meets-some, Fits, held-fits}

@@ -1,3 +1,3 @@
 -- What the contracts of `io_meeting` cite. Assumes nothing.
 pub mod Meeting
-pub use Meeting.{MeetsOn, MeetsSome}
+pub use Meeting.{MeetsAt}

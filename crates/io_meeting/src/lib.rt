@@ -1,45 +1,35 @@
-// Whether a range of ports meets a live grant: that of a socket, or any.
-use facts::Socket;
-use layout::IO_BASE_AT;
-use layout::IO_COUNT_AT;
-use layout::IO_LINES_AT;
-use layout::IO_SIZE;
-use layout::IOS_AT;
-use layout::MOST_SOCKETS;
-ghost use mathlib.Core.Path.{_≡_};
+// Whether ports meet some that are held: at a seat, or at any.
+use facts::Seat;
+use layout::MOST_SEATS;
+use seats::IoSeat;
 ghost use Prim.Native.Nat.{_<_, _≤_};
-ghost use lib.ListN.{length};
 ghost use Rattle.facts.specs.Table;
 ghost use Rattle.facts.specs.Says.{Says};
-ghost use Rattle.layout.specs.Layout.{tableSize};
-ghost use Rattle.layout.specs.Sound.{Accepted, IoPlaceSound};
-ghost use Rattle.io_meeting.specs.Meeting.{MeetsOn, MeetsSome};
+ghost use Rattle.facts.specs.Ports.{MeetsHeld};
+ghost use Rattle.layout.specs.Reading.{factsIn};
+ghost use Rattle.layout.specs.Sound.{Accepted};
+ghost use Rattle.io_meeting.specs.Meeting.{MeetsAt};
 
-// Whether the ports meet those of the grant on the socket.
-pub fn on(t: &[u8], base: usize, count: usize, lines: usize, s: Socket) -> bool
-    requires { ⌜ (length (now t) ≡ tableSize) × (s .0 < Table.mostSockets) × IoPlaceSound (now t) (s .0) ⌝ }
+// Whether the ports meet those that are held at the seat.
+fn at(t: &[u8], base: usize, count: usize, lines: usize, s: Seat) -> bool
+    requires { ⌜ Accepted (now t) × (s .0 < Table.mostSeats) ⌝ }
     requires { ⌜ (base < Table.allPorts) × (count ≤ Table.allPorts) × (lines ≤ Table.mostLines) ⌝ }
-    ensures { λ r. ⌜ Says r (MeetsOn (now (t .entry)) (record { base = base; count = count; lines = lines }) (s .0)) ⌝ }
+    ensures { λ r. ⌜ Says r (MeetsAt (factsIn (now (t .entry))) (record { base = base; count = count; lines = lines }) (s .0)) ⌝ }
 {
-    let number = s.0;
-    let at = IOS_AT + number * IO_SIZE;
-    if table_read::word(t, at) == 0 {
+    let IoSeat::Held(held) = seats::held(t, s) else {
         return false;
-    }
-    let held = table_read::word(t, at + IO_BASE_AT);
-    let ports = table_read::byte(t, at + IO_COUNT_AT);
-    let decoded = table_read::byte(t, at + IO_LINES_AT);
-    io_ranges::meets(base, count, lines, held, ports, decoded)
+    };
+    io_ranges::meets(base, count, lines, held.base, held.count, held.lines)
 }
 
-// Whether the ports meet those of some grant.
+// Whether the ports meet some that are held.
 pub fn some(t: &[u8], base: usize, count: usize, lines: usize) -> bool
     requires { ⌜ Accepted (now t) ⌝ }
     requires { ⌜ (base < Table.allPorts) × (count ≤ Table.allPorts) × (lines ≤ Table.mostLines) ⌝ }
-    ensures { λ r. ⌜ Says r (MeetsSome (now (t .entry)) (record { base = base; count = count; lines = lines })) ⌝ }
+    ensures { λ r. ⌜ Says r (MeetsHeld (factsIn (now (t .entry))) (record { base = base; count = count; lines = lines })) ⌝ }
 {
-    for s in 0..MOST_SOCKETS {
-        if on(t, base, count, lines, Socket(s)) {
+    for s in 0..MOST_SEATS {
+        if at(t, base, count, lines, Seat(s)) {
             return true;
         }
     }

@@ -1,13 +1,9 @@
--- The stretches of bases at which ports meet live grants, the gaps, and the search that leaps past them: laws. Assumes nothing.
-pub mod Gapped
-pub mod Grants
+-- Bars of bases, and the search that leaps past them: laws. Assumes nothing.
 pub mod Leaping
-pub mod Periods
-pub mod Searching
 pub mod Steps
-pub use Gapped.{none-within, gap-lines}
-pub use Grants.{nowhere-is, grant-is, one-entered}
-pub use Leaping.{masked, leap-none, leap-some, leap-start, leap-more}
-pub use Periods.{period-is, met-barred, bars-made, bars-learnt, open-in-is, Passed, passed-none, barring-more, passed-more, passed-lines, passed-on}
-pub use Searching.{leap-known, leap-grants, leap-nowhere, leap-gaps, Gone, gone-start, gone-on, gone-free, gone-past}
+pub mod Searching
+pub mod Repeating
+pub use Leaping.{masked, leap-over, leap-none, leap-some, wrapped-behind, leap-start, leap-more}
 pub use Steps.{power-positive, power-most, rounded}
+pub use Searching.{AllBarred, leap-barred, Gone, gone-start, gone-on, gone-along, gone-free, gone-past, gone-as, leap-grants, leap-gaps}
+pub use Repeating.{power-lines, period-is, stretch-repeats, rows-repeat, bars-repeat, rows-more, bars-more, learnt-barring, nowhere-barring, barring-as}

@@ -1,66 +1,72 @@
--- A search from one multiple of the step to the next that may be free. Assumes nothing.
-use Rattle.facts.proofs.Words.{_≡_, subst, inl, inr, ⊎-elim, _≢_, List, ℕ, _+_, _-_, _≤_, _<_, decLt, arith}
-use Rattle.facts.specs.{mostSockets}
-use Rattle.io_answering.specs.declared.Gapped.{Gapped}
-use Rattle.io_answering.specs.declared.Gapped.the-variants.{Somewhere, Nowhere}
-use Rattle.io_answering.specs.{LeapsRows}
-use Rattle.io_obstacles.specs.declared.Stretch.{Stretch}
-use Rattle.io_obstacles.specs.{around, Multiple, FirstMultiple, StretchFits, InRows, LiesIn, Leaps, LeapsFirst, LeapsIn, Opened}
+-- A search from one multiple of the step to the next that may be free, whatever bars a base. Assumes nothing.
+use Rattle.facts.proofs.Words.{_≡_, subst, inl, inr, ⊎-elim, List, ℕ, _+_, _-_, _≤_, _<_, decLt, arith}
+use Rattle.io_obstacles.specs.{around, Multiple, FirstMultiple, Leaps, LiesInRows, Opened, grantPlaces, BarredBy}
 
-module _ (all : List Stretch) (rows : List ℕ) (more : Stretch) (count lines x : ℕ) where
-  -- the base lies in the one that is known
-  pub leap-known : (gapped : Gapped) (d : ℕ) → StretchFits more → d ≢ 0 → Leaps more x d → LeapsIn all rows more count lines gapped x d
-  leap-known gapped d fit n known =
-      record { none = λ z. absurd (n z); each = λ e l. inr (known .each e l); most = omega (arith, known .most, fit .width) }
+-- every multiple from one base on and before another is barred
+abbrev pub AllBarred : (ℕ → Type 0) → ℕ → ℕ → ℕ → Type 0
+AllBarred Bar step from to = (y : ℕ) → Multiple step y → from ≤ y → y < to → Bar y
 
-  -- or in one of the others
-  pub leap-grants : (gapped : Gapped) (d : ℕ) → d ≢ 0 → LeapsFirst all mostSockets x d → LeapsIn all rows more count lines gapped x d
-  leap-grants gapped d n first = record { none = λ z. absurd (n z); each = λ e l. inl (inl (first .each e l)); most = first .most }
+-- up to as far as a leap goes
+pub leap-barred : {Bar : ℕ → Type 0} (step x r : ℕ) → Leaps Bar x r → AllBarred Bar step x (x + r)
+leap-barred {Bar} step x r l y m f h =
+    let here : x + (y - x) ≡ y = omega arith in subst Bar here (l .each (y - x) (omega arith))
 
-  -- or in none of them: then there are no gaps, or it leaps out of those that are met
-  module _ (d far : ℕ) (e : d ≡ 0) (known : Leaps more x d) (e′ : far ≡ 0) (first : LeapsFirst all mostSockets x far) where
-    clear : (gapped : Gapped) → (InRows rows count lines gapped x → ⊥) → LiesIn all rows more count lines gapped x → ⊥
-    clear gapped n = ⊎-elim (⊎-elim (first .none e′) n) (known .none e)
+module _ (Bar : ℕ → Type 0) (step from : ℕ) where
+  -- the search has come to a multiple: every one before it is barred
+  pub record Gone (base : ℕ) : Type 0 where
+    pub multiple : Multiple step base
+    pub past : from ≤ base
+    pub near : base ≤ around + around
+    pub barred : AllBarred Bar step from base
 
-    pub leap-nowhere : LeapsIn all rows more count lines Nowhere x 0
-    leap-nowhere = record { none = λ _. clear Nowhere (λ m. m); each = λ i h. absurd (omega arith); most = omega arith }
+  pub gone-start : Multiple step from → from ≤ around + around → Gone from
+  gone-start m l = record { multiple = m; past = omega arith; near = l; barred = λ y n f h. absurd (omega arith) }
 
-    pub leap-gaps : (r : ℕ) → LeapsRows rows count lines x r → LeapsIn all rows more count lines Somewhere x r
-    leap-gaps r gaps =
-        record { none = λ z. clear Somewhere (gaps .none z); each = λ i h. inl (inr (gaps .each i h)); most = omega (arith, gaps .most) }
+  module _ (base : ℕ) (g : Gone base) where
+    -- from one that is barred, it leaps to the first past the end
+    pub gone-on : (far next : ℕ) → base ≤ far → AllBarred Bar step base far → FirstMultiple far step next → next ≤ around + around → Gone next
+    gone-on far next on all up l =
+        record {
+          multiple = up .multiple;
+          past = omega (arith, g .past, up .past);
+          near = l;
+          barred = λ y m f h. below-or-not y m f h (decLt y base) (decLt y far);
+        }
+      where
+        below-or-not : (y : ℕ) → Multiple step y → from ≤ y → y < next → Dec (y < base) → Dec (y < far) → Bar y
+        below-or-not y m f h (yes k) d = g .barred y m f k
+        below-or-not y m f h (no k) (yes n) = all y m (omega arith) n
+        below-or-not y m f h (no k) (no n) = absurd (omega (arith, up .first y m (omega arith)))
 
-module _ (all : List Stretch) (rows : List ℕ) (more : Stretch) (count lines : ℕ) (gapped : Gapped) where
-  module _ (step from end : ℕ) where
-    -- the search has come to a multiple: every one before it lies in a stretch
-    pub record Gone (base : ℕ) : Type 0 where
-      pub multiple : Multiple step base
-      pub past : from ≤ base
-      pub near : base ≤ around + around
-      pub barred : (y : ℕ) → Multiple step y → from ≤ y → y < base → LiesIn all rows more count lines gapped y
+    -- or along to another one
+    pub gone-along : (next : ℕ) → base ≤ next → AllBarred Bar step base next → Multiple step next → next ≤ around + around → Gone next
+    gone-along next on all m l =
+        record {
+          multiple = m;
+          past = omega (arith, g .past);
+          near = l;
+          barred = λ y n f h. below-or-not y n f h (decLt y base);
+        }
+      where
+        below-or-not : (y : ℕ) → Multiple step y → from ≤ y → y < next → Dec (y < base) → Bar y
+        below-or-not y n f h (yes k) = g .barred y n f k
+        below-or-not y n f h (no k) = all y n (omega arith) h
 
-    pub gone-start : Multiple step from → from ≤ around + around → Gone from
-    gone-start m l = record { multiple = m; past = omega arith; near = l; barred = λ y n f h. absurd (omega arith) }
+    pub gone-free : (count end : ℕ) → (Bar base → ⊥) → Opened Bar step count from end base
+    gone-free count end n = record { multiple = g .multiple; past = g .past; near = g .near; barred = g .barred; free = λ _. n }
 
-    module _ (base : ℕ) (g : Gone base) where
-      -- from one that does, it leaps to the first past the end
-      pub gone-on : (far next : ℕ) → LeapsIn all rows more count lines gapped base far → FirstMultiple (base + far) step next → next ≤ around + around → Gone next
-      gone-on far next leaps up l =
-          record {
-            multiple = up .multiple;
-            past = omega (arith, g .past, up .past);
-            near = l;
-            barred = λ y m f h. below-or-not y m f h (decLt y base) (decLt y (base + far));
-          }
-        where
-          below-or-not : (y : ℕ) → Multiple step y → from ≤ y → y < next → Dec (y < base) → Dec (y < base + far) → LiesIn all rows more count lines gapped y
-          below-or-not y m f h (yes k) d = g .barred y m f k
-          below-or-not y m f h (no k) (yes n) =
-              let here : base + (y - base) ≡ y = omega arith in
-              subst (LiesIn all rows more count lines gapped) here (leaps .each (y - base) (omega arith))
-          below-or-not y m f h (no k) (no n) = absurd (omega (arith, up .first y m (omega arith)))
+    pub gone-past : (count end : ℕ) → end < base + count → Opened Bar step count from end base
+    gone-past count end h = record { multiple = g .multiple; past = g .past; near = g .near; barred = g .barred; free = λ l. absurd (omega arith) }
 
-      pub gone-free : (LiesIn all rows more count lines gapped base → ⊥) → Opened all rows more count lines gapped step from end base
-      gone-free n = record { multiple = g .multiple; past = g .past; near = g .near; barred = g .barred; free = λ _. n }
+-- what one predicate bars, another that says less bars too
+pub gone-as : {Bar Bar′ : ℕ → Type 0} (step from base : ℕ) → ((x : ℕ) → Bar x → Bar′ x) → Gone Bar step from base → Gone Bar′ step from base
+gone-as step from base so g = record { multiple = g .multiple; past = g .past; near = g .near; barred = λ y m f l. so y (g .barred y m f l) }
 
-      pub gone-past : end < base + count → Opened all rows more count lines gapped step from end base
-      gone-past h = record { multiple = g .multiple; past = g .past; near = g .near; barred = g .barred; free = λ l. absurd (omega arith) }
+-- the farthest of the grants' bars, or else of the gaps'
+module _ (grants gaps : List ℕ) (places limit x : ℕ) where
+  pub leap-grants : (d : ℕ) → (d ≡ 0 → ⊥) → Leaps (LiesInRows grants grantPlaces limit) x d → Leaps (BarredBy grants gaps places limit) x d
+  leap-grants d n l = record { none = λ z. absurd (n z); each = λ e h. inl (l .each e h); most = l .most }
+
+  pub leap-gaps : (d r : ℕ) → d ≡ 0 → Leaps (LiesInRows grants grantPlaces limit) x d → Leaps (LiesInRows gaps places limit) x r
+      → Leaps (BarredBy grants gaps places limit) x r
+  leap-gaps d r z l m = record { none = λ q. ⊎-elim (l .none z) (m .none q); each = λ e h. inr (m .each e h); most = m .most }

@@ -1,5 +1,8 @@
 -- What the contracts of `io_obstacles` cite. Assumes nothing.
-pub mod Obstacles
-pub use Obstacles.{around, Power, Multiple, FirstMultiple, Lies, StretchFits, stretchAt, LiesInFirst, InRows, LiesAmong, LiesIn, MetOn, GapMet}
-pub use Obstacles.{MetUpTo, Barred, GapsWithin, GapLines, StretchIs, StretchesAre, Leaps, LeapsFirst, LeapsIn, Opened, LinesMet, Period, Barring}
-pub use Obstacles.{OpenIn, Bars, StretchBetween, LearntIs, FewLines, Decides}
+pub mod Bars
+pub mod Search
+pub use declared.Stretch.{Stretch}
+pub use declared.Wanted.{Wanted}
+pub use Bars.{around, Power, Multiple, FirstMultiple, Lies, StretchFits, barAt, RowsFit, LiesInFirst, LiesInRows, Leaps, LiesShort, Opened, Barring}
+pub use Bars.{Repeats, Period, StretchBetween, LearntIs, Everywhere}
+pub use Search.{grantPlaces, gapPlaces, BarredBy, BarredFor, SearchFits, PassFits, OpenedIs}

@@ -1,27 +1,13 @@
-// What bars the bases that a request could take: for each live grant a stretch of them, which repeats, and the gaps between the managed ranges; and the
-// search that leaps from one stretch to the next.
-use facts::Socket;
-use io_answering::Gapped;
-use io_answering::ROWS;
+// What bars the bases that a request could take: for each live grant a stretch of them, which repeats, and for each gap between the managed ranges
+// another; and the search that leaps from the end of one to the next.
 use layout::ALL_PORTS;
-use layout::IO_BASE_AT;
-use layout::IO_COUNT_AT;
-use layout::IO_LINES_AT;
-use layout::IO_SIZE;
-use layout::IOS_AT;
 use layout::MOST_LINES;
-use layout::MOST_SOCKETS;
 ghost use mathlib.Core.Path.{_≡_};
-ghost use Prim.Native.Nat.{_+_, _≤_, _<_, min};
-ghost use lib.ListN.{length};
+ghost use Prim.Native.Nat.{_+_, _^_, _≤_, _<_};
 ghost use Rattle.facts.specs.Table;
-ghost use Rattle.layout.specs.Layout.{tableSize};
-ghost use Rattle.layout.specs.Reading.{ioIn};
-ghost use Rattle.layout.specs.Sound.{Accepted, IoPlaceSound};
-ghost use Rattle.io_answering.specs.Rows.{RowsFit};
-ghost use Rattle.io_obstacles.specs.Obstacles.{around, Power, Multiple, FirstMultiple, StretchFits, AllFit, StretchIs, StretchesAre};
-ghost use Rattle.io_obstacles.specs.Obstacles.{Leaps, LeapsFirst, LeapsIn, Opened, LinesMet, Period, Barring, OpenIn, Everywhere, LearntIs};
-ghost use Rattle.io_obstacles.specs.Obstacles.{FewLines, GapsWithin, GapLines};
+ghost use Rattle.io_obstacles.specs.Bars.{around, Power, Multiple, FirstMultiple, StretchFits, RowsFit, LiesShort, LiesInRows, Leaps, Opened};
+ghost use Rattle.io_obstacles.specs.Bars.{Barring, Period, LearntIs, Everywhere};
+ghost use Rattle.io_obstacles.specs.Search.{grantPlaces, gapPlaces, BarredFor, SearchFits, PassFits, OpenedIs};
 
 // Twice all ports: a multiple of every period, from which a start is taken away.
 const AROUND: u32 = 131072;
@@ -44,107 +30,65 @@ fn nowhere() -> Stretch
     }
 }
 
-// How many lines decide whether ports that are decoded by so many meet the grant on the socket; 0 where there is none.
-fn deciding(t: &[u8], s: Socket, lines: usize) -> usize
-    requires { ⌜ (length (now t) ≡ tableSize) × (s .0 < Table.mostSockets) ⌝ }
-    ensures { λ r. ⌜ r ≡ min lines (ioIn (now (t .entry)) (s .0) .ports .lines) ⌝ }
-{
-    let number = s.0;
-    io_ranges::smaller(
-        lines,
-        table_read::byte(t, IOS_AT + number * IO_SIZE + IO_LINES_AT),
-    )
-}
-
-// The bases at which so many ports, decoded by so many lines, meet the grant on the socket, where no more than `most` lines decide it; else none.
-fn met(t: &[u8], s: Socket, count: usize, lines: usize, most: usize) -> Stretch
-    requires { ⌜ (length (now t) ≡ tableSize) × (s .0 < Table.mostSockets) × IoPlaceSound (now t) (s .0) ⌝ }
-    requires { ⌜ (1 ≤ count) × (count < 256) × (lines ≤ Table.mostLines) ⌝ }
-    ensures { λ r. ⌜ StretchIs (now (t .entry)) count lines most (s .0) r ⌝ }
-{
-    let number = s.0;
-    let at = IOS_AT + number * IO_SIZE;
-    if table_read::word(t, at) == 0 {
-        return nowhere();
-    }
-    let decoded = deciding(t, s, lines);
-    if most < decoded {
-        return nowhere();
-    }
-    let start = table_read::word(t, at + IO_BASE_AT) + ALL_PORTS + 1 - count;
-    let ones = io_ranges::power(decoded) - 1;
-    let width = table_read::byte(t, at + IO_COUNT_AT) + count - 1;
-    Stretch {
-        start: start as u32,
-        ones: ones as u32,
-        width: width as u32,
-    }
-}
-
-// The stretches of all live grants.
-pub fn stretches(t: &[u8], count: usize, lines: usize, most: usize) -> [Stretch; MOST_SOCKETS]
-    requires { ⌜ Accepted (now t) × (1 ≤ count) × (count < 256) × (lines ≤ Table.mostLines) ⌝ }
-    ensures { λ r. ⌜ StretchesAre (now (t .entry)) count lines most r ⌝ }
-{
-    let mut all = [nowhere(); MOST_SOCKETS];
-    for s in 0..MOST_SOCKETS {
-        all[s] = met(t, Socket(s), count, lines, most);
-    }
-    all
-}
-
 // How far the end of the stretch lies ahead of a base in it; 0 where the base isn't.
-fn ahead(s: Stretch, base: u32) -> u32
+fn ahead(s: Stretch, base: usize) -> usize
     requires { ⌜ StretchFits s × (base ≤ Table.allPorts) ⌝ }
-    ensures { λ r. ⌜ Leaps s base r ⌝ }
+    ensures { λ r. ⌜ Leaps (LiesShort (s .ones) s) base r ⌝ }
 {
-    let behind = (base + AROUND - s.start) & s.ones;
+    let behind = (base as u32 + AROUND - s.start) & s.ones;
     let width = s.width;
+    if width <= behind {
+        return 0;
+    }
+    (width - behind) as usize
+}
+
+// The same of a bar in the rows, in 16 bits: a bar whose period is longer than the limit and one bars nothing.
+fn past(start: u16, ones: u16, width: u16, limit: u16, base: u16) -> u16
+    requires { ⌜ Power (ones + 1) ⌝ }
+    ensures { λ r. ⌜ Leaps (LiesShort limit (record { start = start; ones = ones; width = width })) base r ⌝ }
+{
+    let behind = std::num::wrapping_sub_u16(base, start) & ones;
+    if limit < ones {
+        return 0;
+    }
     if width <= behind {
         return 0;
     }
     width - behind
 }
 
-// How far the farthest end lies ahead, of the stretches that have the base.
-fn leap(all: [Stretch; MOST_SOCKETS], base: u32) -> u32
-    requires { ⌜ AllFit all × (base ≤ Table.allPorts) ⌝ }
-    ensures { λ r. ⌜ LeapsFirst all Table.mostSockets base r ⌝ }
-{
-    let mut far: u32 = 0;
-    for i in 0..MOST_SOCKETS {
-        let one = all[i];
-        far = io_ranges::larger_u32(far, ahead(one, base));
-    }
-    far
-}
+// Bars stand in three rows of 16-bit numbers, one after the other, so that many are looked at side by side: where each starts, its period less one, and
+// how many bases it has. A place that isn't used has none.
+pub const GRANT_PLACES: usize = 8;
 
-// How far a search can leap from a base: to the end of the stretch that is known, or else to the farthest of the others, or else out of the gaps.
-fn leap_past(
-    all: [Stretch; MOST_SOCKETS],
-    rows: &[u16; ROWS],
-    known: Stretch,
-    count: usize,
-    lines: usize,
-    gapped: Gapped,
-    base: usize,
-) -> usize
-    requires { ⌜ AllFit all × RowsFit (now rows) × StretchFits known × (1 ≤ count) × (count < 256) × FewLines lines gapped × (base ≤ Table.allPorts) ⌝ }
-    ensures { λ r. ⌜ LeapsIn all (now (rows .entry)) known count lines gapped base r ⌝ }
+pub const GRANT_ROWS: usize = GRANT_PLACES + GRANT_PLACES + GRANT_PLACES;
+
+pub const GAP_PLACES: usize = 40;
+
+pub const GAP_ROWS: usize = GAP_PLACES + GAP_PLACES + GAP_PLACES;
+
+// How far the farthest end lies ahead, of the bars that have the base and whose periods are no longer than the limit and one. For a base in two bars, one
+// that ends 5 bases ahead and one that ends 9 ahead, it is 9: every base up to there is barred.
+fn leap(rows: &[u16], places: usize, limit: u16, base: usize) -> usize
+    requires { ⌜ RowsFit (now rows) places × (places ≤ gapPlaces) × (base < Table.allPorts) ⌝ }
+    ensures { λ r. ⌜ Leaps (LiesInRows (now (rows .entry)) places limit) base r ⌝ }
 {
-    let from = base as u32;
-    let near = ahead(known, from);
-    if near != 0 {
-        return near as usize;
+    let from = base as u16;
+    let mut far: u16 = 0;
+    for i in 0..places {
+        far = io_ranges::larger_u16(
+            far,
+            past(
+                rows[i],
+                rows[places + i],
+                rows[places + places + i],
+                limit,
+                from,
+            ),
+        );
     }
-    let far = leap(all, from);
-    if far != 0 {
-        return far as usize;
-    }
-    let Gapped::Somewhere = gapped else {
-        return 0;
-    };
-    io_answering::leap(rows, base, count, lines)
+    far as usize
 }
 
 // The first multiple of the step at or past a number.
@@ -156,39 +100,23 @@ pub fn up(from: usize, step: usize) -> usize
     top - (top & (step - 1))
 }
 
-// The lowest multiple of the step from a first one on that lies in no stretch, or the first whose ports don't end at or before a number: from one that
-// does, the search goes on at the first past the end of its stretch.
-pub fn lowest(
-    all: [Stretch; MOST_SOCKETS],
-    rows: &[u16; ROWS],
-    known: Stretch,
-    count: usize,
-    lines: usize,
-    gapped: Gapped,
-    step: usize,
-    from: usize,
-    end: usize,
-) -> usize
-    requires { ⌜ AllFit all × RowsFit (now rows) × StretchFits known × Power step × Multiple step from × (from ≤ around + around) ⌝ }
-    requires { ⌜ (1 ≤ count) × (count < 256) × FewLines lines gapped × (end < Table.allPorts + count) ⌝ }
-    ensures { λ r. ⌜ Opened all (now (rows .entry)) known count lines gapped step from end r ⌝ }
+// The period of what is barred whose periods are no longer than the limit and one, for bases that are multiples of the step.
+pub fn period(limit: u16, step: usize) -> usize
+    requires { ⌜ Power (limit + 1) × Power step ⌝ }
+    ensures { λ r. ⌜ Period limit step r ⌝ }
 {
-    let mut base = from;
-    while base + count <= end {
-        let far = leap_past(all, rows, known, count, lines, gapped, base);
-        if far == 0 {
-            return base;
-        }
-        base = up(base + far, step);
-    }
-    base
+    io_ranges::larger(limit as usize + 1, step)
 }
 
-// A search that went from one base to another found none free, so that none is after a period: the longer of this stretch and the one known.
+// A search that went from one base to another found none free, so that none is after a period: the longer of this stretch and the one known. What
+// doesn't come again isn't worth knowing.
 pub fn learnt(known: Stretch, from: usize, to: usize, period: usize) -> Stretch
     requires { ⌜ Power period ⌝ }
     ensures { λ r. ⌜ LearntIs known from to period r ⌝ }
 {
+    if ALL_PORTS <= period {
+        return known;
+    }
     let end = io_ranges::smaller(to, ALL_PORTS);
     if end <= from {
         return known;
@@ -205,71 +133,6 @@ pub fn learnt(known: Stretch, from: usize, to: usize, period: usize) -> Stretch
     }
 }
 
-// The most lines that decide so of any live grant, or of the gaps: after as many ports as they tell apart, what is barred repeats.
-pub fn lines_met(t: &[u8], lines: usize, gapped: Gapped) -> usize
-    requires { ⌜ Accepted (now t) × (lines ≤ Table.mostLines) ⌝ }
-    ensures { λ r. ⌜ LinesMet (now (t .entry)) lines gapped r ⌝ }
-{
-    let Gapped::Nowhere = gapped else {
-        return lines;
-    };
-    let mut most = 0;
-    for s in 0..MOST_SOCKETS {
-        most = io_ranges::larger(most, deciding(t, Socket(s), lines));
-    }
-    most
-}
-
-// The period of what is barred that so many lines decide, for bases that are multiples of the step.
-pub fn period(most: usize, step: usize) -> usize
-    requires { ⌜ (most ≤ Table.mostLines) × Power step ⌝ }
-    ensures { λ r. ⌜ Period most step r ⌝ }
-{
-    io_ranges::larger(io_ranges::power(most), step)
-}
-
-// Which numbers of lines decide so of some live grant, a bit for each: where it is worth while to look at a period.
-fn numbers(t: &[u8], lines: usize) -> usize
-    requires { ⌜ Accepted (now t) × (lines ≤ Table.mostLines) ⌝ }
-{
-    let mut some: usize = 0;
-    for s in 0..MOST_SOCKETS {
-        some = some | io_ranges::power(deciding(t, Socket(s), lines));
-    }
-    some
-}
-
-// The first multiple from one on, in one period, at which the ports meet no grant that no more than `most` lines decide, and none of the gaps.
-fn open_in(
-    t: &[u8],
-    rows: &[u16; ROWS],
-    count: usize,
-    lines: usize,
-    gapped: Gapped,
-    most: usize,
-    step: usize,
-    known: Stretch,
-    from: usize,
-) -> usize
-    requires { ⌜ Accepted (now t) × (1 ≤ count) × (count < 256) × (lines ≤ Table.mostLines) ⌝ }
-    requires { ⌜ (most ≤ Table.mostLines) × Power step × Multiple step from × (from ≤ around + around) ⌝ }
-    requires { ⌜ Barring (now t) count lines most step known × GapsWithin (now t) (now rows) count lines gapped most ⌝ }
-    ensures { λ r. ⌜ OpenIn (now (t .entry)) count lines most step from r ⌝ }
-{
-    let all = stretches(t, count, lines, most);
-    lowest(
-        all,
-        rows,
-        known,
-        count,
-        lines,
-        gapped,
-        step,
-        from,
-        period(most, step) + count - 1,
-    )
-}
-
 // Whether the stretch has every base.
 pub fn everywhere(s: Stretch) -> bool
     ensures { λ r. ⌜ Everywhere s r ⌝ }
@@ -277,46 +140,191 @@ pub fn everywhere(s: Stretch) -> bool
     s.ones < s.width
 }
 
-// The bases from 0 on that are barred: by grants which few lines decide, the fewest lines first, and for more lines the search goes on where it stands;
-// last, where gaps bar any, by all grants and gaps.
-pub fn passed(
-    t: &[u8],
-    rows: &[u16; ROWS],
-    count: usize,
-    lines: usize,
-    gapped: Gapped,
-    step: usize,
-) -> Stretch
-    requires { ⌜ Accepted (now t) × (1 ≤ count) × (count < 256) × (lines ≤ Table.mostLines) × Power step ⌝ }
-    requires { ⌜ GapLines (now t) (now rows) count lines gapped ⌝ }
-    ensures { λ r. ⌜ Barring (now (t .entry)) count lines Table.mostLines step r ⌝ }
+// What a search looks for: so many ports, at multiples of the step; which bars count, those whose periods are no longer than the limit and one; and which
+// of them come again soonest, those whose periods are no longer than `few` and one. Of the gaps' bars it looks at so many places: at none, where no
+// gap counts.
+pub struct Wanted {
+    pub count: usize,
+    pub step: usize,
+    pub limit: u16,
+    pub few: u16,
+    pub gaps: usize,
+}
+
+// The lowest multiple of the step from one on that lies in no grant's bar with a period of the limit and one, or less; or the first whose ports don't
+// end at or before a number.
+fn run_end(grants: &[u16], limit: u16, count: usize, step: usize, from: usize, end: usize) -> usize
+    requires { ⌜ RowsFit (now grants) grantPlaces × Power step × (1 ≤ count) × (count < 256) ⌝ }
+    requires { ⌜ Multiple step from × (from ≤ around + around) × (end < Table.allPorts + count) ⌝ }
+    ensures { λ r. ⌜ Opened (LiesInRows (now (grants .entry)) grantPlaces limit) step count from end r ⌝ }
 {
-    let some = numbers(t, lines);
+    let mut base = from;
+    while base + count <= end {
+        let far = leap(grants, GRANT_PLACES, limit, base);
+        if far == 0 {
+            return base;
+        }
+        base = up(base + far, step);
+    }
+    base
+}
+
+// How far a search can leap from a base: to the farthest end of the grants' bars that have it, or else of the gaps'.
+fn leap_all(grants: &[u16], gaps: &[u16], wanted: Wanted, base: usize) -> usize
+    requires { ⌜ RowsFit (now grants) grantPlaces × RowsFit (now gaps) (wanted .gaps) × (wanted .gaps ≤ gapPlaces) × (base < Table.allPorts) ⌝ }
+    ensures { λ r. ⌜ Leaps (BarredFor (now (grants .entry)) (now (gaps .entry)) wanted) base r ⌝ }
+{
+    let limit = wanted.limit;
+    let far = leap(grants, GRANT_PLACES, limit, base);
+    if far != 0 {
+        return far;
+    }
+    let places = wanted.gaps;
+    leap(gaps, places, limit, base)
+}
+
+// Where a search came to, and the stretch that it knows to be barred.
+pub struct Search {
+    pub base: usize,
+    pub known: Stretch,
+}
+
+// The lowest multiple of the step from one on that nothing bars, or the first whose ports don't end at or before a number: from one that is barred, the
+// search goes on at the first past what is known, or else past the run of bars that come again soonest, or else past the farthest bar. The longest such
+// run is learnt: where ranges lie 2,048 ports apart and cards decode 11 lines, what bars the bases of the first range bars those of each.
+pub fn lowest(
+    grants: &[u16],
+    gaps: &[u16],
+    wanted: Wanted,
+    known: Stretch,
+    from: usize,
+    end: usize,
+) -> Search
+    requires { ⌜ SearchFits (now grants) (now gaps) wanted × Multiple (wanted .step) from × (from ≤ around + around) ⌝ }
+    requires { ⌜ Barring (BarredFor (now grants) (now gaps) wanted) (wanted .step) known × (end < Table.allPorts + wanted .count) ⌝ }
+    ensures { λ r. ⌜ OpenedIs (now (grants .entry)) (now (gaps .entry)) wanted from end r ⌝ }
+{
+    let count = wanted.count;
+    let step = wanted.step;
+    let few = wanted.few;
+    let again = period(few, step);
+    let mut base = from;
+    let mut barred = known;
+    while base + count <= end {
+        let near = ahead(barred, base);
+        if near != 0 {
+            base = up(base + near, step);
+            continue;
+        }
+        let run = run_end(grants, few, count, step, base, end);
+        barred = learnt(barred, base, run, again);
+        if end < run + count {
+            return Search {
+                base: run,
+                known: barred,
+            };
+        }
+        let far = leap_all(grants, gaps, wanted, run);
+        if far == 0 {
+            return Search {
+                base: run,
+                known: barred,
+            };
+        }
+        base = up(run + far, step);
+    }
+    Search {
+        base,
+        known: barred,
+    }
+}
+
+// Two to so many lines, less one: no bar that so many lines decide has a longer period, less one.
+pub fn limit_of(lines: usize) -> u16
+    requires { ⌜ lines ≤ Table.mostLines ⌝ }
+    ensures { λ r. ⌜ r + 1 ≡ 2 ^ lines ⌝ }
+{
+    (io_ranges::power(lines) - 1) as u16
+}
+
+// The periods of the grants' bars, a bit for each: two to so many lines. A place that isn't used has a period of one.
+pub fn periods(grants: &[u16]) -> usize
+    requires { ⌜ RowsFit (now grants) grantPlaces ⌝ }
+{
+    let mut some: usize = 0;
+    for i in 0..GRANT_PLACES {
+        some = some | (grants[GRANT_PLACES + i] as usize + 1);
+    }
+    some
+}
+
+// The shortest of the periods, less one; the limit, where none is shorter.
+pub fn shortest(periods: usize, limit: u16) -> u16
+    requires { ⌜ Power (limit + 1) ⌝ }
+    ensures { λ r. ⌜ Power (r + 1) × (r ≤ limit) ⌝ }
+{
+    for lines in 1..MOST_LINES {
+        let ones = limit_of(lines);
+        if limit <= ones {
+            return limit;
+        }
+        if table_read::is_set(periods, lines) {
+            return ones;
+        }
+    }
+    limit
+}
+
+// The bases from 0 on that the grants bar, the shortest periods first; for longer periods the search goes on where it stands.
+pub fn passed(grants: &[u16], wanted: Wanted) -> Stretch
+    requires { ⌜ PassFits (now grants) wanted ⌝ }
+    ensures { λ r. ⌜ Barring (LiesInRows (now (grants .entry)) grantPlaces (wanted .limit)) (wanted .step) r ⌝ }
+{
+    let count = wanted.count;
+    let step = wanted.step;
+    let some = periods(grants);
     let mut known = nowhere();
     let mut base = 0;
     for most in 1..MOST_LINES {
         if !table_read::is_set(some, most) {
             continue;
         }
-        base = open_in(
-            t,
-            rows,
-            count,
-            lines,
-            Gapped::Nowhere,
-            most,
-            step,
-            known,
-            base,
-        );
-        known = learnt(known, 0, base, period(most, step));
+        let limit = limit_of(most);
+        if wanted.limit < limit {
+            return known;
+        }
+        let long = period(limit, step);
+        base = run_end(grants, limit, count, step, base, long + count - 1);
+        known = learnt(known, 0, base, long);
         if everywhere(known) {
             return known;
         }
     }
-    let Gapped::Somewhere = gapped else {
+    known
+}
+
+// The longest period that is swept: that of eleven lines. Past longer ones the search in the ranges is shorter.
+const MOST_SWEPT: usize = 2048;
+
+// What is known of a whole period, past grants and gaps, if it is short: for a card that decodes ten lines, that no base from 0 to 3FF is free says that
+// none is, and no range is searched.
+pub fn swept(grants: &[u16], gaps: &[u16], wanted: Wanted, known: Stretch) -> Stretch
+    requires { ⌜ SearchFits (now grants) (now gaps) wanted ⌝ }
+    requires { ⌜ Barring (BarredFor (now grants) (now gaps) wanted) (wanted .step) known ⌝ }
+    ensures { λ r. ⌜ Barring (BarredFor (now (grants .entry)) (now (gaps .entry)) wanted) (wanted .step) r ⌝ }
+{
+    let step = wanted.step;
+    let long = period(wanted.limit, step);
+    if MOST_SWEPT < long {
         return known;
-    };
-    base = open_in(t, rows, count, lines, gapped, lines, step, known, base);
-    learnt(known, 0, base, period(lines, step))
+    }
+    let mut base = 0;
+    while base < long {
+        let far = leap_all(grants, gaps, wanted, base);
+        if far == 0 {
+            return learnt(known, 0, base, long);
+        }
+        base = up(base + far, step);
+    }
+    learnt(known, 0, base, long)
 }

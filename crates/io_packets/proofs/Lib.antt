@@ -1,3 +1,3 @@
--- The clauses of the checks, and the mark of a bit. Assumes nothing.
+-- The clauses of the checks. Assumes nothing.
 pub mod Clauses
-pub use Clauses.{attributes-good, sizes-good, bit-mark}
+pub use Clauses.{attributes-good, sizes-good}

@@ -1,14 +1,13 @@
 // The packets of RequestIO and ReleaseIO: what they ask for.
+use facts::IoAsked;
 use layout::MOST_LINES;
 ghost use mathlib.Core.Path.{_≡_};
 ghost use Prim.Native.Nat.{_<_, _≤_};
 ghost use lib.ListN.{length};
-ghost use lib.Dec.{eqb};
 ghost use Rattle.facts.specs.Table;
 ghost use Rattle.facts.specs.Says.{Says};
 ghost use Rattle.facts.specs.Packets.{bit};
-ghost use Rattle.facts.specs.Io.{requestIoLength, baseAsked, countAsked, ioAttributes, linesAsked, IoShared, IoFirstShared};
-ghost use Rattle.layout.specs.Layout.{mark};
+ghost use Rattle.facts.specs.Io.{requestIoLength, baseAsked, countAsked, ioAttributes, linesAsked, ioAsked, IoShared, IoFirstShared};
 ghost use Rattle.io_packets.specs.Asking.{AttributesAre, SizesAre, SecondIs};
 
 // RequestIO's packet (5.52) and ReleaseIO's (5.44): their length, and where the fields stand. What isn't here is ignored.
@@ -60,26 +59,18 @@ fn attribute_set(p: &[u8], place: usize) -> bool
     table_read::is_set(table_read::byte(p, ATTRIBUTES_AT), place)
 }
 
-pub fn shared(p: &[u8]) -> bool
+fn shared(p: &[u8]) -> bool
     requires { ⌜ length (now p) ≡ requestIoLength ⌝ }
     ensures { λ r. ⌜ Says r (IoShared (now (p .entry))) ⌝ }
 {
     attribute_set(p, SHARED)
 }
 
-pub fn first_shared(p: &[u8]) -> bool
+fn first_shared(p: &[u8]) -> bool
     requires { ⌜ length (now p) ≡ requestIoLength ⌝ }
     ensures { λ r. ⌜ Says r (IoFirstShared (now (p .entry))) ⌝ }
 {
     attribute_set(p, FIRST_SHARED)
-}
-
-// The mark that a grant of this request has: whether it shares.
-pub fn shared_mark(p: &[u8]) -> usize
-    requires { ⌜ length (now p) ≡ requestIoLength ⌝ }
-    ensures { λ r. ⌜ (r ≡ mark (eqb (bit (ioAttributes (now (p .entry))) 0) 1)) × (r < 256) ⌝ }
-{
-    table_read::byte(p, ATTRIBUTES_AT) % 2
 }
 
 // "First Shared without Shared"
@@ -158,4 +149,23 @@ pub fn sizes_asked(p: &[u8]) -> Sizes
         return Sizes::Bad;
     };
     Sizes::Good
+}
+
+// What a packet of RequestIO asks for.
+pub fn asked(p: &[u8]) -> IoAsked
+    requires { ⌜ length (now p) ≡ requestIoLength ⌝ }
+    ensures { λ r. ⌜ (r ≡ ioAsked (now (p .entry))) × (r .base < 65536) × (r .count < 256) ⌝ }
+{
+    let base = base_asked(p);
+    let count = count_asked(p);
+    let lines = lines_asked(p);
+    let shared = shared(p);
+    let first = first_shared(p);
+    IoAsked {
+        base,
+        count,
+        lines,
+        shared,
+        first,
+    }
 }

@@ -1,23 +1,35 @@
 -- Each way in which RequestIO and ReleaseIO end is the rule's. Assumes nothing.
-use Rattle.facts.proofs.Words.{_≡_, refl, ap, sym, _∙_, subst, inl, inr, _≢_, List, [], _∷_, false, none, some, Option·none-ne-some, ℕ, _+_, _≤_}
-use Rattle.facts.proofs.Words.{_<_, decLe, arith, length, set, length-set, Ports}
+use Rattle.facts.proofs.Words.{_≡_, refl, ap, sym, _∙_, inl, inr, _≢_, List, [], _∷_, none, some, Option·none-ne-some, ℕ, _+_, _≤_, _<_, decLe}
+use Rattle.facts.proofs.Words.{arith, set, Ports, subst, Option·some-injective}
 use Rattle.layout.proofs.Of
-use Rattle.service_checks.proofs.Begin
-use Rattle.facts.specs.{Code, Success, BadAttribute, BadBase, BadSize, NoCard, InUse, Facts, IoGrant, byte, word, withWord, Check, _gives_}
-use Rattle.facts.specs.{FirstGiven, Passed, Outcome, Leaves, socketOf, RequestIo, ReleaseIo, requestIoLength, releaseIoLength, baseAsked, countAsked}
-use Rattle.facts.specs.{linesAsked, secondCount, withIo, ioGrant, GrantsIo, IoHeld, IoAttributesBad, IoSizeBad, BaseTaken, ownIoChecks, baseChecks}
-use Rattle.facts.specs.{ioRequestChecks, ioReleaseChecks, mostLines}
-use Rattle.layout.specs.{image, ioPlace, ioIn, Accepted, IoUsed, ServedBy, ioEntered, cardsAt, ioBaseAt, ioCountAt, ioLinesAt, ioSharedAt}
-use Rattle.layout.proofs.{word-length, client-is, ports-are, granted-image, released-image, left, refused-by, done-by}
-use Rattle.service_checks.proofs.{Begun, Begins, in-sockets, positive}
-use Rattle.io_services.specs.{RecordSays, markAsked}
+use Rattle.facts.specs.{Code, Success, BadAttribute, BadBase, BadSize, InUse, Facts, IoGrant, word, withWord, _gives_, FirstGiven, Passed, Leaves}
+use Rattle.facts.specs.{socketOf, requestIoLength, releaseIoLength, baseAsked, countAsked, linesAsked, secondCount, withIo, ioGrant, GrantsIo, IoHeld}
+use Rattle.facts.specs.{IoAttributesBad, IoSizeBad, BaseTaken, ownIoChecks, baseChecks, RequestIo, ReleaseIo, mostLines, ioAsked, IoAsked, HeldPorts}
+use Rattle.layout.specs.{ioPlace, ioIn, Accepted, IoUsed, ServedBy, ioEntered, ioBaseAt, ioCountAt, ioLinesAt, ioSharedAt, factsIn}
+use Rattle.layout.proofs.{client-is, ports-are, granted-image, released-image, left}
+use Rattle.service_checks.specs.{BegunAt}
+use Rattle.service_checks.specs.declared.CardNeed.{CardNeed}
+use Rattle.service_checks.specs.declared.CardNeed.the-variants.{Needed, Ignored}
+use Rattle.service_checks.proofs.{seat-named, in-seats, positive, Service, refused-own, done-own}
+use Rattle.io_bases.specs.{BaseIs}
+use Rattle.io_bases.specs.declared.Base.{Base}
+use Rattle.io_bases.specs.declared.Base.the-variants as taken
+use Rattle.service_answers.specs.{codeOf, handleOf}
+use Rattle.service_answers.specs.declared.Answer.{Answer}
+use Rattle.io_services.specs.{askedEntered, BaseFits, Granted}
 
--- the rules, of a packet
-abbrev pub Requests : ℕ → List ℕ → Facts → Outcome → Type 0
-Requests h p F = RequestIo F h p
+-- the two services
+abbrev pub requesting : Service
+requesting = record { need = Needed; bytes = requestIoLength; own = λ F h p. ownIoChecks F p (baseChecks F (ioAsked p)); done = GrantsIo }
 
-abbrev pub Releases : ℕ → List ℕ → Facts → Outcome → Type 0
-Releases h p F = ReleaseIo F h p
+abbrev pub releasing : Service
+releasing =
+    record {
+      need = Ignored;
+      bytes = releaseIoLength;
+      own = λ F h p. ((secondCount p ≢ 0) gives BadSize) ∷ ((IoHeld F h (socketOf p) (baseAsked p) (countAsked p) → ⊥) gives BadBase) ∷ [];
+      done = λ F h p. Leaves h p (withIo F (socketOf p) none);
+    }
 
 -- lines and count that no check refuses
 pub lines-good : (p : List ℕ) → (IoAttributesBad p → ⊥) → linesAsked p ≤ mostLines
@@ -34,156 +46,102 @@ count-good p good = within-or-not (decLe 1 (countAsked p))
     within-or-not (yes l) = l
     within-or-not (no l) = absurd (good (inl (omega arith)))
 
+-- a base that is taken is a number of 16 bits
+pub base-fits : (b : List ℕ) (q : IoAsked) (r : Base) → BaseIs b q r → BaseFits r
+base-fits b q (taken.At x) is = is .0
+base-fits b q (taken.Refused k) is = omega arith
+
 -- a record's writes, one after the other: two numbers of two bytes, then three bytes
-module _ (b b₁ b₂ : List ℕ) (s client base : ℕ) (put₁ : b₁ ≡ withWord b (ioPlace s) client) (put₂ : b₂ ≡ withWord b₁ (ioPlace s + ioBaseAt) base)
-    (count lines shared : ℕ) where
-  abbrev counted : List ℕ
-  counted = set b₂ (ioPlace s + ioCountAt) count
+pub enters : (b b₁ b₂ : List ℕ) (at s client base : ℕ) → at ≡ ioPlace s → b₁ ≡ withWord b at client → b₂ ≡ withWord b₁ (at + ioBaseAt) base
+    → (count lines shared : ℕ)
+    → set (set (set b₂ (at + ioCountAt) count) (at + ioLinesAt) lines) (at + ioSharedAt) shared ≡ ioEntered b s client base count lines shared
+unfolding ioEntered
+enters b b₁ b₂ at s client base place put₁ put₂ count lines shared = rw (put₂, put₁, place)
 
-  abbrev lined : List ℕ
-  lined = set counted (ioPlace s + ioLinesAt) lines
+-- what is held at a seat: whether it is this client's, at that base and of that count
+module _ (F : Facts) (h s base count : ℕ) where
+  pub none-held : F .io s ≡ none → IoHeld F h s base count → ⊥
+  none-held e x = Option·none-ne-some (x .range) (sym e ∙ x .held)
 
-  pub enters : set lined (ioPlace s + ioSharedAt) shared ≡ ioEntered b s client base count lines shared
-  unfolding ioEntered
-  enters =
-      ap (λ (x : List ℕ). set (set (set x (ioPlace s + ioCountAt) count) (ioPlace s + ioLinesAt) lines) (ioPlace s + ioSharedAt) shared)
-      (put₂ ∙ ap (λ (x : List ℕ). withWord x (ioPlace s + ioBaseAt) base) put₁)
+  module _ (y : HeldPorts) (e : F .io s ≡ some y) where
+    pub range-held : IoHeld F h s base count → (y .client ≡ h) × (y .ports .base ≡ base) × (y .ports .count ≡ count)
+    range-held x =
+        subst (λ (z : HeldPorts). (z .client ≡ h) × (z .ports .base ≡ base) × (z .ports .count ≡ count))
+        (Option·some-injective (x .range) y (sym (x .held) ∙ e)) (x .client, x .base-is, x .count-is)
 
-  -- each leaves as many bytes as there were
-  size₂ : length b₂ ≡ length b
-  size₂ = ap length put₂ ∙ word-length b₁ (ioPlace s + ioBaseAt) base ∙ ap length put₁ ∙ word-length b (ioPlace s) client
+    pub held-range : y .client ≡ h → y .ports .base ≡ base → y .ports .count ≡ count → IoHeld F h s base count
+    held-range c d n = record { range = y; held = e; client = c; base-is = d; count-is = n }
 
-  pub counted-size : length counted ≡ length b
-  counted-size = length-set b₂ (ioPlace s + ioCountAt) count ∙ size₂
-
-  pub lined-size : length lined ≡ length b
-  lined-size = length-set counted (ioPlace s + ioLinesAt) lines ∙ counted-size
-
-  pub enters-size : length (set lined (ioPlace s + ioSharedAt) shared) ≡ length b
-  enters-size = length-set lined (ioPlace s + ioSharedAt) shared ∙ lined-size
-
--- the client is live and the socket is named: the socket's grant
-module _ (b p : List ℕ) (a : Accepted b) {n h s : ℕ} (begun : Begun b p n h s) where
+-- the service has begun: the seat's grant
+module _ {b p : List ℕ} {n h i s : ℕ} {need : CardNeed} (a : Accepted b) (begun : BegunAt b p n h need i s) where
   free : (IoUsed b s → ⊥) → a .facts .io (socketOf p) ≡ none
   free d =
-      subst (λ (t : ℕ). a .facts .io t ≡ none) (begun .socket .number)
-      (Of.none-said (λ (g : IoGrant). g .client) (a .facts .io s) (word b (ioPlace s)) (Of.io-of b a s (in-sockets b p a begun)) d)
+      rw (← seat-named a begun)
+      (Of.none-said (λ (g : IoGrant). g .client) (a .facts .io s) (word b (ioPlace s)) (Of.io-of b a s (in-seats a begun)) d)
 
   grant-is : IoUsed b s → a .facts .io (socketOf p) ≡ some (ioIn b s)
-  grant-is u = subst (λ (t : ℕ). a .facts .io t ≡ some (ioIn b s)) (begun .socket .number) (Of.io-said b a s (in-sockets b p a begun) u)
+  grant-is u = rw (← seat-named a begun) (Of.io-said b a s (in-seats a begun) u)
 
   used : a .facts .io (socketOf p) ≡ none → IoUsed b s → ⊥
   used e u = Option·none-ne-some (ioIn b s) (sym e ∙ grant-is u)
 
-  -- this client holds that base and count on this socket exactly if the record says so
-  held : (base count : ℕ) → RecordSays b s h base count → IoHeld (a .facts) h (socketOf p) base count
-  held base count x =
-      record {
-        grant = ioIn b s;
-        live = grant-is (λ z. omega (arith, z, x .client, positive b p a begun));
-        client = client-is b s ∙ x .client;
-        base-is = ap (λ (q : Ports). q .base) (ports-are b s) ∙ x .base-is;
-        count-is = ap (λ (q : Ports). q .count) (ports-are b s) ∙ x .count-is;
-      }
+  -- what the bytes say this client holds there, the facts say it does
+  held : {base count : ℕ} → IoHeld (factsIn b) h s base count → IoHeld (a .facts) h (socketOf p) base count
+  held x = rw (Of.facts-in b a, ← seat-named a begun) x
 
-  says : (base count : ℕ) → IoHeld (a .facts) h (socketOf p) base count → RecordSays b s h base count
-  says base count x =
-      let live = subst (λ (t : ℕ). a .facts .io t ≡ some (x .grant)) (sym (begun .socket .number)) (x .live) in
-      let e = Of.said-io b a s (x .grant) live .2 in
-      record {
-        client = sym (client-is b s) ∙ ap (λ (y : IoGrant). y .client) e ∙ x .client;
-        base-is = ap (λ (q : Ports). q .base) (sym (ports-are b s)) ∙ ap (λ (y : IoGrant). y .ports .base) e ∙ x .base-is;
-        count-is = ap (λ (q : Ports). q .count) (sym (ports-are b s)) ∙ ap (λ (y : IoGrant). y .ports .count) e ∙ x .count-is;
-      }
+  says : {base count : ℕ} → IoHeld (a .facts) h (socketOf p) base count → IoHeld (factsIn b) h s base count
+  says x = rw (Of.facts-in b a, ← seat-named a begun) at x
 
-module _ (b p : List ℕ) (a : Accepted b) (h : ℕ) where
-  -- a request's own checks, and those past the socket
-  abbrev own : List Check
-  own = ownIoChecks (a .facts) p (baseChecks (a .facts) p)
+module _ {b p : List ℕ} {h i s : ℕ} (a : Accepted b) (begun : BegunAt b p requestIoLength h Needed i s) where
+  abbrev Requested : List ℕ → List ℕ → Code → ℕ → Type 0
+  Requested b′ p′ k handle = ServedBy (λ (F : Facts). RequestIo F h p) b b′ p′ k handle
 
-  abbrev past-socket : List Check
-  past-socket = ((a .facts .card (socketOf p) ≡ false) gives NoCard) ∷ own
+  pub request-attributes : IoAttributesBad p → Requested b p BadAttribute 0
+  request-attributes x = refused-own requesting a begun BadAttribute (inl (x, refl))
 
-  request-refused : (k : Code) → FirstGiven (ioRequestChecks (a .facts) h p) k → ServedBy (Requests h p) b b p k 0
-  request-refused = refused-by (λ (F : Facts). ioRequestChecks F h p) (λ (F : Facts). GrantsIo F h p) b p a
+  module _ (attributes : IoAttributesBad p → ⊥) where
+    pub request-sizes : IoSizeBad p → Requested b p BadSize 0
+    request-sizes x = refused-own requesting a begun BadSize (inr (attributes, inl (x, refl)))
 
-  pub request-begins : Begins (Requests h p) b p requestIoLength h
-  request-begins = Begin.begins b p a requestIoLength h past-socket (Requests h p) request-refused
+    module _ (sizes : IoSizeBad p → ⊥) where
+      pub request-held : IoUsed b s → Requested b p InUse 0
+      request-held u = refused-own requesting a begun InUse (inr (attributes, inr (sizes, inl ((λ e. used a begun e u), refl))))
 
-  module _ {s : ℕ} (begun : Begun b p requestIoLength h s) where
-    pub request-no-card : byte b (cardsAt + s) ≢ 1 → ServedBy (Requests h p) b b p NoCard 0
-    request-no-card d = request-refused NoCard (Begin.no-card b p a requestIoLength h own begun d)
+      module _ (unused : IoUsed b s → ⊥) where
+        pub request-base : (k : Code) → FirstGiven (baseChecks (a .facts) (ioAsked p)) k → Requested b p k 0
+        request-base k x = refused-own requesting a begun k (inr (attributes, inr (sizes, inr ((λ d. d (free a begun unused)), x))))
 
-    module _ (card : byte b (cardsAt + s) ≡ 1) where
-      first : (k : Code) → FirstGiven own k → ServedBy (Requests h p) b b p k 0
-      first k f = request-refused k (Begin.request-first b p a requestIoLength h own begun card k f)
+        -- a base is taken: its grant is entered, and the packet says it
+        pub request-done : (x : ℕ) → Passed (baseChecks (a .facts) (ioAsked p)) × BaseTaken (a .facts) (ioAsked p) x → h < 65536 → x < 65536
+            → Requested (askedEntered b s h x (ioAsked p)) (withWord p 2 x) Success h
+        request-done x taken low based =
+            let after = withIo (a .facts) (socketOf p) (some (ioGrant h (ioAsked p) x)) in
+            done-own requesting a begun (askedEntered b s h x (ioAsked p)) (withWord p 2 x) after
+            (attributes, (sizes, ((λ d. d (free a begun unused)), taken .0)))
+            (record { base = x; taken = taken .1; leaves = left h (withWord p 2 x) after })
+            (rw (← seat-named a begun) (granted-image b a s (in-seats a begun) (ioGrant h (ioAsked p) x) low based))
 
-      pub request-attributes : IoAttributesBad p → ServedBy (Requests h p) b b p BadAttribute 0
-      request-attributes x = first BadAttribute (inl (x, refl))
+        -- what is settled of a base is the rule's
+        pub settled : (r : Base) (b′ p′ : List ℕ) (k : Answer) → h < 65536 → BaseIs b (ioAsked p) r → Granted s h (ioAsked p) r p p′ b b′ k
+            → Requested b′ p′ (codeOf k) (handleOf k)
+        settled (taken.At x) b′ p′ k low is (entered, said, code, handle) = rw (entered, said, code, handle) (request-done x (is .1 a) low (is .0))
+        settled (taken.Refused code) b′ p′ k low is (same, kept, said, handle) = rw (same, kept, said, handle) (request-base code (is a))
 
-      module _ (attributes : IoAttributesBad p → ⊥) where
-        pub request-sizes : IoSizeBad p → ServedBy (Requests h p) b b p BadSize 0
-        request-sizes x = first BadSize (inr (attributes, inl (x, refl)))
+module _ {b p : List ℕ} {h i s : ℕ} (a : Accepted b) (begun : BegunAt b p releaseIoLength h Ignored i s) where
+  abbrev Released : List ℕ → Code → ℕ → Type 0
+  Released b′ k handle = ServedBy (λ (F : Facts). ReleaseIo F h p) b b′ p k handle
 
-        module _ (sizes : IoSizeBad p → ⊥) where
-          pub request-held : IoUsed b s → ServedBy (Requests h p) b b p InUse 0
-          request-held u = first InUse (inr (attributes, inr (sizes, inl ((λ e. used b p a begun e u), refl))))
+  pub release-second : secondCount p ≢ 0 → Released b BadSize 0
+  release-second x = refused-own releasing a begun BadSize (inl (x, refl))
 
-          module _ (unused : IoUsed b s → ⊥) where
-            pub request-base : (k : Code) → FirstGiven (baseChecks (a .facts) p) k → ServedBy (Requests h p) b b p k 0
-            request-base k x = first k (inr (attributes, inr (sizes, inr ((λ d. d (free b p a begun unused)), x))))
+  module _ (absent : secondCount p ≡ 0) where
+    pub release-unheld : (IoHeld (factsIn b) h s (baseAsked p) (countAsked p) → ⊥) → Released b BadBase 0
+    release-unheld d =
+        refused-own releasing a begun BadBase (inr ((λ x. x absent), inl ((λ x. d (says a begun x)), refl)))
 
-            -- a base is taken: its grant is entered, and the packet says it
-            pub request-done : (x : ℕ) → Passed (baseChecks (a .facts) p) × BaseTaken (a .facts) p x → h < 65536 → x < 65536
-                → ServedBy (Requests h p) b (ioEntered b s h x (countAsked p) (linesAsked p) (markAsked p)) (withWord p 2 x) Success h
-            request-done x taken low based =
-                done-by (λ (F : Facts). ioRequestChecks F h p) (λ (F : Facts). GrantsIo F h p) b p a
-                (ioEntered b s h x (countAsked p) (linesAsked p) (markAsked p)) (withWord p 2 x) h after
-                (Begin.request-passed b p a requestIoLength h own begun card
-                (attributes, (sizes, ((λ d. d (free b p a begun unused)), taken .0))))
-                (record { base = x; taken = taken .1; leaves = left h (withWord p 2 x) after }) entered
-              where
-                after : Facts
-                after = withIo (a .facts) (socketOf p) (some (ioGrant h p x))
-
-                entered : image after ≡ ioEntered b s h x (countAsked p) (linesAsked p) (markAsked p)
-                entered =
-                    ap (λ (t : ℕ). image (withIo (a .facts) t (some (ioGrant h p x)))) (sym (begun .socket .number))
-                    ∙ granted-image b a s (in-sockets b p a begun) (ioGrant h p x) low based
-
-  -- a release's own checks
-  abbrev owned : List Check
-  owned =
-      ((secondCount p ≢ 0) gives BadSize)
-      ∷ ((IoHeld (a .facts) h (socketOf p) (baseAsked p) (countAsked p) → ⊥) gives BadBase)
-      ∷ []
-
-  release-refused : (k : Code) → FirstGiven (ioReleaseChecks (a .facts) h p) k → ServedBy (Releases h p) b b p k 0
-  release-refused = refused-by (λ (F : Facts). ioReleaseChecks F h p) (λ (F : Facts). Leaves h p (withIo F (socketOf p) none)) b p a
-
-  pub release-begins : Begins (Releases h p) b p releaseIoLength h
-  release-begins = Begin.begins b p a releaseIoLength h owned (Releases h p) release-refused
-
-  module _ {s : ℕ} (begun : Begun b p releaseIoLength h s) where
-    first-owned : (k : Code) → FirstGiven owned k → ServedBy (Releases h p) b b p k 0
-    first-owned k f = release-refused k (Begin.then-first b p a releaseIoLength h owned begun k f)
-
-    pub release-second : secondCount p ≢ 0 → ServedBy (Releases h p) b b p BadSize 0
-    release-second x = first-owned BadSize (inl (x, refl))
-
-    module _ (absent : secondCount p ≡ 0) where
-      pub release-unheld : (RecordSays b s h (baseAsked p) (countAsked p) → ⊥) → ServedBy (Releases h p) b b p BadBase 0
-      release-unheld d = first-owned BadBase (inr ((λ x. x absent), inl ((λ x. d (says b p a begun (baseAsked p) (countAsked p) x)), refl)))
-
-      pub release-done : RecordSays b s h (baseAsked p) (countAsked p) → ServedBy (Releases h p) b (ioEntered b s 0 0 0 0 0) p Success h
-      release-done x =
-          done-by (λ (F : Facts). ioReleaseChecks F h p) (λ (F : Facts). Leaves h p (withIo F (socketOf p) none)) b p a (ioEntered b s 0 0 0 0 0) p
-          h
-          after
-          (Begin.then-passed b p a releaseIoLength h owned begun
-          ((λ y. y absent), ((λ y. y (held b p a begun (baseAsked p) (countAsked p) x)), tt))) (left h p after)
-          (ap (λ (t : ℕ). image (withIo (a .facts) t none)) (sym (begun .socket .number))
-          ∙ released-image b a s (in-sockets b p a begun))
-        where
-          after : Facts
-          after = withIo (a .facts) (socketOf p) none
+    pub release-done : IoHeld (factsIn b) h s (baseAsked p) (countAsked p) → Released (ioEntered b s 0 0 0 0 0) Success h
+    release-done x =
+        let after = withIo (a .facts) (socketOf p) none in
+        done-own releasing a begun (ioEntered b s 0 0 0 0 0) p after
+        ((λ y. y absent), ((λ y. y (held a begun x)), tt)) (left h p after)
+        (rw (← seat-named a begun) (released-image b a s (in-seats a begun)))

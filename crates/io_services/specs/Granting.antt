@@ -1,42 +1,43 @@
--- What the checks of RequestIO and ReleaseIO answer, said of the bytes. Assumes nothing.
+-- What the checks of RequestIO and ReleaseIO answer. Assumes nothing.
 use mathlib.Core.Path.{_≡_}
 use mathlib.Core.List.{List}
-use Prim.Native.Nat.{ℕ, _+_}
-use lib.Dec.{eqb}
-use Rattle.facts.specs.Table.{Facts}
-use Rattle.facts.specs.Packets.{byte, word, bit}
-use Rattle.facts.specs.Io.{ioAttributes, RequestIo, ReleaseIo}
-use Rattle.layout.specs.Layout.{mark}
-use Rattle.layout.specs.Reading.{ioPlace}
-use Rattle.layout.specs.Sound.{IoUsed}
+use Prim.Native.Nat.{ℕ, _<_}
+use Rattle.facts.specs.declared.Code.the-variants.{Success}
+use Rattle.facts.specs.Packets.{withWord}
+use Rattle.facts.specs.declared.IoAsked.{IoAsked}
+use Rattle.facts.specs.Table.{Facts, Seat}
+use Rattle.facts.specs.Io.{IoHeld, RequestIo, ReleaseIo}
 use Rattle.layout.specs.Served.{ServedBy}
-use Rattle.layout.specs.Layout.{ioBaseAt, ioCountAt}
+use Rattle.layout.specs.Layout.{mark}
+use Rattle.layout.specs.Changed.{ioEntered}
 use Rattle.service_answers.specs.declared.Answer.{Answer}
 use Rattle.service_answers.specs.Answers.{codeOf, handleOf}
-use Rattle.io_services.specs.declared.Place.{Place}
-use Rattle.io_services.specs.declared.Place.the-variants as place
+use Rattle.io_bases.specs.declared.Base.{Base}
+use Rattle.io_bases.specs.declared.Base.the-variants as base
 use Rattle.io_services.specs.declared.Grant.{Grant}
 use Rattle.io_services.specs.declared.Grant.the-variants as grant
 
--- the socket s has no I/O grant, or it has one
-abbrev pub PlaceIs : List ℕ → ℕ → Place → Type 0
-PlaceIs b s place.Free = IoUsed b s → ⊥
-PlaceIs b s place.Held = IoUsed b s
+-- the record of the grant that is asked for, at a base
+abbrev pub askedEntered : List ℕ → Seat → ℕ → ℕ → IoAsked → List ℕ
+askedEntered b s h base q = ioEntered b s h base (q .count) (q .lines) (mark (q .shared))
 
--- the mark of a grant that a packet asks for: whether it shares
-abbrev pub markAsked : List ℕ → ℕ
-markAsked p = mark (eqb (bit (ioAttributes p) 0) 1)
+-- a base that is taken is a number of 16 bits
+abbrev pub baseOf : Base → ℕ
+baseOf (base.At x) = x
+baseOf (base.Refused k) = 0
 
--- the record of the socket s says the client h, that base and that count
-pub record RecordSays (b : List ℕ) (s h base count : ℕ) : Type 0 where
-  pub client : word b (ioPlace s) ≡ h
-  pub base-is : word b (ioPlace s + ioBaseAt) ≡ base
-  pub count-is : byte b (ioPlace s + ioCountAt) ≡ count
+abbrev pub BaseFits : Base → Type 0
+BaseFits r = baseOf r < 65536
 
--- so it says, or it doesn't
-abbrev pub GrantIs : List ℕ → ℕ → ℕ → ℕ → ℕ → Grant → Type 0
-GrantIs b s h base count grant.Held = RecordSays b s h base count
-GrantIs b s h base count grant.Other = RecordSays b s h base count → ⊥
+-- what is asked is granted at the base that is taken, and the packet says it; or it is refused, and every byte stays
+abbrev pub Granted : Seat → ℕ → IoAsked → Base → List ℕ → List ℕ → List ℕ → List ℕ → Answer → Type 0
+Granted s h q (base.At x) p p′ b b′ r = (b′ ≡ askedEntered b s h x q) × (p′ ≡ withWord p 2 x) × (codeOf r ≡ Success) × (handleOf r ≡ h)
+Granted s h q (base.Refused k) p p′ b b′ r = (b′ ≡ b) × (p′ ≡ p) × (codeOf r ≡ k) × (handleOf r ≡ 0)
+
+-- the client h holds that base and count at the seat, or it doesn't
+abbrev pub GrantIs : Facts → ℕ → Seat → ℕ → ℕ → Grant → Type 0
+GrantIs F h s base count grant.Held = IoHeld F h s base count
+GrantIs F h s base count grant.Other = IoHeld F h s base count → ⊥
 
 -- RequestIO is served as its rule says: it answers r, and leaves the packet p′ and the table b′
 abbrev pub RequestServed : ℕ → List ℕ → List ℕ → List ℕ → List ℕ → Answer → Type 0

@@ -1,8 +1,8 @@
 // RequestIO and ReleaseIO, on a table that is the image of a well-formed set.
-use client_record::ClientFound;
 use facts::Code;
 use facts::Handle;
-use facts::Socket;
+use facts::IoAsked;
+use facts::Seat;
 use io_bases::Base;
 use io_packets::Attributes;
 use io_packets::BASE_AT;
@@ -13,58 +13,39 @@ use layout::IO_BASE_AT;
 use layout::IO_COUNT_AT;
 use layout::IO_LINES_AT;
 use layout::IO_SHARED_AT;
-use layout::IO_SIZE;
-use layout::IOS_AT;
+use layout::MARKED;
+use seats::IoSeat;
+use seats::NOBODY;
 use service_answers::Answer;
-use service_checks::Card;
-use service_checks::Size;
-use service_checks::SocketNamed;
+use service_checks::Begun;
+use service_checks::CardNeed;
 ghost use mathlib.Core.Path.{_≡_};
 ghost use Prim.Native.Nat.{_<_};
 ghost use lib.ListN.{length};
 ghost use Rattle.facts.specs.Table;
 ghost use Rattle.facts.specs.Packets.{withWord};
-ghost use Rattle.facts.specs.Io.{requestIoLength, countAsked, linesAsked};
-ghost use Rattle.layout.specs.Layout.{tableSize};
+ghost use Rattle.facts.specs.Io.{requestIoLength};
+ghost use Rattle.layout.specs.Layout.{tableSize, mark};
+ghost use Rattle.layout.specs.Reading.{factsIn};
 ghost use Rattle.layout.specs.Sound.{Accepted};
 ghost use Rattle.layout.specs.Changed.{ioEntered};
-ghost use Rattle.io_services.specs.Granting.{PlaceIs, GrantIs, markAsked, RequestServed, ReleaseServed};
+ghost use Rattle.io_bases.specs.Bases.{AskedFits};
+ghost use Rattle.io_services.specs.Granting.{askedEntered, BaseFits, Granted, GrantIs, RequestServed, ReleaseServed};
 
-// Whether the socket has an I/O grant.
-pub enum Place {
-    Free,
-    Held,
-}
-
-fn place_of(t: &[u8], socket: Socket) -> Place
-    requires { ⌜ (length (now t) ≡ tableSize) × (socket .0 < Table.mostSockets) ⌝ }
-    ensures { λ r. ⌜ PlaceIs (now (t .entry)) (socket .0) r ⌝ }
-{
-    let number = socket.0;
-    if table_read::word(t, IOS_AT + number * IO_SIZE) == 0 {
-        Place::Free
-    } else {
-        Place::Held
-    }
-}
-
-// The record of the socket's I/O grant: client, base, count, lines and shared mark; for none the handle that is never live, and zeros.
-const NOBODY: u16 = 0;
-
+// The record of the seat's I/O grant: client, base, count, lines and shared mark; of none it is nobody's, and zeros.
 fn enter(
     t: &mut [u8],
-    socket: Socket,
+    seat: Seat,
     h: Handle,
     base: usize,
     count: usize,
     lines: usize,
     shared: usize,
 )
-    requires { ⌜ (length (now t) ≡ tableSize) × (socket .0 < Table.mostSockets) × (base < 65536) × (count < 256) × (lines < 256) × (shared < 256) ⌝ }
-    ensures { λ _. ⌜ now (t .exit) ≡ ioEntered (now (t .entry)) (socket .0) (h .0) base count lines shared ⌝ }
+    requires { ⌜ (length (now t) ≡ tableSize) × (seat .0 < Table.mostSeats) × (base < 65536) × (count < 256) × (lines < 256) × (shared < 256) ⌝ }
+    ensures { λ _. ⌜ now (t .exit) ≡ ioEntered (now (t .entry)) (seat .0) (h .0) base count lines shared ⌝ }
 {
-    let number = socket.0;
-    let at = IOS_AT + number * IO_SIZE;
+    let at = seats::io_place(seat);
     let client = h.0;
     table_write::put_word(t, at, client as usize);
     table_write::put_word(t, at + IO_BASE_AT, base);
@@ -73,52 +54,71 @@ fn enter(
     t[at + IO_SHARED_AT] = shared as u8;
 }
 
-// The grant that a packet asks for is entered at a base; "Success writes BasePort1."
-fn enter_asked(t: &mut [u8], socket: Socket, h: Handle, base: usize, p: &mut [u8])
-    requires { ⌜ (length (now t) ≡ tableSize) × (socket .0 < Table.mostSockets) × (base < 65536) × (length (now p) ≡ requestIoLength) ⌝ }
-    ensures { λ _. ⌜ now (t .exit)
-        ≡ ioEntered (now (t .entry)) (socket .0) (h .0) base (countAsked (now (p .entry))) (linesAsked (now (p .entry))) (markAsked (now (p .entry))) ⌝ }
+// The mark of what is shared, or not.
+fn mark_of(shared: bool) -> usize
+    ensures { λ r. ⌜ r ≡ mark shared ⌝ }
+{
+    if shared { MARKED } else { 0 }
+}
+
+// The grant that is asked for is entered at a base; "Success writes BasePort1."
+fn enter_asked(t: &mut [u8], seat: Seat, h: Handle, base: usize, asked: IoAsked, p: &mut [u8])
+    requires { ⌜ (length (now t) ≡ tableSize) × (seat .0 < Table.mostSeats) × (base < 65536) × AskedFits asked × (length (now p) ≡ requestIoLength) ⌝ }
+    ensures { λ _. ⌜ now (t .exit) ≡ askedEntered (now (t .entry)) (seat .0) (h .0) base asked ⌝ }
     ensures { λ _. ⌜ now (p .exit) ≡ withWord (now (p .entry)) 2 base ⌝ }
 {
-    let count = io_packets::count_asked(p);
-    let lines = io_packets::lines_asked(p);
-    let shared = io_packets::shared_mark(p);
-    enter(t, socket, h, base, count, lines, shared);
+    enter(
+        t,
+        seat,
+        h,
+        base,
+        asked.count,
+        asked.lines,
+        mark_of(asked.shared),
+    );
     table_write::put_word(p, BASE_AT, base);
 }
 
+// The grant at the base that is taken, or the refusal.
+fn settle(t: &mut [u8], seat: Seat, h: Handle, asked: IoAsked, taken: Base, p: &mut [u8]) -> Answer
+    requires { ⌜ (length (now t) ≡ tableSize) × (seat .0 < Table.mostSeats) × BaseFits taken × AskedFits asked × (length (now p) ≡ requestIoLength) ⌝ }
+    ensures { λ r. ⌜ Granted (seat .0) (h .0) asked taken (now (p .entry)) (now (p .exit)) (now (t .entry)) (now (t .exit)) r ⌝ }
+{
+    match taken {
+        Base::At(base) => {
+            enter_asked(t, seat, h, base, asked, p);
+            Answer::Done(h)
+        }
+        Base::Refused(code) => Answer::Refused(code),
+    }
+}
+
+// The base is sought where there is none in the packet: each of the two has a frame of its own on the stack, which no other service pays for.
 pub fn request(t: &mut [u8], h: Handle, p: &mut [u8]) -> Answer
     requires { ⌜ Accepted (now t) ⌝ }
     ensures { λ r. ⌜ RequestServed (h .0) (now (p .entry)) (now (p .exit)) (now (t .entry)) (now (t .exit)) r ⌝ }
 {
-    let Size::Right = service_checks::sized(p, LENGTH) else {
-        return Answer::Refused(Code::BadArgLength);
-    };
-    let ClientFound::At(_) = client_record::client_at(t, h) else {
-        return Answer::Refused(Code::BadHandle);
-    };
-    let SocketNamed::At(socket) = service_checks::socket_named(t, p) else {
-        return Answer::Refused(Code::BadSocket);
-    };
-    let Card::In = service_checks::card_at(t, socket) else {
-        return Answer::Refused(Code::NoCard);
-    };
-    let Attributes::Good = io_packets::attributes_asked(p) else {
-        return Answer::Refused(Code::BadAttribute);
-    };
-    let Sizes::Good = io_packets::sizes_asked(p) else {
-        return Answer::Refused(Code::BadSize);
-    };
-    let Place::Free = place_of(t, socket) else {
-        return Answer::Refused(Code::InUse);
-    };
-    let taken = io_bases::taken(t, p);
-    match taken {
-        Base::At(base) => {
-            enter_asked(t, socket, h, base, p);
-            Answer::Done(h)
+    let begun = service_checks::begin(t, h, p, LENGTH, CardNeed::Needed);
+    match begun {
+        Begun::At(_, seat) => {
+            let Attributes::Good = io_packets::attributes_asked(p) else {
+                return Answer::Refused(Code::BadAttribute);
+            };
+            let Sizes::Good = io_packets::sizes_asked(p) else {
+                return Answer::Refused(Code::BadSize);
+            };
+            let IoSeat::Free = seats::held(t, seat) else {
+                return Answer::Refused(Code::InUse);
+            };
+            let asked = io_packets::asked(p);
+            if asked.base == 0 {
+                let chosen = io_bases::chosen(t, asked);
+                return settle(t, seat, h, asked, chosen, p);
+            }
+            let named = io_bases::named(t, asked);
+            settle(t, seat, h, asked, named, p)
         }
-        Base::Refused(code) => Answer::Refused(code),
+        Begun::Refused(code) => Answer::Refused(code),
     }
 }
 
@@ -128,19 +128,21 @@ pub enum Grant {
     Other,
 }
 
-fn grant_of(t: &[u8], socket: Socket, h: Handle, base: usize, count: usize) -> Grant
-    requires { ⌜ (length (now t) ≡ tableSize) × (socket .0 < Table.mostSockets) ⌝ }
-    ensures { λ r. ⌜ GrantIs (now (t .entry)) (socket .0) (h .0) base count r ⌝ }
+fn grant_of(t: &[u8], seat: Seat, h: Handle, base: usize, count: usize) -> Grant
+    requires { ⌜ (length (now t) ≡ tableSize) × (seat .0 < Table.mostSeats) ⌝ }
+    ensures { λ r. ⌜ GrantIs (factsIn (now (t .entry))) (h .0) (seat .0) base count r ⌝ }
 {
-    let number = socket.0;
-    let at = IOS_AT + number * IO_SIZE;
-    if !client_record::granted(t, at, h) {
+    let IoSeat::Held(x) = seats::held(t, seat) else {
+        return Grant::Other;
+    };
+    let holder = x.client;
+    if holder.0 != h.0 {
         return Grant::Other;
     }
-    if table_read::word(t, at + IO_BASE_AT) != base {
+    if x.base != base {
         return Grant::Other;
     }
-    if table_read::byte(t, at + IO_COUNT_AT) != count {
+    if x.count != count {
         return Grant::Other;
     }
     Grant::Held
@@ -150,23 +152,20 @@ pub fn release(t: &mut [u8], h: Handle, p: &[u8]) -> Answer
     requires { ⌜ Accepted (now t) ⌝ }
     ensures { λ r. ⌜ ReleaseServed (h .0) (now (p .entry)) (now (t .entry)) (now (t .exit)) r ⌝ }
 {
-    let Size::Right = service_checks::sized(p, LENGTH) else {
-        return Answer::Refused(Code::BadArgLength);
-    };
-    let ClientFound::At(_) = client_record::client_at(t, h) else {
-        return Answer::Refused(Code::BadHandle);
-    };
-    let SocketNamed::At(socket) = service_checks::socket_named(t, p) else {
-        return Answer::Refused(Code::BadSocket);
-    };
-    let Second::Absent = io_packets::second_asked(p) else {
-        return Answer::Refused(Code::BadSize);
-    };
-    let base = io_packets::base_asked(p);
-    let count = io_packets::count_asked(p);
-    let Grant::Held = grant_of(t, socket, h, base, count) else {
-        return Answer::Refused(Code::BadBase);
-    };
-    enter(t, socket, Handle(NOBODY), 0, 0, 0, 0);
-    Answer::Done(h)
+    let begun = service_checks::begin(t, h, p, LENGTH, CardNeed::Ignored);
+    match begun {
+        Begun::At(_, seat) => {
+            let Second::Absent = io_packets::second_asked(p) else {
+                return Answer::Refused(Code::BadSize);
+            };
+            let base = io_packets::base_asked(p);
+            let count = io_packets::count_asked(p);
+            let Grant::Held = grant_of(t, seat, h, base, count) else {
+                return Answer::Refused(Code::BadBase);
+            };
+            enter(t, seat, Handle(NOBODY), 0, 0, 0, 0);
+            Answer::Done(h)
+        }
+        Begun::Refused(code) => Answer::Refused(code),
+    }
 }

@@ -1,32 +1,32 @@
--- The levels that grants hold, as sets: of one socket, and of those passed. Assumes nothing.
-use Rattle.facts.proofs.Words.{_≡_, refl, inl, inr, List, ℕ, _+_, _^_, _<_, arith}
-use Rattle.facts.specs.{byte, allLevels, mostSockets}
-use Rattle.layout.specs.{irqPlace, Accepted, IrqUsed, IrqPlaceSound, irqLevelAt}
-use Rattle.layout.proofs.{sound-in}
+-- The levels that grants hold, as sets: of one seat. Assumes nothing.
+use Rattle.facts.proofs.Words.{_≡_, refl, ap, sym, _∙_, subst, none, some, Option·none-ne-some, Option·some-injective, ℕ, _^_}
+use Rattle.facts.specs.{Facts, IrqAsked, IrqGrant, Manner, Holds}
 use Rattle.table_read.specs.{HasJust}
 use Rattle.table_read.proofs.{exactly-none, exactly-one}
-use Rattle.irq_fitting.specs.{Goes, GrantAt, LevelsAt}
+use Rattle.irq_fitting.specs.{Goes, HeldAs, LevelsAt}
 
--- a record's level is one of a table's, also where it is zero
-pub level-below : (b : List ℕ) → Accepted b → (s : ℕ) → s < mostSockets → byte b (irqPlace s + irqLevelAt) < allLevels
-level-below b a s l = in-each-case (sound-in b a .irqs s l)
-  where
-    in-each-case : IrqPlaceSound b s → byte b (irqPlace s + irqLevelAt) < allLevels
-    in-each-case (inl z) = omega (arith, z (irqPlace s + irqLevelAt) (omega arith) (omega arith))
-    in-each-case (inr u) = u .1 .level
-
-module _ (b p : List ℕ) (s : ℕ) where
+module _ (F : Facts) (q : IrqAsked) (s : ℕ) where
   -- without a grant there is no level
-  pub none-at : (IrqUsed b s → ⊥) → LevelsAt b p s (record { way = 0; together = 0 })
-  none-at n = record { way = exactly-none (λ l x. n (x .0 .used)); together = exactly-none (λ l x. n (x .0 .used)) }
+  pub none-at : F .irq s ≡ none → LevelsAt F q s (record { way = 0; together = 0 })
+  none-at e = record { way = exactly-none (λ l x. free (x .1)); together = exactly-none (λ l x. free (x .1)) }
+    where
+      free : {l : ℕ} {g : IrqGrant} → Holds F l s g → ⊥
+      free {l} {g} x = Option·none-ne-some g (sym e ∙ x .live)
 
   -- with one there is its level, in one of the two sets
-  module _ (u : IrqUsed b s) (level set : ℕ) (is : level ≡ byte b (irqPlace s + irqLevelAt)) (one : set ≡ 2 ^ level) where
-    level-set : {P : Type 0} → P → HasJust set (λ l. GrantAt b s l × P)
-    level-set x = rw (one, is) (exactly-one (byte b (irqPlace s + irqLevelAt)) (record { used = u; level = refl }, x) (λ k y. y .0 .level))
+  module _ (g : IrqGrant) (e : F .irq s ≡ some g) (set : ℕ) (one : set ≡ 2 ^ g .level) where
+    same : {l : ℕ} {h : IrqGrant} → Holds F l s h → g ≡ h
+    same {l} {h} x = Option·some-injective g h (sym e ∙ x .live)
 
-    pub goes-at : Goes b p s → LevelsAt b p s (record { way = 0; together = set })
-    goes-at g = record { way = exactly-none (λ l x. x .1 g); together = level-set g }
+    level-set : (P : Manner → Type 0) → P (g .manner) → HasJust set (HeldAs F P s)
+    level-set P p =
+        rw one (exactly-one (g .level) (g, record { live = e; at = refl }, p) (λ k x. ap (λ (h : IrqGrant). h .level) (same (x .1)) ∙ x .1 .at))
 
-    pub stands-at : (Goes b p s → ⊥) → LevelsAt b p s (record { way = set; together = 0 })
-    stands-at n = record { way = level-set n; together = exactly-none (λ l x. n (x .1)) }
+    no-level : (P : Manner → Type 0) → (P (g .manner) → ⊥) → HasJust 0 (HeldAs F P s)
+    no-level P n = exactly-none (λ l x. n (subst (λ (h : IrqGrant). P (h .manner)) (sym (same (x .1))) (x .2)))
+
+    pub goes-at : Goes q (g .manner) → LevelsAt F q s (record { way = 0; together = set })
+    goes-at x = record { way = no-level (λ m. Goes q m → ⊥) (λ n. n x); together = level-set (Goes q) x }
+
+    pub stands-at : (Goes q (g .manner) → ⊥) → LevelsAt F q s (record { way = set; together = 0 })
+    stands-at n = record { way = level-set (λ m. Goes q m → ⊥) n; together = no-level (Goes q) n }

@@ -1,87 +1,83 @@
--- Which levels fit a request, and which it goes together with, said of the bytes; and what the choice among them answers. Assumes nothing.
+-- Which levels fit a request, and which it goes together with, as sets; and what the choice among them answers. Assumes nothing.
 use mathlib.Core.Path.{_≡_}
-use mathlib.Core.Logic.{_≢_}
 use mathlib.Core.List.{List}
-use Prim.Native.Nat.{ℕ, _+_}
+use mathlib.Core.Bool.{Bool, true, false}
+use Prim.Native.Nat.{ℕ}
+use Rattle.facts.specs.declared.IrqAsked.{IrqAsked}
+use Rattle.facts.specs.declared.Manner.{Manner}
 use Rattle.facts.specs.Table
-use Rattle.facts.specs.Packets.{byte, bit}
+use Rattle.facts.specs.Table.{Facts, Seat, IrqGrant}
+use Rattle.facts.specs.Packets.{bit}
 use Rattle.facts.specs.Choice.{Lowest}
-use Rattle.facts.specs.Levels.{Together}
-use Rattle.facts.specs.Irq.{IrqFirstShared, mannerAsked, NoLevelFits, FirstFitting, LevelTaken}
-use Rattle.layout.specs.Reading.{levelPlace, irqPlace, mannerOf}
-use Rattle.layout.specs.Sound.{Accepted, IrqUsed}
-use Rattle.layout.specs.Layout.{irqMannerAt, irqLevelAt, levelReservedAt}
+use Rattle.facts.specs.Levels.{Together, Holds}
+use Rattle.facts.specs.Irq.{Fits, NoLevelFits, FirstFitting, LevelTaken}
+use Rattle.layout.specs.Sound.{Accepted}
 use Rattle.table_read.specs.Sets.{HasJust, SomeBelow}
 use Rattle.irq_fitting.specs.declared.Levels.{Levels}
 use Rattle.irq_fitting.specs.declared.Fitting.{Fitting}
 use Rattle.irq_fitting.specs.declared.TakenLevel.{TakenLevel}
 use Rattle.irq_fitting.specs.declared.TakenLevel.the-variants.{Level, Nothing}
 
--- the grant of the socket s, if it has one, goes together with the request: First Shared isn't set, and its manner goes together with the one asked for
-pub record Goes (b p : List ℕ) (s : ℕ) : Type 0 where
-  pub not-first : IrqFirstShared p → ⊥
-  pub together : Together (mannerOf (byte b (irqPlace s + irqMannerAt))) (mannerAsked p)
+-- a grant of the manner m goes together with the request: First Shared isn't set, and its manner goes together with the one asked for
+pub record Goes (q : IrqAsked) (m : Manner) : Type 0 where
+  pub not-first : q .first ≡ false
+  pub together : Together m (q .manner)
 
--- the socket s has a grant of the level l
-pub record GrantAt (b : List ℕ) (s l : ℕ) : Type 0 where
-  pub used : IrqUsed b s
-  pub level : byte b (irqPlace s + irqLevelAt) ≡ l
+-- at the seat s the level l is held in a manner that is P
+abbrev pub HeldAs : Facts → (Manner → Type 0) → Seat → ℕ → Type 0
+HeldAs F P s l = (g : IrqGrant) × Holds F l s g × P (g .manner)
 
--- that stands in the way of the request, or goes together with it
-abbrev pub StandsAt : List ℕ → List ℕ → ℕ → ℕ → Type 0
-StandsAt b p s l = GrantAt b s l × (Goes b p s → ⊥)
+-- by a grant that stands in the way of the request, or goes together with it
+abbrev pub StandsAt : Facts → IrqAsked → Seat → ℕ → Type 0
+StandsAt F q = HeldAs F (λ m. Goes q m → ⊥)
 
-abbrev pub GoesAt : List ℕ → List ℕ → ℕ → ℕ → Type 0
-GoesAt b p s l = GrantAt b s l × Goes b p s
+abbrev pub GoesAt : Facts → IrqAsked → Seat → ℕ → Type 0
+GoesAt F q = HeldAs F (Goes q)
 
--- the levels that the grant of the socket s holds
-pub record LevelsAt (b p : List ℕ) (s : ℕ) (r : Levels) : Type 0 where
-  pub way : HasJust (r .way) (StandsAt b p s)
-  pub together : HasJust (r .together) (GoesAt b p s)
+-- the levels that the grant at the seat s holds
+pub record LevelsAt (F : Facts) (q : IrqAsked) (s : Seat) (r : Levels) : Type 0 where
+  pub way : HasJust (r .way) (StandsAt F q s)
+  pub together : HasJust (r .together) (GoesAt F q s)
 
--- the levels on which some socket's grant does the one or the other
-abbrev pub LevelBarred : List ℕ → List ℕ → ℕ → Type 0
-LevelBarred b p = SomeBelow Table.mostSockets (StandsAt b p)
+-- the levels on which some seat's grant does the one or the other
+abbrev pub LevelBarred : Facts → IrqAsked → ℕ → Type 0
+LevelBarred F q = SomeBelow Table.mostSeats (StandsAt F q)
 
-abbrev pub InCompany : List ℕ → List ℕ → ℕ → Type 0
-InCompany b p = SomeBelow Table.mostSockets (GoesAt b p)
+abbrev pub InCompany : Facts → IrqAsked → ℕ → Type 0
+InCompany F q = SomeBelow Table.mostSeats (GoesAt F q)
 
-pub record LevelsHeld (b p : List ℕ) (r : Levels) : Type 0 where
-  pub way : HasJust (r .way) (LevelBarred b p)
-  pub together : HasJust (r .together) (InCompany b p)
+pub record LevelsHeld (F : Facts) (q : IrqAsked) (r : Levels) : Type 0 where
+  pub way : HasJust (r .way) (LevelBarred F q)
+  pub together : HasJust (r .together) (InCompany F q)
 
--- the level l fits by the sets of the levels named and of those with a grant in the way
-pub record FitsBy (b : List ℕ) (names way l : ℕ) : Type 0 where
-  pub named : bit names l ≡ 1
-  pub free : bit way l ≢ 1
-  pub managed : byte b (levelPlace l) ≡ 1
+-- the level l fits, and is reserved or not
+abbrev pub FitsAs : Facts → IrqAsked → Bool → ℕ → Type 0
+FitsAs F q reserved l = Fits F q l × (F .level l .reserved ≡ reserved)
 
--- the level l does, has this reserve mark, and is k
-pub record FitsHere (b : List ℕ) (names way mark l k : ℕ) : Type 0 where
-  pub fits : FitsBy b names way l
-  pub reserved : byte b (levelPlace l + levelReservedAt) ≡ mark
-  pub level : l ≡ k
+-- the level l does, and is k
+abbrev pub FitsHere : Facts → IrqAsked → Bool → ℕ → ℕ → Type 0
+FitsHere F q reserved l k = FitsAs F q reserved l × (l ≡ k)
 
 -- the level l, if it fits
-pub record FittingAt (b : List ℕ) (names way l : ℕ) (r : Fitting) : Type 0 where
-  pub unreserved : HasJust (r .unreserved) (FitsHere b names way 0 l)
-  pub reserved : HasJust (r .reserved) (FitsHere b names way 1 l)
+pub record FittingAt (F : Facts) (q : IrqAsked) (l : ℕ) (r : Fitting) : Type 0 where
+  pub unreserved : HasJust (r .unreserved) (FitsHere F q false l)
+  pub reserved : HasJust (r .reserved) (FitsHere F q true l)
 
 -- all levels that fit
-pub record LevelsFitting (b : List ℕ) (names way : ℕ) (r : Fitting) : Type 0 where
-  pub unreserved : HasJust (r .unreserved) (SomeBelow Table.allLevels (FitsHere b names way 0))
-  pub reserved : HasJust (r .reserved) (SomeBelow Table.allLevels (FitsHere b names way 1))
+pub record LevelsFitting (F : Facts) (q : IrqAsked) (r : Fitting) : Type 0 where
+  pub unreserved : HasJust (r .unreserved) (FitsAs F q false)
+  pub reserved : HasJust (r .reserved) (FitsAs F q true)
 
 -- l is the lowest number that the set has
 abbrev pub LowestIn : ℕ → ℕ → Type 0
 LowestIn set = Lowest (λ k. bit set k ≡ 1)
 
 -- the first of the levels that fit, or none does
-abbrev pub FirstIs : List ℕ → List ℕ → TakenLevel → Type 0
-FirstIs b p (Level l) = (a : Accepted b) → FirstFitting (a .facts) p l
-FirstIs b p Nothing = (a : Accepted b) → NoLevelFits (a .facts) p
+abbrev pub FirstIs : Facts → IrqAsked → TakenLevel → Type 0
+FirstIs F q (Level l) = FirstFitting F q l
+FirstIs F q Nothing = NoLevelFits F q
 
 -- the level that is taken, or none fits
-abbrev pub TakenIs : List ℕ → List ℕ → TakenLevel → Type 0
-TakenIs b p (Level l) = (a : Accepted b) → LevelTaken (a .facts) p l
-TakenIs b p Nothing = (a : Accepted b) → NoLevelFits (a .facts) p
+abbrev pub TakenIs : List ℕ → IrqAsked → TakenLevel → Type 0
+TakenIs b q (Level l) = (a : Accepted b) → LevelTaken (a .facts) q l
+TakenIs b q Nothing = (a : Accepted b) → NoLevelFits (a .facts) q

@@ -1,4 +1,4 @@
 -- What the contracts of `irq_fitting` cite. Assumes nothing.
 pub mod Fitting
-pub use Fitting.{Goes, GrantAt, StandsAt, GoesAt, LevelsAt, LevelBarred, InCompany, FitsBy, FitsHere, FittingAt, LevelsFitting, LowestIn, FirstIs}
+pub use Fitting.{Goes, HeldAs, StandsAt, GoesAt, LevelsAt, LevelBarred, InCompany, FitsAs, FitsHere, FittingAt, LevelsFitting, LowestIn, FirstIs}
 pub use Fitting.{TakenIs}

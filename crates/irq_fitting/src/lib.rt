@@ -1,43 +1,33 @@
 // The level that a request for an IRQ takes, on a table that is the image of a well-formed set.
+use facts::IrqAsked;
 use facts::Manner;
-use facts::Socket;
+use facts::Seat;
 use layout::ALL_LEVELS;
-use layout::IRQ_LEVEL_AT;
-use layout::IRQ_MANNER_AT;
-use layout::IRQ_SIZE;
-use layout::IRQS_AT;
 use layout::LEVEL_RESERVED_AT;
 use layout::LEVEL_SIZE;
 use layout::LEVELS_AT;
 use layout::MARKED;
-use layout::MOST_SOCKETS;
-ghost use mathlib.Core.Path.{_≡_};
+use layout::MOST_SEATS;
+use seats::IrqSeat;
 ghost use mathlib.Core.Logic.{_≢_};
 ghost use Prim.Native.Nat.{_<_};
-ghost use lib.ListN.{length};
 ghost use Rattle.facts.specs.Table;
 ghost use Rattle.facts.specs.Says.{Says};
-ghost use Rattle.facts.specs.Irq.{requestIrqLength, mannerAsked};
-ghost use Rattle.layout.specs.Layout.{tableSize};
+ghost use Rattle.facts.specs.Irq.{Fits};
+ghost use Rattle.layout.specs.Reading.{factsIn};
 ghost use Rattle.layout.specs.Sound.{Accepted};
 ghost use Rattle.table_read.specs.Sets.{HasJust};
-ghost use Rattle.irq_fitting.specs.Fitting.{Goes, LevelsAt, LevelsHeld, LevelBarred, FitsBy, FittingAt, LevelsFitting, LowestIn, FirstIs, TakenIs};
+ghost use Rattle.irq_fitting.specs.Fitting.{Goes, LevelsAt, LevelsHeld, LevelBarred, FittingAt, LevelsFitting, LowestIn, FirstIs, TakenIs};
 
-// "without First Shared, all its grants go together with this manner": whether the grant of the socket does.
-fn goes(t: &[u8], p: &[u8], m: Manner, s: Socket) -> bool
-    requires { ⌜ (length (now t) ≡ tableSize) × (s .0 < Table.mostSockets) ⌝ }
-    requires { ⌜ (length (now p) ≡ requestIrqLength) × (m ≡ mannerAsked (now p)) ⌝ }
-    ensures { λ r. ⌜ Says r (Goes (now (t .entry)) (now (p .entry)) (s .0)) ⌝ }
+// "without First Shared, all its grants go together with this manner": whether a grant of the manner held does.
+fn goes(asked: IrqAsked, held: Manner) -> bool
+    ensures { λ r. ⌜ Says r (Goes asked held) ⌝ }
 {
-    if irq_packets::first_shared(p) {
+    if asked.first {
         return false;
     }
-    let number = s.0;
-    let held = table_read::manner_of(table_read::byte(
-        t,
-        IRQS_AT + number * IRQ_SIZE + IRQ_MANNER_AT,
-    ));
-    irq_levels::together(held, m)
+    let manner = asked.manner;
+    irq_levels::together(held, manner)
 }
 
 // The levels that grants hold, a bit for each: those where a grant stands in the way of the request, and those where one goes together with it.
@@ -46,21 +36,20 @@ pub struct Levels {
     pub together: usize,
 }
 
-// The level that the socket's grant holds.
-fn levels_at(t: &[u8], p: &[u8], m: Manner, s: Socket) -> Levels
-    requires { ⌜ Accepted (now t) × (s .0 < Table.mostSockets) × (length (now p) ≡ requestIrqLength) × (m ≡ mannerAsked (now p)) ⌝ }
-    ensures { λ r. ⌜ LevelsAt (now (t .entry)) (now (p .entry)) (s .0) r ⌝ }
+// The level that is held at the seat.
+fn levels_at(t: &[u8], asked: IrqAsked, s: Seat) -> Levels
+    requires { ⌜ Accepted (now t) × (s .0 < Table.mostSeats) ⌝ }
+    ensures { λ r. ⌜ LevelsAt (factsIn (now (t .entry))) asked (s .0) r ⌝ }
 {
-    let number = s.0;
-    let at = IRQS_AT + number * IRQ_SIZE;
-    if table_read::word(t, at) == 0 {
+    let IrqSeat::Held(held) = seats::level_held(t, s) else {
         return Levels {
             way: 0,
             together: 0,
         };
-    }
-    let level = 1 << table_read::byte(t, at + IRQ_LEVEL_AT);
-    if goes(t, p, m, s) {
+    };
+    let level = 1 << held.level;
+    let manner = held.manner;
+    if goes(asked, manner) {
         return Levels {
             way: 0,
             together: level,
@@ -72,16 +61,15 @@ fn levels_at(t: &[u8], p: &[u8], m: Manner, s: Socket) -> Levels
     }
 }
 
-// The levels that all grants hold: one pass over the sockets.
-fn levels_held(t: &[u8], p: &[u8]) -> Levels
-    requires { ⌜ Accepted (now t) × (length (now p) ≡ requestIrqLength) ⌝ }
-    ensures { λ r. ⌜ LevelsHeld (now (t .entry)) (now (p .entry)) r ⌝ }
+// The levels that are held: one pass over the seats.
+fn levels_held(t: &[u8], asked: IrqAsked) -> Levels
+    requires { ⌜ Accepted (now t) ⌝ }
+    ensures { λ r. ⌜ LevelsHeld (factsIn (now (t .entry))) asked r ⌝ }
 {
-    let m = irq_packets::manner_asked(p);
     let mut way = 0;
     let mut together = 0;
-    for s in 0..MOST_SOCKETS {
-        let here = levels_at(t, p, m, Socket(s));
+    for s in 0..MOST_SEATS {
+        let here = levels_at(t, asked, Seat(s));
         way = way | here.way;
         together = together | here.together;
     }
@@ -89,14 +77,14 @@ fn levels_held(t: &[u8], p: &[u8]) -> Levels
 }
 
 // "A level fits if it is named, managed, and either has no grant or", without First Shared, none in the way.
-fn level_fits(t: &[u8], named: usize, way: usize, l: usize) -> bool
-    requires { ⌜ Accepted (now t) × (l < Table.allLevels) ⌝ }
-    ensures { λ r. ⌜ Says r (FitsBy (now (t .entry)) named way l) ⌝ }
+fn level_fits(t: &[u8], asked: IrqAsked, way: usize, l: usize) -> bool
+    requires { ⌜ Accepted (now t) × HasJust way (LevelBarred (factsIn (now t)) asked) × (l < Table.allLevels) ⌝ }
+    ensures { λ r. ⌜ Says r (Fits (factsIn (now (t .entry))) asked l) ⌝ }
 {
     if table_read::byte(t, LEVELS_AT + l * LEVEL_SIZE) != MARKED {
         return false;
     }
-    if !table_read::is_set(named, l) {
+    if !table_read::is_set(asked.named, l) {
         return false;
     }
     !table_read::is_set(way, l)
@@ -109,11 +97,11 @@ pub struct Fitting {
 }
 
 // The level itself, if it fits.
-fn fitting_at(t: &[u8], named: usize, way: usize, l: usize) -> Fitting
-    requires { ⌜ Accepted (now t) × (l < Table.allLevels) ⌝ }
-    ensures { λ r. ⌜ FittingAt (now (t .entry)) named way l r ⌝ }
+fn fitting_at(t: &[u8], asked: IrqAsked, way: usize, l: usize) -> Fitting
+    requires { ⌜ Accepted (now t) × HasJust way (LevelBarred (factsIn (now t)) asked) × (l < Table.allLevels) ⌝ }
+    ensures { λ r. ⌜ FittingAt (factsIn (now (t .entry))) asked l r ⌝ }
 {
-    if !level_fits(t, named, way, l) {
+    if !level_fits(t, asked, way, l) {
         return Fitting {
             unreserved: 0,
             reserved: 0,
@@ -133,14 +121,14 @@ fn fitting_at(t: &[u8], named: usize, way: usize, l: usize) -> Fitting
 }
 
 // All levels that fit.
-fn levels_fitting(t: &[u8], named: usize, way: usize) -> Fitting
-    requires { ⌜ Accepted (now t) ⌝ }
-    ensures { λ r. ⌜ LevelsFitting (now (t .entry)) named way r ⌝ }
+fn levels_fitting(t: &[u8], asked: IrqAsked, way: usize) -> Fitting
+    requires { ⌜ Accepted (now t) × HasJust way (LevelBarred (factsIn (now t)) asked) ⌝ }
+    ensures { λ r. ⌜ LevelsFitting (factsIn (now (t .entry))) asked r ⌝ }
 {
     let mut unreserved = 0;
     let mut reserved = 0;
     for l in 0..ALL_LEVELS {
-        let here = fitting_at(t, named, way, l);
+        let here = fitting_at(t, asked, way, l);
         unreserved = unreserved | here.unreserved;
         reserved = reserved | here.reserved;
     }
@@ -165,11 +153,11 @@ pub enum TakenLevel {
 }
 
 // "An unreserved level comes before a reserved one, then the lowest."
-fn first_fitting(t: &[u8], p: &[u8], way: usize) -> TakenLevel
-    requires { ⌜ Accepted (now t) × (length (now p) ≡ requestIrqLength) × HasJust way (LevelBarred (now t) (now p)) ⌝ }
-    ensures { λ r. ⌜ FirstIs (now (t .entry)) (now (p .entry)) r ⌝ }
+fn first_fitting(t: &[u8], asked: IrqAsked, way: usize) -> TakenLevel
+    requires { ⌜ Accepted (now t) × HasJust way (LevelBarred (factsIn (now t)) asked) ⌝ }
+    ensures { λ r. ⌜ FirstIs (factsIn (now (t .entry))) asked r ⌝ }
 {
-    let fitting = levels_fitting(t, irq_packets::named(p), way);
+    let fitting = levels_fitting(t, asked, way);
     if fitting.unreserved != 0 {
         return TakenLevel::Level(lowest(fitting.unreserved) as usize);
     }
@@ -180,15 +168,14 @@ fn first_fitting(t: &[u8], p: &[u8], way: usize) -> TakenLevel
 }
 
 // K1: "the lowest named level that already has grants of its manner; only if none exists, the old choice."
-pub fn choose(t: &[u8], p: &[u8]) -> TakenLevel
-    requires { ⌜ Accepted (now t) × (length (now p) ≡ requestIrqLength) ⌝ }
-    ensures { λ r. ⌜ TakenIs (now (t .entry)) (now (p .entry)) r ⌝ }
+pub fn choose(t: &[u8], asked: IrqAsked) -> TakenLevel
+    requires { ⌜ Accepted (now t) ⌝ }
+    ensures { λ r. ⌜ TakenIs (now (t .entry)) asked r ⌝ }
 {
-    let held = levels_held(t, p);
-    let named = irq_packets::named(p);
-    let joined = held.together & named;
+    let held = levels_held(t, asked);
+    let joined = held.together & asked.named;
     if joined == 0 {
-        return first_fitting(t, p, held.way);
+        return first_fitting(t, asked, held.way);
     }
     TakenLevel::Level(lowest(joined) as usize)
 }

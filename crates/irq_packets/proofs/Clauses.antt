@@ -1,9 +1,9 @@
--- What a packet names, and that none of the clauses of its checks applies. Assumes nothing.
-use Rattle.facts.proofs.Words.{_≡_, refl, sym, inl, inr, _≢_, List, ℕ, _^_, _≤_}
-use Rattle.facts.specs.{bit, exclusiveType, dynamicType, attributesOf, info2, typeAsked, levelAsked, ForcePulse, IrqFirstShared, Mask, LevelBit}
-use Rattle.facts.specs.{PulseBit, ShareBit, IrqAttributesBad, IrqInfoBad, Named}
-use Rattle.table_read.specs.{HasJust}
-use Rattle.table_read.proofs.{exactly-one}
+-- None of the clauses of a packet's checks applies. Assumes nothing.
+use Rattle.facts.proofs.{says-eq, says-as, says-false}
+use Rattle.facts.proofs.Words.{_≡_, refl, Bool, true, false, Says, eqb, inl, inr, _≢_, List, ℕ, _^_, _≤_, Bool, Says}
+use Rattle.facts.specs.{exclusiveType, dynamicType, attributesOf, info2, typeAsked, levelAsked, ForcePulse, IrqFirstShared, Mask, LevelBit}
+use Rattle.irq_packets.specs.{both}
+use Rattle.facts.specs.{PulseBit, ShareBit, IrqAttributesBad, IrqInfoBad}
 
 module _ (p : List ℕ) where
   -- of the attributes
@@ -23,17 +23,14 @@ module _ (p : List ℕ) where
   info-good neither level none (inr (inl x)) = level x
   info-good neither level none (inr (inr x)) = none x
 
-  -- the levels named: those of IRQInfo2, or the one of the low four bits
-  pub named-by-mask : Mask p → (set : ℕ) → set ≡ info2 p → HasJust set (Named p)
-  named-by-mask m set e = rw e (record { has = of-each; only = λ l b. inl (m, b) })
-    where
-      of-each : (l : ℕ) → Named p l → bit (info2 p) l ≡ 1
-      of-each l (inl x) = x .1
-      of-each l (inr x) = absurd (x .0 m)
+-- whether a number that was read is n
+pub says-read : {x y : ℕ} → x ≡ y → (n : ℕ) → Says (eqb x n) (y ≡ n)
+says-read e n = rw e (says-eq _ n)
 
-  pub named-by-level : (Mask p → ⊥) → (set : ℕ) → set ≡ 2 ^ levelAsked p → HasJust set (Named p)
-  named-by-level n set e = rw e (exactly-one (levelAsked p) (inr (n, refl)) of-each)
-    where
-      of-each : (l : ℕ) → Named p l → levelAsked p ≡ l
-      of-each l (inl x) = absurd (n (x .0))
-      of-each l (inr x) = sym (x .1)
+-- what two answers say, both of them say
+pub says-both : {r a b : Bool} {P Q : Type 0} → Says a P → Says b Q → r ≡ both a b → Says r (P × Q)
+says-both {r} {a} {b} {P} {Q} p q e = rw e (in-each-case a p)
+  where
+    in-each-case : (a : Bool) → Says a P → Says (both a b) (P × Q)
+    in-each-case true p = says-as q (λ y. (p .holds refl, y)) (λ x. x .1)
+    in-each-case false p = says-false (λ x. p .fails refl (x .0))

@@ -1,7 +1,7 @@
--- The manner that a packet asks for, by its type and its bits; and what it writes. Assumes nothing.
-use Rattle.facts.proofs.Words.{_≡_, refl, ap, sym, _∙_, subst, _≢_, List, Bool, cond, ℕ, _+_, _^_, arith, eqb, eq-eqb, ne-eqb}
+-- What a packet asks for: the manner by its type and its bits, the levels by Mask, First Shared by its bit; and what is written. Assumes nothing.
+use Rattle.facts.proofs.Words.{_≡_, refl, ap, sym, _∙_, subst, _≢_, List, Bool, cond, ℕ, _+_, _^_, arith, eqb, eq-eqb, ne-eqb, Says, true, false}
 use Rattle.facts.specs.{Manner, Exclusive, TimeMultiplexed, DynamicLevel, DynamicPulse, withWord, exclusiveType, timeMultiplexedType, attributesOf}
-use Rattle.facts.specs.{dynamicOf, withPulse}
+use Rattle.facts.specs.{dynamicOf, withPulse, Mask, info2, levelAsked, levelsNamed, bit, info1}
 
 -- dynamic: by Force Pulse, and by the card's Level bit
 module _ (force level : ℕ) where
@@ -39,6 +39,17 @@ module _ (type : ℕ) (dynamic : Manner) where
 
   pub dynamic-is : type ≢ exclusiveType → type ≢ timeMultiplexedType → dynamic ≡ byType
   dynamic-is d e = sym (ap kind (ne-eqb type exclusiveType d) ∙ ap shared (ne-eqb type timeMultiplexedType e))
+
+-- the levels: those of IRQInfo2, or the one of the low four bits
+module _ (p : List ℕ) where
+  abbrev by : Bool → ℕ
+  by t = cond t (info2 p) (2 ^ levelAsked p)
+
+  pub masked : Mask p → info2 p ≡ levelsNamed p
+  masked m = sym (ap by (eq-eqb (bit (info1 p) 4) 1 m))
+
+  pub one-level : (Mask p → ⊥) → 2 ^ levelAsked p ≡ levelsNamed p
+  one-level n = sym (ap by (ne-eqb (bit (info1 p) 4) 1 n))
 
 -- attribute bit 8 is written for dynamic pulse, and for no other manner
 pub no-pulse : (m : Manner) (p : List ℕ) → m ≢ DynamicPulse → p ≡ withPulse m p

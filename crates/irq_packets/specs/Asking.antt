@@ -1,11 +1,17 @@
 -- What the checks of RequestIRQ's packet answer. Assumes nothing.
 use mathlib.Core.List.{List}
+use mathlib.Core.Bool.{Bool, true, false}
 use Prim.Native.Nat.{ℕ}
 use Rattle.facts.specs.Irq.{IrqAttributesBad, IrqInfoBad}
 use Rattle.irq_packets.specs.declared.Attributes.{Attributes}
 use Rattle.irq_packets.specs.declared.Attributes.the-variants as attributes
 use Rattle.irq_packets.specs.declared.Info.{Info}
 use Rattle.irq_packets.specs.declared.Info.the-variants as info
+
+-- both answers are yes
+abbrev pub both : Bool → Bool → Bool
+both true b = b
+both false b = false
 
 -- the attributes are refused, or not
 abbrev pub AttributesAre : List ℕ → Attributes → Type 0

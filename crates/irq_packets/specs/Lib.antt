@@ -1,3 +1,3 @@
 -- What the contracts of `irq_packets` cite. Assumes nothing.
 pub mod Asking
-pub use Asking.{AttributesAre, InfoIs}
+pub use Asking.{both, AttributesAre, InfoIs}

@@ -1,4 +1,5 @@
 // The packets of RequestIRQ and ReleaseIRQ: what they ask for, and what a grant writes.
+use facts::IrqAsked;
 use facts::Manner;
 use irq_levels::DYNAMIC_TYPE;
 use irq_levels::EXCLUSIVE_TYPE;
@@ -14,9 +15,9 @@ ghost use Rattle.facts.specs.Packets.{bit};
 ghost use Rattle.facts.specs.Levels.{exclusiveType, dynamicType};
 ghost use Rattle.facts.specs.declared.Manner.the-variants.{DynamicPulse};
 ghost use Rattle.facts.specs.Irq.{requestIrqLength, attributesOf, info1, info2, typeAsked, levelAsked, mannerAsked, dynamicOf};
-ghost use Rattle.facts.specs.Irq.{withPulse, assigning};
-ghost use Rattle.facts.specs.Irq.{ForcePulse, IrqFirstShared, Mask, LevelBit, PulseBit, ShareBit, Named};
-ghost use Rattle.table_read.specs.Sets.{HasJust};
+ghost use Rattle.facts.specs.Irq.{levelsNamed, irqAsked, withPulse, assigning};
+ghost use Rattle.facts.specs.Irq.{ForcePulse, IrqFirstShared, Mask, LevelBit, PulseBit, ShareBit};
+ghost use Rattle.irq_packets.specs.Asking;
 ghost use Rattle.irq_packets.specs.Asking.{AttributesAre, InfoIs};
 
 // RequestIRQ's packet (5.53), and up to AssignedIRQ ReleaseIRQ's (5.45): where its fields stand.
@@ -50,6 +51,13 @@ const PULSE: usize = 6;
 
 const SHARE: usize = 7;
 
+// Whether two answers are both yes.
+fn both(a: bool, b: bool) -> bool
+    ensures { λ r. ⌜ r ≡ Asking.both a b ⌝ }
+{
+    if a { b } else { false }
+}
+
 fn attribute_set(p: &[u8], place: usize) -> bool
     requires { ⌜ (3 < length (now p)) × (place < 16) ⌝ }
     ensures { λ r. ⌜ Says r (bit (attributesOf (now (p .entry))) place ≡ 1) ⌝ }
@@ -71,7 +79,7 @@ pub fn type_asked(p: &[u8]) -> u8
     (table_read::word(p, ATTRIBUTES_AT) % ALL_TYPES) as u8
 }
 
-pub fn first_shared(p: &[u8]) -> bool
+fn first_shared(p: &[u8]) -> bool
     requires { ⌜ length (now p) ≡ requestIrqLength ⌝ }
     ensures { λ r. ⌜ Says r (IrqFirstShared (now (p .entry))) ⌝ }
 {
@@ -83,10 +91,7 @@ fn first_exclusive(p: &[u8]) -> bool
     requires { ⌜ length (now p) ≡ requestIrqLength ⌝ }
     ensures { λ r. ⌜ Says r (IrqFirstShared (now (p .entry)) × (typeAsked (now (p .entry)) ≡ exclusiveType)) ⌝ }
 {
-    if !first_shared(p) {
-        return false;
-    }
-    type_asked(p) == EXCLUSIVE_TYPE
+    both(first_shared(p), type_asked(p) == EXCLUSIVE_TYPE)
 }
 
 // "Force Pulse without the card's Pulse bit"
@@ -94,10 +99,7 @@ fn forced_unable(p: &[u8]) -> bool
     requires { ⌜ length (now p) ≡ requestIrqLength ⌝ }
     ensures { λ r. ⌜ Says r (ForcePulse (now (p .entry)) × (PulseBit (now (p .entry)) → ⊥)) ⌝ }
 {
-    if !attribute_set(p, FORCE_PULSE) {
-        return false;
-    }
-    !info_set(p, PULSE)
+    both(attribute_set(p, FORCE_PULSE), !info_set(p, PULSE))
 }
 
 // "dynamic sharing without its Share bit"
@@ -105,10 +107,7 @@ fn dynamic_unable(p: &[u8]) -> bool
     requires { ⌜ length (now p) ≡ requestIrqLength ⌝ }
     ensures { λ r. ⌜ Says r ((typeAsked (now (p .entry)) ≡ dynamicType) × (ShareBit (now (p .entry)) → ⊥)) ⌝ }
 {
-    if type_asked(p) != DYNAMIC_TYPE {
-        return false;
-    }
-    !info_set(p, SHARE)
+    both(type_asked(p) == DYNAMIC_TYPE, !info_set(p, SHARE))
 }
 
 // Whether the attributes are ones that a request may have.
@@ -144,10 +143,7 @@ fn neither(p: &[u8]) -> bool
     requires { ⌜ length (now p) ≡ requestIrqLength ⌝ }
     ensures { λ r. ⌜ Says r ((LevelBit (now (p .entry)) → ⊥) × (PulseBit (now (p .entry)) → ⊥)) ⌝ }
 {
-    if info_set(p, LEVEL) {
-        return false;
-    }
-    !info_set(p, PULSE)
+    both(!info_set(p, LEVEL), !info_set(p, PULSE))
 }
 
 fn level_asked(p: &[u8]) -> usize
@@ -162,10 +158,7 @@ fn mask_and_level(p: &[u8]) -> bool
     requires { ⌜ length (now p) ≡ requestIrqLength ⌝ }
     ensures { λ r. ⌜ Says r (Mask (now (p .entry)) × (levelAsked (now (p .entry)) ≢ 0)) ⌝ }
 {
-    if !info_set(p, MASK) {
-        return false;
-    }
-    level_asked(p) != 0
+    both(info_set(p, MASK), level_asked(p) != 0)
 }
 
 // "or with IRQInfo2 0"
@@ -173,10 +166,7 @@ fn mask_of_none(p: &[u8]) -> bool
     requires { ⌜ length (now p) ≡ requestIrqLength ⌝ }
     ensures { λ r. ⌜ Says r (Mask (now (p .entry)) × (info2 (now (p .entry)) ≡ 0)) ⌝ }
 {
-    if !info_set(p, MASK) {
-        return false;
-    }
-    table_read::word(p, INFO_2_AT) == 0
+    both(info_set(p, MASK), table_read::word(p, INFO_2_AT) == 0)
 }
 
 // Whether IRQInfo1 and IRQInfo2 are ones that a request may have.
@@ -216,7 +206,7 @@ fn dynamic(p: &[u8]) -> Manner
 }
 
 // The manner that a request asks for.
-pub fn manner_asked(p: &[u8]) -> Manner
+fn manner_asked(p: &[u8]) -> Manner
     requires { ⌜ length (now p) ≡ requestIrqLength ⌝ }
     ensures { λ r. ⌜ r ≡ mannerAsked (now (p .entry)) ⌝ }
 {
@@ -229,14 +219,29 @@ pub fn manner_asked(p: &[u8]) -> Manner
 }
 
 // "With Mask clear, the low four bits name one level and IRQInfo2 is ignored.": a bit for each level that is named.
-pub fn named(p: &[u8]) -> usize
+fn levels_named(p: &[u8]) -> usize
     requires { ⌜ length (now p) ≡ requestIrqLength ⌝ }
-    ensures { λ r. ⌜ HasJust r (Named (now (p .entry))) ⌝ }
+    ensures { λ r. ⌜ r ≡ levelsNamed (now (p .entry)) ⌝ }
 {
     if info_set(p, MASK) {
         return table_read::word(p, INFO_2_AT);
     }
     1 << level_asked(p)
+}
+
+// What a request asks for: its packet, read once.
+pub fn asked(p: &[u8]) -> IrqAsked
+    requires { ⌜ length (now p) ≡ requestIrqLength ⌝ }
+    ensures { λ r. ⌜ r ≡ irqAsked (now (p .entry)) ⌝ }
+{
+    let manner = manner_asked(p);
+    let named = levels_named(p);
+    let first = first_shared(p);
+    IrqAsked {
+        manner,
+        named,
+        first,
+    }
 }
 
 // "for dynamic pulse only, attribute bit 8"

@@ -1,180 +1,128 @@
 -- Each way in which RequestIRQ and ReleaseIRQ end is the rule's. Assumes nothing.
-use Rattle.facts.proofs.Words.{_≡_, refl, ap, sym, _∙_, subst, inl, inr, _≢_, List, [], _∷_, false, none, some, Option·none-ne-some, ℕ, _+_, _<_}
-use Rattle.facts.proofs.Words.{arith, length, set, length-set}
+use Rattle.facts.proofs.Words.{_≡_, refl, ap, sym, _∙_, inl, inr, _≢_, List, [], _∷_, none, some, Option·none-ne-some, ℕ, _+_, _<_}
+use Rattle.facts.proofs.Words.{Option·some-injective, set}
 use Rattle.layout.proofs.Of
-use Rattle.service_checks.proofs.Begin
-use Rattle.facts.specs.{Code, Success, BadAttribute, BadIrq, NoCard, BadArgs, InUse, Manner, Facts, IrqGrant, byte, word, withWord, typeOf, Check}
-use Rattle.facts.specs.{_gives_, FirstGiven, Outcome, Leaves, socketOf, RequestIrq, ReleaseIrq, requestIrqLength, releaseIrqLength, typeAsked}
-use Rattle.facts.specs.{assignedIrq, mannerAsked, assigning, withIrq, irqGrant, GrantsIrq, IrqHeld, IrqAttributesBad, IrqInfoBad, LevelTaken}
-use Rattle.facts.specs.{NoLevelFits, ownIrqChecks, levelChecks, irqRequestChecks, irqReleaseChecks, mostSockets}
+use Rattle.facts.specs.{Code, Success, BadAttribute, BadIrq, BadArgs, InUse, Manner, Facts, IrqGrant, withWord, typeOf, Check, _gives_, Leaves}
+use Rattle.facts.specs.{socketOf, seatOf, irqAsked, RequestIrq, ReleaseIrq, requestIrqLength, releaseIrqLength, typeAsked, assignedIrq, mannerAsked}
+use Rattle.facts.specs.{assigning, withIrq, irqGrant, GrantsIrq, IrqHeld, IrqAttributesBad, IrqInfoBad, LevelTaken, NoLevelFits, ownIrqChecks, levelChecks}
 use Rattle.facts.proofs.{taken-fits}
-use Rattle.layout.specs.{image, mannerByte, irqPlace, irqIn, mannerOf, Accepted, IrqUsed, ServedBy, irqEntered, cardsAt, irqLevelAt, irqMannerAt}
-use Rattle.layout.specs.{tableSize}
-use Rattle.layout.proofs.{manner-most, word-length, level-is, manner-is, left, refused-by, done-by}
-use Rattle.layout.proofs.Irqs.{client-is, granted-image, released-image}
-use Rattle.service_checks.proofs.{Begun, Begins, in-sockets, positive}
-use Rattle.irq_services.specs.{RecordSays}
+use Rattle.layout.specs.{mannerByte, irqPlace, factsIn, Accepted, ServedBy, irqEntered, irqLevelAt, irqMannerAt}
+use Rattle.layout.proofs.{left}
+use Rattle.layout.proofs.Irqs.{granted-image, released-image}
+use Rattle.service_checks.specs.{BegunAt}
+use Rattle.service_checks.specs.declared.CardNeed.{CardNeed}
+use Rattle.service_checks.specs.declared.CardNeed.the-variants.{Needed, Ignored}
+use Rattle.service_checks.proofs.{seat-named, in-seats, Service, refused-own, done-own}
+use Rattle.seats.specs.{LevelHeldIs, irqAt, grant}
+use Rattle.seats.specs.declared.HeldLevel.{HeldLevel}
+use Rattle.seats.specs.declared.IrqSeat.{IrqSeat}
+use Rattle.seats.specs.declared.IrqSeat.the-variants as seat
+use Rattle.seats.proofs.{irq-held}
+use Rattle.irq_services.specs.declared.Grant.{Grant}
+use Rattle.irq_services.specs.declared.Grant.the-variants as held
+use Rattle.irq_services.specs.{GrantIs}
 
--- the rules, of a packet
-abbrev pub Requests : ℕ → List ℕ → Facts → Outcome → Type 0
-Requests h p F = RequestIrq F h p
+-- a release's own checks
+abbrev unheld : Facts → ℕ → List ℕ → Check
+unheld F h p = ((g : IrqGrant) → IrqHeld F h (seatOf (socketOf p)) (assignedIrq p) g → ⊥) gives BadIrq
 
-abbrev pub Releases : ℕ → List ℕ → Facts → Outcome → Type 0
-Releases h p F = ReleaseIrq F h p
+abbrev differs : Facts → ℕ → List ℕ → Check
+differs F h p = ((g : IrqGrant) × IrqHeld F h (seatOf (socketOf p)) (assignedIrq p) g × (typeOf (g .manner) ≢ typeAsked p)) gives BadAttribute
 
-pub byte-small : (m : Manner) → mannerByte m < 256
-byte-small m = omega (arith, manner-most m)
+-- the two services
+abbrev pub requesting : Service
+requesting = record { need = Needed; bytes = requestIrqLength; own = λ F h p. ownIrqChecks F p (levelChecks F (irqAsked p)); done = GrantsIrq }
+
+abbrev pub releasing : Service
+releasing =
+    record {
+      need = Ignored;
+      bytes = releaseIrqLength;
+      own = λ F h p. unheld F h p ∷ differs F h p ∷ [];
+      done = λ F h p. Leaves h p (withIrq F (seatOf (socketOf p)) none);
+    }
 
 -- a record's writes, one after the other
-pub enters : (b b₁ : List ℕ) (s client level manner : ℕ) → b₁ ≡ withWord b (irqPlace s) client
-    → set (set b₁ (irqPlace s + irqLevelAt) level) (irqPlace s + irqMannerAt) manner ≡ irqEntered b s client level manner
+pub enters : (b b₁ : List ℕ) (at s client : ℕ) → at ≡ irqPlace s → b₁ ≡ withWord b at client → (level manner : ℕ)
+    → set (set b₁ (at + irqLevelAt) level) (at + irqMannerAt) manner ≡ irqEntered b s client level manner
 unfolding irqEntered
-enters b b₁ s client level manner e = ap (λ (x : List ℕ). set (set x (irqPlace s + irqLevelAt) level) (irqPlace s + irqMannerAt) manner) e
+enters b b₁ at s client place put level manner = rw (put, place)
 
-pub enters-within : (b b₁ : List ℕ) (s client level : ℕ) → length b ≡ tableSize → s < mostSockets → b₁ ≡ withWord b (irqPlace s) client
-    → irqPlace s + irqMannerAt < length (set b₁ (irqPlace s + irqLevelAt) level)
-enters-within b b₁ s client level size l e =
-    let same : length b₁ ≡ length b = ap length e ∙ word-length b (irqPlace s) client in
-    omega (arith, length-set b₁ (irqPlace s + irqLevelAt) level, same, size)
+-- what is held at a seat: nothing, or one grant
+module _ (F : Facts) (h s l : ℕ) where
+  pub none-held : F .irq s ≡ none → (g : IrqGrant) → IrqHeld F h s l g → ⊥
+  none-held e g x = Option·none-ne-some g (sym e ∙ x .live)
 
--- the client is live and the socket is named: the socket's grant
-module _ (b p : List ℕ) (a : Accepted b) {n h s : ℕ} (begun : Begun b p n h s) where
-  free : (IrqUsed b s → ⊥) → a .facts .irq (socketOf p) ≡ none
-  free d =
-      subst (λ (t : ℕ). a .facts .irq t ≡ none) (begun .socket .number)
-      (Of.none-said (λ (g : IrqGrant). g .client) (a .facts .irq s) (word b (irqPlace s)) (Of.irq-of b a s (in-sockets b p a begun)) d)
+  pub held-is : (y : IrqGrant) → F .irq s ≡ some y → (g : IrqGrant) → IrqHeld F h s l g → y ≡ g
+  held-is y e g x = Option·some-injective y g (sym e ∙ x .live)
 
-  grant-is : IrqUsed b s → a .facts .irq (socketOf p) ≡ some (irqIn b s)
-  grant-is u = subst (λ (t : ℕ). a .facts .irq t ≡ some (irqIn b s)) (begun .socket .number) (Of.irq-said b a s (in-sockets b p a begun) u)
+  pub so-held : (y : IrqGrant) → F .irq s ≡ some y → y .client ≡ h → y .level ≡ l
+      → IrqHeld F h s l (record { client = h; level = l; manner = y .manner })
+  so-held y e client level = record { live = rw (← client, ← level) e; client = refl; level = refl }
 
-  used : a .facts .irq (socketOf p) ≡ none → IrqUsed b s → ⊥
-  used e u = Option·none-ne-some (irqIn b s) (sym e ∙ grant-is u)
+-- the service has begun: what is read of its seat is so of the packet's socket
+module _ {b p : List ℕ} {n h i s : ℕ} {need : CardNeed} (a : Accepted b) (begun : BegunAt b p n h need i s) where
+  read : (r : IrqSeat) → LevelHeldIs b s r → a .facts .irq (seatOf (socketOf p)) ≡ irqAt r
+  read r is = rw (← seat-named a begun) (irq-held b s (in-seats a begun) a r is)
 
-  -- this client holds this level on this socket exactly if the record says so
-  held : (l : ℕ) → RecordSays b s h l → IrqHeld (a .facts) h (socketOf p) l (irqIn b s)
-  held l x =
-      record {
-        live = grant-is (λ z. omega (arith, z, x .client, positive b p a begun));
-        client = client-is b s ∙ x .client;
-        level = level-is b s ∙ x .level;
-      }
+  granted : (l : ℕ) (r : Grant) → GrantIs (factsIn b) h s l r → GrantIs (a .facts) h (seatOf (socketOf p)) l r
+  granted l r x = rw (Of.facts-in b a, ← seat-named a begun) x
 
-  only : (l : ℕ) (g : IrqGrant) → IrqHeld (a .facts) h (socketOf p) l g → irqIn b s ≡ g
-  only l g x = Of.said-irq b a s g (subst (λ (t : ℕ). a .facts .irq t ≡ some g) (sym (begun .socket .number)) (x .live)) .2
+module _ {b p : List ℕ} {h i s : ℕ} (a : Accepted b) (begun : BegunAt b p requestIrqLength h Needed i s) where
+  abbrev Requested : List ℕ → List ℕ → Code → ℕ → Type 0
+  Requested b′ p′ k handle = ServedBy (λ (F : Facts). RequestIrq F h p) b b′ p′ k handle
 
-  says : (l : ℕ) (g : IrqGrant) → IrqHeld (a .facts) h (socketOf p) l g → RecordSays b s h l
-  says l g x =
-      let e = only l g x in
-      record {
-        client = sym (client-is b s) ∙ ap (λ (y : IrqGrant). y .client) e ∙ x .client;
-        level = sym (level-is b s) ∙ ap (λ (y : IrqGrant). y .level) e ∙ x .level;
-      }
+  pub request-attributes : IrqAttributesBad p → Requested b p BadAttribute 0
+  request-attributes x = refused-own requesting a begun BadAttribute (inl (x, refl))
 
-module _ (b p : List ℕ) (a : Accepted b) (h : ℕ) where
-  -- a request's own checks, and those past the socket
-  abbrev own : List Check
-  own = ownIrqChecks (a .facts) p (levelChecks (a .facts) p)
+  module _ (attributes : IrqAttributesBad p → ⊥) where
+    pub request-info : IrqInfoBad p → Requested b p BadArgs 0
+    request-info x = refused-own requesting a begun BadArgs (inr (attributes, inl (x, refl)))
 
-  abbrev past-socket : List Check
-  past-socket = ((a .facts .card (socketOf p) ≡ false) gives NoCard) ∷ own
+    module _ (info : IrqInfoBad p → ⊥) where
+      pub request-held : (x : HeldLevel) → LevelHeldIs b s (seat.Held x) → Requested b p InUse 0
+      request-held x is =
+          refused-own requesting a begun InUse
+          (inr (attributes, inr (info, inl ((λ e. Option·none-ne-some (grant x) (sym e ∙ read a begun (seat.Held x) is)), refl))))
 
-  request-refused : (k : Code) → FirstGiven (irqRequestChecks (a .facts) h p) k → ServedBy (Requests h p) b b p k 0
-  request-refused = refused-by (λ (F : Facts). irqRequestChecks F h p) (λ (F : Facts). GrantsIrq F h p) b p a
+      module _ (free : LevelHeldIs b s seat.Free) where
+        unused : a .facts .irq (seatOf (socketOf p)) ≢ none → ⊥
+        unused d = d (read a begun seat.Free free)
 
-  pub request-begins : Begins (Requests h p) b p requestIrqLength h
-  request-begins = Begin.begins b p a requestIrqLength h past-socket (Requests h p) request-refused
+        pub request-none : NoLevelFits (a .facts) (irqAsked p) → Requested b p BadIrq 0
+        request-none x = refused-own requesting a begun BadIrq (inr (attributes, inr (info, inr (unused, inl (x, refl)))))
 
-  module _ {s : ℕ} (begun : Begun b p requestIrqLength h s) where
-    pub request-no-card : byte b (cardsAt + s) ≢ 1 → ServedBy (Requests h p) b b p NoCard 0
-    request-no-card d = request-refused NoCard (Begin.no-card b p a requestIrqLength h own begun d)
+        -- a level is taken: its grant is entered, and the packet says it
+        pub request-done : (l : ℕ) → LevelTaken (a .facts) (irqAsked p) l → h < 65536
+            → Requested (irqEntered b s h l (mannerByte (mannerAsked p))) (assigning p l) Success h
+        request-done l taken low =
+            let grant = irqGrant h (irqAsked p) l in
+            let after = withIrq (a .facts) (seatOf (socketOf p)) (some grant) in
+            done-own requesting a begun (irqEntered b s h l (mannerByte (mannerAsked p))) (assigning p l) after
+            (attributes, (info, (unused, ((λ x. x l (taken-fits (a .facts) (a .formed) (irqAsked p) l taken)), tt))))
+            (record { level = l; taken = taken; leaves = left h (assigning p l) after })
+            (rw (← seat-named a begun) (granted-image b a s (in-seats a begun) grant low))
 
-    module _ (card : byte b (cardsAt + s) ≡ 1) where
-      first : (k : Code) → FirstGiven own k → ServedBy (Requests h p) b b p k 0
-      first k f = request-refused k (Begin.request-first b p a requestIrqLength h own begun card k f)
+module _ {b p : List ℕ} {h i s : ℕ} (a : Accepted b) (begun : BegunAt b p releaseIrqLength h Ignored i s) where
+  abbrev Released : List ℕ → Code → ℕ → Type 0
+  Released b′ k handle = ServedBy (λ (F : Facts). ReleaseIrq F h p) b b′ p k handle
 
-      pub request-attributes : IrqAttributesBad p → ServedBy (Requests h p) b b p BadAttribute 0
-      request-attributes x = first BadAttribute (inl (x, refl))
+  pub release-unheld : GrantIs (factsIn b) h s (assignedIrq p) held.Other → Released b BadIrq 0
+  release-unheld d = refused-own releasing a begun BadIrq (inl (granted a begun _ held.Other d, refl))
 
-      module _ (attributes : IrqAttributesBad p → ⊥) where
-        pub request-info : IrqInfoBad p → ServedBy (Requests h p) b b p BadArgs 0
-        request-info x = first BadArgs (inr (attributes, inl (x, refl)))
+  -- the client holds the level, in this manner
+  module _ (m : Manner) (x : GrantIs (factsIn b) h s (assignedIrq p) (held.Held m)) where
+    holds : GrantIs (a .facts) h (seatOf (socketOf p)) (assignedIrq p) (held.Held m)
+    holds = granted a begun _ (held.Held m) x
 
-        module _ (info : IrqInfoBad p → ⊥) where
-          pub request-held : IrqUsed b s → ServedBy (Requests h p) b b p InUse 0
-          request-held u = first InUse (inr (attributes, inr (info, inl ((λ e. used b p a begun e u), refl))))
+    pub release-differs : typeOf m ≢ typeAsked p → Released b BadAttribute 0
+    release-differs d = refused-own releasing a begun BadAttribute (inr ((λ n. n _ holds), inl ((_, holds, d), refl)))
 
-          module _ (unused : IrqUsed b s → ⊥) where
-            pub request-none : NoLevelFits (a .facts) p → ServedBy (Requests h p) b b p BadIrq 0
-            request-none x =
-                first BadIrq (inr (attributes, inr (info, inr ((λ d. d (free b p a begun unused)), inl (x, refl)))))
+    alike : typeOf m ≡ typeAsked p → differs (a .facts) h p .when → ⊥
+    alike same y = y .2 (ap (λ (g : IrqGrant). typeOf (g .manner)) (sym (held-is _ _ _ _ _ (holds .live) (y .0) (y .1))) ∙ same)
 
-            -- a level is taken: its grant is entered, and the packet says it
-            pub request-done : (l : ℕ) → LevelTaken (a .facts) p l → h < 65536
-                → ServedBy (Requests h p) b (irqEntered b s h l (mannerByte (mannerAsked p))) (assigning p l) Success h
-            request-done l taken low =
-                done-by (λ (F : Facts). irqRequestChecks F h p) (λ (F : Facts). GrantsIrq F h p) b p a
-                (irqEntered b s h l (mannerByte (mannerAsked p))) (assigning p l) h after
-                (Begin.request-passed b p a requestIrqLength h own begun card
-                (attributes, (info, ((λ d. d (free b p a begun unused)), ((λ x. x l (taken-fits (a .facts) (a .formed) p l taken)), tt)))))
-                (record { level = l; taken = taken; leaves = left h (assigning p l) after }) entered
-              where
-                after : Facts
-                after = withIrq (a .facts) (socketOf p) (some (irqGrant h p l))
-
-                entered : image after ≡ irqEntered b s h l (mannerByte (mannerAsked p))
-                entered =
-                    ap (λ (t : ℕ). image (withIrq (a .facts) t (some (irqGrant h p l)))) (sym (begun .socket .number))
-                    ∙ granted-image b a s (in-sockets b p a begun) (irqGrant h p l) low
-
-  -- a release's own checks
-  abbrev unheld : Check
-  unheld = ((g : IrqGrant) → IrqHeld (a .facts) h (socketOf p) (assignedIrq p) g → ⊥) gives BadIrq
-
-  abbrev differs : Check
-  differs = ((g : IrqGrant) × IrqHeld (a .facts) h (socketOf p) (assignedIrq p) g × (typeOf (g .manner) ≢ typeAsked p)) gives BadAttribute
-
-  abbrev owned : List Check
-  owned = unheld ∷ differs ∷ []
-
-  release-refused : (k : Code) → FirstGiven (irqReleaseChecks (a .facts) h p) k → ServedBy (Releases h p) b b p k 0
-  release-refused =
-      refused-by (λ (F : Facts). irqReleaseChecks F h p) (λ (F : Facts). Leaves h p (withIrq F (socketOf p) none)) b p a
-
-  pub release-begins : Begins (Releases h p) b p releaseIrqLength h
-  release-begins = Begin.begins b p a releaseIrqLength h owned (Releases h p) release-refused
-
-  module _ {s : ℕ} (begun : Begun b p releaseIrqLength h s) where
-    first-owned : (k : Code) → FirstGiven owned k → ServedBy (Releases h p) b b p k 0
-    first-owned k f = release-refused k (Begin.then-first b p a releaseIrqLength h owned begun k f)
-
-    pub release-unheld : (RecordSays b s h (assignedIrq p) → ⊥) → ServedBy (Releases h p) b b p BadIrq 0
-    release-unheld d = first-owned BadIrq (inl ((λ g x. d (says b p a begun (assignedIrq p) g x)), refl))
-
-    module _ (x : RecordSays b s h (assignedIrq p)) (m : Manner) (e : m ≡ mannerOf (byte b (irqPlace s + irqMannerAt))) where
-      -- the grant, and its manner
-      holds : IrqHeld (a .facts) h (socketOf p) (assignedIrq p) (irqIn b s)
-      holds = held b p a begun (assignedIrq p) x
-
-      manner : irqIn b s .manner ≡ m
-      manner = manner-is b s ∙ sym e
-
-      pub release-differs : typeOf m ≢ typeAsked p → ServedBy (Releases h p) b b p BadAttribute 0
-      release-differs d =
-          first-owned BadAttribute
-          (inr ((λ n. n (irqIn b s) holds), inl ((irqIn b s, holds, λ q. d (ap typeOf (sym manner) ∙ q)), refl)))
-
-      pub release-done : typeOf m ≡ typeAsked p → ServedBy (Releases h p) b (irqEntered b s 0 0 0) p Success h
-      release-done same =
-          done-by (λ (F : Facts). irqReleaseChecks F h p) (λ (F : Facts). Leaves h p (withIrq F (socketOf p) none)) b p a (irqEntered b s 0 0 0) p
-          h
-          after
-          (Begin.then-passed b p a releaseIrqLength h owned begun ((λ n. n (irqIn b s) holds), (alike, tt))) (left h p after)
-          (ap (λ (t : ℕ). image (withIrq (a .facts) t none)) (sym (begun .socket .number))
-          ∙ released-image b a s (in-sockets b p a begun))
-        where
-          after : Facts
-          after = withIrq (a .facts) (socketOf p) none
-
-          alike : differs .when → ⊥
-          alike y =
-              y .2 (ap (λ (g : IrqGrant). typeOf (g .manner)) (sym (only b p a begun (assignedIrq p) (y .0) (y .1))) ∙ ap typeOf manner ∙ same)
+    pub release-done : typeOf m ≡ typeAsked p → Released (irqEntered b s 0 0 0) Success h
+    release-done same =
+        let after = withIrq (a .facts) (seatOf (socketOf p)) none in
+        done-own releasing a begun (irqEntered b s 0 0 0) p after ((λ n. n _ holds), (alike same, tt)) (left h p after)
+        (rw (← seat-named a begun) (released-image b a s (in-seats a begun)))

@@ -1,3 +1,3 @@
--- The number of sharers, said of the bytes and of the facts. Assumes nothing.
+-- The number of sharers: one seat more, and the answer. Assumes nothing.
 pub mod Counting
-pub use Counting.{sharer-none, sharer-one, sharer-other, sharers-more, sharers-past, sharers-done, count-done, count-refused}
+pub use Counting.{sharers-more, sharers-past, sharers-done, count-done, count-refused}

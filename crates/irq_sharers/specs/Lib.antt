@@ -1,4 +1,3 @@
 -- What the contracts of `irq_sharers` cite. Assumes nothing.
 pub mod Sharing
-pub use Sharing.{sharerIn, countOf}
-unfoldable pub use Sharing.{sharersIn}
+pub use Sharing.{countOf}

@@ -1,47 +1,44 @@
 // The number of sharers of an IRQ level, on a table that is the image of a well-formed set.
 use facts::Code;
-use facts::Socket;
+use facts::Seat;
 use irq_levels::LevelNumber;
-use layout::IRQ_LEVEL_AT;
-use layout::IRQ_SIZE;
-use layout::IRQS_AT;
 use layout::SOCKETS_IN;
+use seats::IrqSeat;
 ghost use mathlib.Core.Path.{_≡_};
 ghost use Prim.Native.Nat.{_≤_, _<_};
 ghost use lib.ListN.{length};
 ghost use Rattle.facts.specs.Table;
-ghost use Rattle.layout.specs.Layout.{tableSize};
-ghost use Rattle.layout.specs.Reading.{socketsIn};
-ghost use Rattle.layout.specs.Sound.{Accepted};
+ghost use Rattle.facts.specs.Irq;
 ghost use Rattle.facts.specs.Codes.{packed};
-ghost use Rattle.irq_sharers.specs.Sharing.{CountsSharers, countOf, sharerIn, sharersIn};
+ghost use Rattle.layout.specs.Layout.{tableSize};
+ghost use Rattle.layout.specs.Reading.{socketsIn, factsIn};
+ghost use Rattle.layout.specs.Sound.{Accepted};
+ghost use Rattle.irq_sharers.specs.Sharing.{CountsSharers, countOf};
 
-// One for a grant of the socket on the level, else none.
-fn sharer(t: &[u8], level: usize, socket: Socket) -> usize
-    requires { ⌜ (length (now t) ≡ tableSize) × (socket .0 < Table.mostSockets) ⌝ }
-    ensures { λ r. ⌜ (r ≡ sharerIn (now (t .entry)) level (socket .0)) × (r ≤ 1) ⌝ }
+// One for a grant of the level at the seat, else none.
+fn sharer(t: &[u8], level: usize, s: Seat) -> usize
+    requires { ⌜ (length (now t) ≡ tableSize) × (s .0 < Table.mostSeats) ⌝ }
+    ensures { λ r. ⌜ (r ≡ Irq.sharer level (factsIn (now (t .entry)) .irq (s .0))) × (r ≤ 1) ⌝ }
 {
-    let number = socket.0;
-    let at = IRQS_AT + number * IRQ_SIZE;
-    if table_read::word(t, at) == 0 {
+    let IrqSeat::Held(held) = seats::level_held(t, s) else {
         return 0;
-    }
-    if table_read::byte(t, at + IRQ_LEVEL_AT) == level {
+    };
+    if held.level == level {
         return 1;
     }
     0
 }
 
-// The number of grants of the level on the sockets below the count.
+// The number of grants of the level at the seats below the count of sockets.
 fn count(t: &[u8], level: usize) -> usize
     requires { ⌜ (length (now t) ≡ tableSize) × (socketsIn (now t) ≤ Table.mostSockets) ⌝ }
-    ensures { λ r. ⌜ (r ≡ sharersIn (now (t .entry)) level (socketsIn (now (t .entry)))) × (r ≤ Table.mostSockets) ⌝ }
+    ensures { λ r. ⌜ (r ≡ Irq.sharersBelow (factsIn (now (t .entry))) level (socketsIn (now (t .entry)))) × (r ≤ Table.mostSockets) ⌝ }
 {
     let sockets = table_read::byte(t, SOCKETS_IN);
     let mut n = 0;
     let mut s = 0;
     while s < sockets {
-        n += sharer(t, level, Socket(s));
+        n += sharer(t, level, Seat(s));
         s += 1;
     }
     n

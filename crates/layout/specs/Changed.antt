@@ -4,6 +4,7 @@ use mathlib.Core.Logic.{_⊎_, _≢_}
 use mathlib.Core.List.{List}
 use Prim.Native.Nat.{ℕ, _+_, _≤_, _<_}
 use lib.ListN.{length, getD, set}
+use Rattle.facts.specs.Table.{Seat}
 use Rattle.facts.specs.Packets.{byte, withWord}
 use Rattle.layout.specs.Reading.{clientPlace, ioPlace, irqPlace}
 use Rattle.layout.specs.Layout.{clientAttributesAt, clientEventsAt, ioBaseAt, ioCountAt, ioLinesAt, ioSharedAt, irqLevelAt, irqMannerAt}
@@ -13,13 +14,13 @@ unfoldable pub entered : List ℕ → ℕ → ℕ → ℕ → ℕ → List ℕ
 entered b n h attributes events =
     set (withWord (withWord (withWord (withWord b (clientPlace n) h) (clientPlace n + clientAttributesAt) attributes) (clientPlace n + clientEventsAt) events) 3 h) 1 (n + 1)
 
--- the record of the I/O grant of the socket s: client, base, count, lines and shared mark
-unfoldable pub ioEntered : List ℕ → ℕ → ℕ → ℕ → ℕ → ℕ → ℕ → List ℕ
+-- the record of the I/O grant at the seat s: client, base, count, lines and shared mark
+unfoldable pub ioEntered : List ℕ → Seat → ℕ → ℕ → ℕ → ℕ → ℕ → List ℕ
 ioEntered b s client base count lines shared =
     set (set (set (withWord (withWord b (ioPlace s) client) (ioPlace s + ioBaseAt) base) (ioPlace s + ioCountAt) count) (ioPlace s + ioLinesAt) lines) (ioPlace s + ioSharedAt) shared
 
--- the record of the IRQ grant of the socket s: client, level and manner
-unfoldable pub irqEntered : List ℕ → ℕ → ℕ → ℕ → ℕ → List ℕ
+-- the record of the IRQ grant at the seat s: client, level and manner
+unfoldable pub irqEntered : List ℕ → Seat → ℕ → ℕ → ℕ → List ℕ
 irqEntered b s client level manner = set (set (withWord b (irqPlace s) client) (irqPlace s + irqLevelAt) level) (irqPlace s + irqMannerAt) manner
 
 -- the record of so many bytes at a place, in a part that ends at the end, is taken out: those after it stand one place lower, the last one is

@@ -69,7 +69,7 @@ abbrev pub maskSize : ℕ
 maskSize = 2
 
 abbrev pub clientSize : ℕ
-clientSize = clientMasksAt + Table.mostSockets * maskSize
+clientSize = clientMasksAt + Table.mostSeats * maskSize
 
 abbrev pub rangeSize : ℕ
 rangeSize = 7
@@ -85,10 +85,10 @@ abbrev pub iosAt : ℕ
 iosAt = levelsAt + Table.allLevels * levelSize
 
 abbrev pub irqsAt : ℕ
-irqsAt = iosAt + Table.mostSockets * ioSize
+irqsAt = iosAt + Table.mostSeats * ioSize
 
 abbrev pub clientsAt : ℕ
-clientsAt = irqsAt + Table.mostSockets * irqSize
+clientsAt = irqsAt + Table.mostSeats * irqSize
 
 abbrev pub rangesAt : ℕ
 rangesAt = clientsAt + Table.mostClients * clientSize
@@ -118,10 +118,10 @@ abbrev pub maskBytes : Option ℕ → List ℕ
 maskBytes none = two 0
 maskBytes (some m) = two (Table.allEvents + m)
 
--- handle, attributes, event mask, and a mask for each socket; a record that is not used is zero
+-- handle, attributes, event mask, and a mask for each seat; a record that is not used is zero
 abbrev pub clientBytes : Option Client → List ℕ
 clientBytes none = replicate clientSize 0
-clientBytes (some c) = two (c .handle) ++ two (c .attributes) ++ two (c .events) ++ each Table.mostSockets (λ s. maskBytes (c .mask s))
+clientBytes (some c) = two (c .handle) ++ two (c .attributes) ++ two (c .events) ++ each Table.mostSeats (λ s. maskBytes (c .mask s))
 
 abbrev pub levelBytes : Level → List ℕ
 levelBytes v = mark (v .managed) ∷ mark (v .reserved) ∷ []
@@ -162,10 +162,10 @@ unfoldable pub levels : Facts → List ℕ
 levels F = each Table.allLevels (λ l. levelBytes (F .level l))
 
 unfoldable pub ios : Facts → List ℕ
-ios F = each Table.mostSockets (λ s. ioBytes (F .io s))
+ios F = each Table.mostSeats (λ s. ioBytes (F .io s))
 
 unfoldable pub irqs : Facts → List ℕ
-irqs F = each Table.mostSockets (λ s. irqBytes (F .irq s))
+irqs F = each Table.mostSeats (λ s. irqBytes (F .irq s))
 
 unfoldable pub clients : Facts → List ℕ
 clients F = each Table.mostClients (λ i. clientBytes (getElem? (F .clients) i))

@@ -7,7 +7,7 @@ use lib.Dec.{eqb, ltb}
 use Rattle.facts.specs.declared.Manner.{Manner}
 use Rattle.facts.specs.declared.Manner.the-variants.{Exclusive, TimeMultiplexed, DynamicLevel, DynamicPulse}
 use Rattle.facts.specs.Table
-use Rattle.facts.specs.Table.{Facts, Client, Level, Range, Ports, IoGrant, IrqGrant}
+use Rattle.facts.specs.Table.{Facts, Seat, Client, Level, Range, Ports, IoGrant, IrqGrant}
 use Rattle.facts.specs.Packets.{byte, word, long}
 use Rattle.layout.specs.Layout
 
@@ -46,16 +46,16 @@ rangePlace i = Layout.rangesAt + i * Layout.rangeSize
 abbrev pub levelPlace : ℕ → ℕ
 levelPlace l = Layout.levelsAt + l * Layout.levelSize
 
-abbrev pub ioPlace : ℕ → ℕ
+abbrev pub ioPlace : Seat → ℕ
 ioPlace s = Layout.iosAt + s * Layout.ioSize
 
-abbrev pub irqPlace : ℕ → ℕ
+abbrev pub irqPlace : Seat → ℕ
 irqPlace s = Layout.irqsAt + s * Layout.irqSize
 
 abbrev pub handleIn : List ℕ → ℕ → ℕ
 handleIn b i = word b (clientPlace i)
 
-abbrev pub maskPlace : ℕ → ℕ → ℕ
+abbrev pub maskPlace : ℕ → Seat → ℕ
 maskPlace i s = clientPlace i + Layout.clientMasksAt + s * Layout.maskSize
 
 abbrev pub maskOf : ℕ → Option ℕ
@@ -67,7 +67,7 @@ clientIn b i =
       handle = handleIn b i;
       attributes = word b (clientPlace i + Layout.clientAttributesAt);
       events = word b (clientPlace i + Layout.clientEventsAt);
-      mask = below Table.mostSockets none (λ s. maskOf (word b (maskPlace i s)));
+      mask = below Table.mostSeats none (λ s. maskOf (word b (maskPlace i s)));
     }
 
 unfoldable pub rangeIn : List ℕ → ℕ → Range
@@ -80,21 +80,21 @@ levelIn b l = record { managed = marked (byte b (levelPlace l)); reserved = mark
 abbrev pub portsIn : List ℕ → ℕ → Ports
 portsIn b at = record { base = word b (at + Layout.ioBaseAt); count = byte b (at + Layout.ioCountAt); lines = byte b (at + Layout.ioLinesAt) }
 
-unfoldable pub ioIn : List ℕ → ℕ → IoGrant
+unfoldable pub ioIn : List ℕ → Seat → IoGrant
 ioIn b s =
     record { client = word b (ioPlace s); ports = portsIn b (ioPlace s); shared = marked (byte b (ioPlace s + Layout.ioSharedAt)) }
 
 abbrev pub mannerOf : ℕ → Manner
 mannerOf n = cond (eqb n 0) Exclusive (cond (eqb n 1) TimeMultiplexed (cond (eqb n 2) DynamicLevel DynamicPulse))
 
-unfoldable pub irqIn : List ℕ → ℕ → IrqGrant
+unfoldable pub irqIn : List ℕ → Seat → IrqGrant
 irqIn b s = record { client = word b (irqPlace s); level = byte b (irqPlace s + Layout.irqLevelAt); manner = mannerOf (byte b (irqPlace s + Layout.irqMannerAt)) }
 
 -- a grant's record whose client is 0 is no grant
-unfoldable pub ioHere : List ℕ → ℕ → Option IoGrant
+unfoldable pub ioHere : List ℕ → Seat → Option IoGrant
 ioHere b s = cond (eqb (word b (ioPlace s)) 0) none (some (ioIn b s))
 
-unfoldable pub irqHere : List ℕ → ℕ → Option IrqGrant
+unfoldable pub irqHere : List ℕ → Seat → Option IrqGrant
 irqHere b s = cond (eqb (word b (irqPlace s)) 0) none (some (irqIn b s))
 
 unfoldable pub factsIn : List ℕ → Facts
@@ -106,6 +106,6 @@ factsIn b =
       clients = upTo (clientsIn b) (clientIn b);
       level = below Table.allLevels (record { managed = false; reserved = false }) (levelIn b);
       ranges = upTo (rangesIn b) (rangeIn b);
-      io = below Table.mostSockets none (ioHere b);
-      irq = below Table.mostSockets none (irqHere b);
+      io = below Table.mostSeats none (ioHere b);
+      irq = below Table.mostSeats none (irqHere b);
     }

@@ -5,7 +5,7 @@ use mathlib.Core.List.{List}
 use Prim.Native.Nat.{ℕ, zero, suc, _+_, _^_, _≤_, _<_}
 use lib.ListN.{length}
 use Rattle.facts.specs.Table
-use Rattle.facts.specs.Table.{Facts}
+use Rattle.facts.specs.Table.{Facts, Seat, socketAt}
 use Rattle.facts.specs.Packets.{byte, word, long}
 use Rattle.facts.specs.Ports.{Within, Answers}
 use Rattle.facts.specs.WellFormed.{WellFormed, AttributesAllowed, EventsAllowed, IoCompany, IrqCompany}
@@ -43,13 +43,13 @@ abbrev pub handleBefore : List ℕ → ℕ → ℕ
 handleBefore b zero = 0
 handleBefore b (suc i) = handleIn b i
 
-abbrev pub MaskSound : List ℕ → ℕ → ℕ → Type 0
+abbrev pub MaskSound : List ℕ → ℕ → Seat → Type 0
 MaskSound b i s =
     (word b (maskPlace i s) ≡ 0) ⊎ ((Table.allEvents ≤ word b (maskPlace i s)) × (word b (maskPlace i s) < Table.allEvents + Table.allEvents)
-    × (s < socketsIn b))
+    × (socketAt s < socketsIn b))
 
--- the client listed in the place i has a mask for the socket s
-abbrev pub MaskUsed : List ℕ → ℕ → ℕ → Type 0
+-- the client listed in the place i has a mask at the seat s
+abbrev pub MaskUsed : List ℕ → ℕ → Seat → Type 0
 MaskUsed b i s = word b (maskPlace i s) ≢ 0
 
 -- the ith client's record, whose handle is over low
@@ -58,7 +58,7 @@ pub record ClientSound (b : List ℕ) (low i : ℕ) : Type 0 where
   pub issued : handleIn b i ≤ issuedIn b
   pub attributes : AttributesAllowed (word b (clientPlace i + Layout.clientAttributesAt))
   pub events : EventsAllowed (word b (clientPlace i + Layout.clientEventsAt))
-  pub masks : (s : ℕ) → s < Table.mostSockets → MaskSound b i s
+  pub masks : (s : Seat) → s < Table.mostSeats → MaskSound b i s
 
 -- every client's record, each handle over the one before it
 abbrev pub ClientsSound : List ℕ → Type 0
@@ -93,10 +93,10 @@ LiveIn b h = (i : ℕ) × (i < clientsIn b) × (handleIn b i ≡ h)
 abbrev pub ManagedIn : List ℕ → ℕ → Type 0
 ManagedIn b p = (i : ℕ) × (i < rangesIn b) × Within p (rangeBase b i) (rangeCount b i)
 
--- the record of the I/O grant of the socket s
-pub record IoSound (b : List ℕ) (s : ℕ) : Type 0 where
+-- the record of the I/O grant at the seat s
+pub record IoSound (b : List ℕ) (s : Seat) : Type 0 where
   pub client : LiveIn b (word b (ioPlace s))
-  pub socket : s < socketsIn b
+  pub socket : socketAt s < socketsIn b
   pub base : 1 ≤ word b (ioPlace s + Layout.ioBaseAt)
   pub port : 1 ≤ byte b (ioPlace s + Layout.ioCountAt)
   pub line : 1 ≤ byte b (ioPlace s + Layout.ioLinesAt)
@@ -107,32 +107,32 @@ pub record IoSound (b : List ℕ) (s : ℕ) : Type 0 where
   pub mark : byte b (ioPlace s + Layout.ioSharedAt) ≤ 1
   pub spare : Zero b (ioPlace s + Layout.ioSpareAt) (ioPlace s + Layout.ioSize)
 
--- the socket s has an I/O grant
-abbrev pub IoUsed : List ℕ → ℕ → Type 0
+-- an I/O grant stands at the seat s
+abbrev pub IoUsed : List ℕ → Seat → Type 0
 IoUsed b s = word b (ioPlace s) ≢ 0
 
-abbrev pub IoPlaceSound : List ℕ → ℕ → Type 0
+abbrev pub IoPlaceSound : List ℕ → Seat → Type 0
 IoPlaceSound b s = Zero b (ioPlace s) (ioPlace s + Layout.ioSize) ⊎ (IoUsed b s × IoSound b s)
 
--- the record of the IRQ grant of the socket s
-pub record IrqSound (b : List ℕ) (s : ℕ) : Type 0 where
+-- the record of the IRQ grant at the seat s
+pub record IrqSound (b : List ℕ) (s : Seat) : Type 0 where
   pub client : LiveIn b (word b (irqPlace s))
-  pub socket : s < socketsIn b
+  pub socket : socketAt s < socketsIn b
   pub level : byte b (irqPlace s + Layout.irqLevelAt) < Table.allLevels
   pub managed : byte b (levelPlace (byte b (irqPlace s + Layout.irqLevelAt))) ≡ 1
   pub manner : byte b (irqPlace s + Layout.irqMannerAt) ≤ 3
 
-abbrev pub IrqUsed : List ℕ → ℕ → Type 0
+abbrev pub IrqUsed : List ℕ → Seat → Type 0
 IrqUsed b s = word b (irqPlace s) ≢ 0
 
-abbrev pub IrqPlaceSound : List ℕ → ℕ → Type 0
+abbrev pub IrqPlaceSound : List ℕ → Seat → Type 0
 IrqPlaceSound b s = Zero b (irqPlace s) (irqPlace s + Layout.irqSize) ⊎ (IrqUsed b s × IrqSound b s)
 
--- two sockets' grants keep company as demand 3 allows
-abbrev pub IoPairSound : List ℕ → ℕ → ℕ → Type 0
+-- the grants of two seats keep company as demand 3 allows
+abbrev pub IoPairSound : List ℕ → Seat → Seat → Type 0
 IoPairSound b s t = IoUsed b s → IoUsed b t → IoCompany (ioIn b s) (ioIn b t)
 
-abbrev pub IrqPairSound : List ℕ → ℕ → ℕ → Type 0
+abbrev pub IrqPairSound : List ℕ → Seat → Seat → Type 0
 IrqPairSound b s t = IrqUsed b s → IrqUsed b t → IrqCompany (irqIn b s) (irqIn b t)
 
 pub record Sound (b : List ℕ) : Type 0 where
@@ -147,7 +147,7 @@ pub record Sound (b : List ℕ) : Type 0 where
   pub ranges-most : rangesIn b ≤ Table.mostRanges
   pub ranges : RangesSound b
   pub ranges-end : Zero b (rangePlace (rangesIn b)) Layout.tableSize
-  pub ios : (s : ℕ) → s < Table.mostSockets → IoPlaceSound b s
-  pub irqs : (s : ℕ) → s < Table.mostSockets → IrqPlaceSound b s
-  pub io-company : (s t : ℕ) → s < Table.mostSockets → t < s → IoPairSound b s t
-  pub irq-company : (s t : ℕ) → s < Table.mostSockets → t < s → IrqPairSound b s t
+  pub ios : (s : Seat) → s < Table.mostSeats → IoPlaceSound b s
+  pub irqs : (s : Seat) → s < Table.mostSeats → IrqPlaceSound b s
+  pub io-company : (s t : Seat) → s < Table.mostSeats → t < s → IoPairSound b s t
+  pub irq-company : (s t : Seat) → s < Table.mostSeats → t < s → IrqPairSound b s t

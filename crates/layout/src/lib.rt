@@ -3,6 +3,8 @@
 // The limits.
 pub const MOST_SOCKETS: usize = 8;
 
+pub const MOST_SEATS: usize = 8;
+
 pub const MOST_CLIENTS: usize = 16;
 
 pub const MOST_ISSUED: usize = 65535;
@@ -45,13 +47,13 @@ pub const IOS_AT: usize = LEVELS_AT + ALL_LEVELS * LEVEL_SIZE;
 
 pub const IO_SIZE: usize = 11;
 
-pub const IRQS_AT: usize = IOS_AT + MOST_SOCKETS * IO_SIZE;
+pub const IRQS_AT: usize = IOS_AT + MOST_SEATS * IO_SIZE;
 
 pub const IRQ_SIZE: usize = 4;
 
-pub const CLIENTS_AT: usize = IRQS_AT + MOST_SOCKETS * IRQ_SIZE;
+pub const CLIENTS_AT: usize = IRQS_AT + MOST_SEATS * IRQ_SIZE;
 
-pub const CLIENT_SIZE: usize = CLIENT_MASKS_AT + MOST_SOCKETS * MASK_SIZE;
+pub const CLIENT_SIZE: usize = CLIENT_MASKS_AT + MOST_SEATS * MASK_SIZE;
 
 pub const RANGES_AT: usize = CLIENTS_AT + MOST_CLIENTS * CLIENT_SIZE;
 

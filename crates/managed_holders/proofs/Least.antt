@@ -1,44 +1,66 @@
--- Of the numbers below a bound that are P, one at which f is least: what a loop that keeps the lowest so far knows. Assumes nothing.
-use Rattle.facts.proofs.Words.{_≡_, List, ℕ, _+_, _≤_, _<_, arith}
+-- The lowest of what the numbers below a bound say, and one number more: what a loop over the seats knows of the holders. Assumes nothing.
+use Rattle.facts.proofs.Words.{_≡_, subst, _⊎_, inl, inr, ⊎-elim, ℕ, _+_, _<_, min, eq-or-lt-of-le, decLt, arith}
 use Rattle.facts.specs.{Lowest}
-use Rattle.table_read.proofs.{All, all-more}
-use Rattle.managed_holders.specs.declared.Resource.{Resource}
-use Rattle.managed_holders.specs.declared.Holder.{Holder}
-use Rattle.managed_holders.specs.declared.Holder.the-variants.{At, Nobody}
-use Rattle.managed_holders.specs.{HoldsIn, LeastBelow, LowestBelow}
+use Rattle.table_read.specs.{SomeBelow}
+use Rattle.managed_holders.specs.declared.Holders.{Holders}
+use Rattle.managed_holders.specs.declared.Holders.the-variants as holders
+use Rattle.managed_holders.specs.{HereIs, AreBelow, together}
 
-module _ {n : ℕ} {P : ℕ → Type 0} {f : ℕ → ℕ} where
-  -- n is the first that is P
-  pub least-first : All n (λ s. P s → ⊥) → P n → LeastBelow (n + 1) P f n
-  least-first none p =
-      record { below = omega arith; holds = p; least = all-more {P = λ t. P t → f n ≤ f t} (λ t l q. absurd (none t l q)) (λ q. omega arith) }
+module _ (n : ℕ) (Q : ℕ → ℕ → Type 0) where
+  -- one that is below n + 1 is below n, or n
+  below-or-here : (x : ℕ) → SomeBelow (n + 1) Q x → SomeBelow n Q x ⊎ Q n x
+  below-or-here x (s, l, q) = either-way (eq-or-lt-of-le (omega (arith, l)))
+    where
+      either-way : (s ≡ n) ⊎ (s < n) → SomeBelow n Q x ⊎ Q n x
+      either-way (inl e) = inr (subst (λ (t : ℕ). Q t x) e q)
+      either-way (inr l′) = inl (s, l′, q)
 
-  module _ {s : ℕ} (a : LeastBelow n P f s) where
-    -- n is not lower than s
-    pub least-kept : (P n → f s ≤ f n) → LeastBelow (n + 1) P f s
-    least-kept h = record { below = omega (arith, a .below); holds = a .holds; least = all-more {P = λ t. P t → f s ≤ f t} (a .least) h }
+  wider : {x : ℕ} → SomeBelow n Q x → SomeBelow (n + 1) Q x
+  wider (s, l, q) = (s, omega (arith, l), q)
 
-    -- s is not lower than n
-    pub least-next : P n → f n ≤ f s → LeastBelow (n + 1) P f n
-    least-next p l =
+  -- n says nothing
+  lowest-kept : {x : ℕ} → Lowest (SomeBelow n Q) x → ((y : ℕ) → Q n y → ⊥) → Lowest (SomeBelow (n + 1) Q) x
+  lowest-kept low none = record { fits = wider (low .fits); least = λ y f. ⊎-elim (low .least y) (λ q. absurd (none y q)) (below-or-here y f) }
+
+  -- n says x alone
+  module _ {x : ℕ} (q : Q n x) (only : (y : ℕ) → Q n y → y ≡ x) where
+    lowest-first : ((y : ℕ) → SomeBelow n Q y → ⊥) → Lowest (SomeBelow (n + 1) Q) x
+    lowest-first none =
+        record { fits = (n, omega arith, q); least = λ y f. ⊎-elim (λ p. absurd (none y p)) (λ p. omega (arith, only y p)) (below-or-here y f) }
+
+    lowest-more : {w : ℕ} → Lowest (SomeBelow n Q) w → Lowest (SomeBelow (n + 1) Q) (min w x)
+    lowest-more {w} low =
         record {
-          below = omega arith;
-          holds = p;
-          least = all-more {P = λ t. P t → f n ≤ f t} (λ t m q. omega (arith, l, a .least t m q)) (λ q. omega arith);
+          fits = below-or-not (decLt x w);
+          least = λ y f. ⊎-elim (λ p. omega (arith, low .least y p)) (λ p. omega (arith, only y p)) (below-or-here y f);
         }
+      where
+        below-or-not : Dec (x < w) → SomeBelow (n + 1) Q (min w x)
+        below-or-not (yes l) = subst (SomeBelow (n + 1) Q) (omega arith) (n, omega arith, q)
+        below-or-not (no l) = subst (SomeBelow (n + 1) Q) (omega arith) (wider (low .fits))
 
-    -- where what fits is what f gives of those that are P, the lowest that fits is what f gives of s
-    pub least-lowest : {Fit : ℕ → Type 0} → ((t : ℕ) → t < n → P t → Fit (f t))
-        → ((h : ℕ) → Fit h → (t : ℕ) × (t < n) × P t × (f t ≡ h))
-        → Lowest Fit (f s)
-    least-lowest fits only =
-        record {
-          fits = fits s (a .below) (a .holds);
-          least = λ h x. let t = only h x in omega (arith, a .least (t .0) (t .1) (t .2), t .3);
-        }
+-- the holders at the seats below n, and at n
+pub holders-more : (n : ℕ) (P : ℕ → ℕ → ℕ → Type 0) (some more : Holders) → AreBelow n P some → HereIs (P n) more → AreBelow (n + 1) P (together some more)
+holders-more n P some more = in-each-case some more
+  where
+    Handles : ℕ → ℕ → Type 0
+    Handles s x = (y : ℕ) × P s x y
 
--- the socket n doesn't hold it
-pub lowest-kept : (b : List ℕ) (what : Resource) (n : ℕ) (best : Holder) → LowestBelow b what n best → (HoldsIn b what n → ⊥)
-    → LowestBelow b what (n + 1) best
-lowest-kept b what n (At s) a h = least-kept a (λ p. absurd (h p))
-lowest-kept b what n Nobody a h = all-more a h
+    Shown : ℕ → ℕ → Type 0
+    Shown s y = (x : ℕ) × P s x y
+
+    in-each-case : (some more : Holders) → AreBelow n P some → HereIs (P n) more → AreBelow (n + 1) P (together some more)
+    in-each-case holders.Nobody holders.Nobody none here = λ s l x y p.
+        ⊎-elim (λ q. none (q .0) (q .1) x (q .2 .0) (q .2 .1)) (λ q. here x (q .0) (q .1)) (below-or-here n Handles x (s, l, (y, p)))
+    in-each-case holders.Nobody (holders.Lowest k c) none here = (
+      lowest-first n Handles (c, here .0) (λ x q. here .1 x (q .0) (q .1) .0) (λ x q. none (q .0) (q .1) x (q .2 .0) (q .2 .1)),
+      lowest-first n Shown (k .0, here .0) (λ y q. here .1 (q .0) y (q .1) .1) (λ y q. none (q .0) (q .1) (q .2 .0) y (q .2 .1)),
+    )
+    in-each-case (holders.Lowest h a) holders.Nobody low here = (
+      lowest-kept n Handles (low .0) (λ x q. here x (q .0) (q .1)),
+      lowest-kept n Shown (low .1) (λ y q. here (q .0) y (q .1)),
+    )
+    in-each-case (holders.Lowest h a) (holders.Lowest k c) low here = (
+      lowest-more n Handles (c, here .0) (λ x q. here .1 x (q .0) (q .1) .0) (low .0),
+      lowest-more n Shown (k .0, here .0) (λ y q. here .1 (q .0) y (q .1) .1) (low .1),
+    )

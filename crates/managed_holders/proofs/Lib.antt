@@ -1,5 +1,7 @@
--- Laws of the lowest so far, and of the holders that the bytes and the facts say. Assumes nothing.
+-- Laws of the holders at one seat, at those passed, and of what is shown of all of them. Assumes nothing.
+pub mod Here
 pub mod Least
-pub mod Said
-pub use Least.{least-first, least-kept, least-next, lowest-kept}
-pub use Said.{level-nobody, level-lowest, range-nobody, range-alone, range-sharing}
+pub mod Shown
+pub use Here.{level-free, level-other, level-here, ports-free, ports-other, ports-here}
+pub use Least.{holders-more}
+pub use Shown.{level-shown, range-shown}

@@ -1,66 +1,51 @@
--- Who holds a level, or a port of a range: said of the bytes, and what the search answers. Assumes nothing.
+-- Who holds a level, or a port of a range: at one seat, at some, and at all. Assumes nothing.
 use mathlib.Core.Path.{_≡_}
 use mathlib.Core.List.{List}
-use mathlib.Core.Bool.{Bool, false}
-use Prim.Native.Nat.{ℕ, _+_, _≤_, _<_}
-use Rattle.facts.specs.Table
-use Rattle.facts.specs.Table.{Facts, Range}
-use Rattle.facts.specs.Packets.{byte, word}
+use mathlib.Core.Bool.{Bool, true, false}
+use Prim.Native.Nat.{ℕ, _+_, _<_, min}
+use Rattle.facts.specs.Choice
+use Rattle.facts.specs.Table.{Facts, Seat, Range, HeldPorts, IrqGrant, Held}
 use Rattle.facts.specs.Ports.{Overlap}
-use Rattle.facts.specs.Levels.{typeOf}
-use Rattle.facts.specs.Resources.{LevelHeld, LevelShown, RangeHeld, RangeShown}
-use Rattle.layout.specs.Reading.{ioPlace, irqPlace, marked, mannerOf}
-use Rattle.layout.specs.Sound.{Accepted, IoUsed, IrqUsed}
-use Rattle.layout.specs.Layout.{irqLevelAt, ioBaseAt, ioCountAt, irqMannerAt, ioSharedAt}
-use Rattle.managed_holders.specs.declared.Resource.{Resource}
-use Rattle.managed_holders.specs.declared.Resource.the-variants.{Level, Ports}
-use Rattle.managed_holders.specs.declared.Holder.{Holder}
-use Rattle.managed_holders.specs.declared.Holder.the-variants.{At, Nobody}
+use Rattle.facts.specs.Levels.{typeOf, Holds}
+use Rattle.facts.specs.Resources.{LevelHeld, LevelShown, RangeHeld, RangeShown, heldBit, sharedBit}
+use Rattle.layout.specs.Sound.{Accepted}
+use Rattle.table_read.specs.Sets.{SomeBelow}
 use Rattle.managed_holders.specs.declared.Holders.{Holders}
-use Rattle.managed_holders.specs.declared.Holders.the-variants as none
-use Rattle.managed_holders.specs.declared.Holders.the-variants.{Lowest}
+use Rattle.managed_holders.specs.declared.Holders.the-variants.{Lowest, Nobody}
 
--- the grant of the socket s holds the level, or one of the ports
-abbrev pub HoldsIn : List ℕ → Resource → ℕ → Type 0
-HoldsIn b (Level l) s = IrqUsed b s × (byte b (irqPlace s + irqLevelAt) ≡ l)
-HoldsIn b (Ports base count) s = IoUsed b s × Overlap (word b (ioPlace s + ioBaseAt)) (byte b (ioPlace s + ioCountAt)) base count
+-- at the seat s a client with the handle h holds the level, and a is shown of it
+abbrev pub LevelHolds : Facts → ℕ → Seat → ℕ → ℕ → Type 0
+LevelHolds F l s h a = (g : IrqGrant) × Holds F l s g × (g .client ≡ h) × (heldBit + typeOf (g .manner) ≡ a)
 
--- whose grant it is
-abbrev pub holderIn : List ℕ → Resource → ℕ → ℕ
-holderIn b (Level l) s = word b (irqPlace s)
-holderIn b (Ports base count) s = word b (ioPlace s)
+-- what is shown of a holder of ports, who shares them or not
+abbrev pub shown : Bool → ℕ
+shown true = heldBit + sharedBit
+shown false = heldBit
 
--- the type of the socket's IRQ grant, and whether its I/O grant shares
-abbrev pub typeIn : List ℕ → ℕ → ℕ
-typeIn b s = typeOf (mannerOf (byte b (irqPlace s + irqMannerAt)))
+-- it holds one of the ports
+abbrev pub PortsHold : Facts → ℕ → ℕ → Seat → ℕ → ℕ → Type 0
+PortsHold F base count s h a =
+    (x : HeldPorts) × Held F s x × Overlap (x .ports .base) (x .ports .count) base count × (x .client ≡ h) × (shown (x .shared) ≡ a)
 
-abbrev pub sharesIn : List ℕ → ℕ → Bool
-sharesIn b s = marked (byte b (ioPlace s + ioSharedAt))
+-- of the handles, and what is shown of them, that are P: none, or these alone
+abbrev pub HereIs : (ℕ → ℕ → Type 0) → Holders → Type 0
+HereIs P (Lowest h a) = P (h .0) a × ((x y : ℕ) → P x y → (x ≡ h .0) × (y ≡ a))
+HereIs P Nobody = (x y : ℕ) → P x y → ⊥
 
--- the grant of the socket s holds one of the ports and doesn't share
-abbrev pub AloneIn : List ℕ → ℕ → ℕ → ℕ → Type 0
-AloneIn b base count s = HoldsIn b (Ports base count) s × (sharesIn b s ≡ false)
+-- of those that are P at a seat below n: none, or the lowest handle and the lowest of what is shown
+abbrev pub AreBelow : ℕ → (Seat → ℕ → ℕ → Type 0) → Holders → Type 0
+AreBelow n P (Lowest h a) = Choice.Lowest (SomeBelow n (λ s x. (y : ℕ) × P s x y)) (h .0) × Choice.Lowest (SomeBelow n (λ s y. (x : ℕ) × P s x y)) a
+AreBelow n P Nobody = (s : Seat) → s < n → (x y : ℕ) → P s x y → ⊥
 
-abbrev pub SomeAloneIn : List ℕ → ℕ → ℕ → Type 0
-SomeAloneIn b base count = (s : ℕ) × (s < Table.mostSockets) × AloneIn b base count s
-
--- of the numbers below n that are P, s is one at which f is least
-pub record LeastBelow (n : ℕ) (P : ℕ → Type 0) (f : ℕ → ℕ) (s : ℕ) : Type 0 where
-  pub below : s < n
-  pub holds : P s
-  pub least : (t : ℕ) → t < n → P t → f s ≤ f t
-
--- of the sockets below n whose grant holds it, one whose client has the lowest handle, or there is none
-abbrev pub LowestBelow : List ℕ → Resource → ℕ → Holder → Type 0
-LowestBelow b what n (At s) = LeastBelow n (HoldsIn b what) (holderIn b what) (s .0)
-LowestBelow b what n Nobody = (s : ℕ) → s < n → HoldsIn b what s → ⊥
-
-abbrev pub LowestIs : List ℕ → Resource → Holder → Type 0
-LowestIs b what = LowestBelow b what Table.mostSockets
+-- the lower of both
+abbrev pub together : Holders → Holders → Holders
+together Nobody more = more
+together (Lowest h a) Nobody = Lowest h a
+together (Lowest h a) (Lowest k c) = Lowest (record { 0 = min (h .0) (k .0) }) (min a c)
 
 -- the holders of a level: nobody, or the lowest of their handles and the attributes that are shown of them
 abbrev pub HoldLevel : Facts → ℕ → Holders → Type 0
-HoldLevel F l none.Nobody = LevelHeld F l → ⊥
+HoldLevel F l Nobody = LevelHeld F l → ⊥
 HoldLevel F l (Lowest h attributes) = LevelHeld F l × LevelShown F l attributes (h .0)
 
 abbrev pub LevelHoldersAre : List ℕ → ℕ → Holders → Type 0
@@ -68,7 +53,7 @@ LevelHoldersAre b l x = (a : Accepted b) → HoldLevel (a .facts) l x
 
 -- the holders of a range
 abbrev pub HoldRange : Facts → Range → Holders → Type 0
-HoldRange F r none.Nobody = RangeHeld F r → ⊥
+HoldRange F r Nobody = RangeHeld F r → ⊥
 HoldRange F r (Lowest h attributes) = RangeHeld F r × RangeShown F r attributes (h .0)
 
 abbrev pub RangeHoldersAre : List ℕ → ℕ → ℕ → Holders → Type 0

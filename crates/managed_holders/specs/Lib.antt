@@ -1,4 +1,3 @@
 -- Who holds a resource. Assumes nothing.
 pub mod Holders
-pub use Holders.{HoldsIn, holderIn, typeIn, sharesIn, AloneIn, SomeAloneIn, LeastBelow, LowestBelow, LowestIs, HoldLevel, LevelHoldersAre, HoldRange}
-pub use Holders.{RangeHoldersAre}
+pub use Holders.{LevelHolds, shown, PortsHold, HereIs, AreBelow, together, HoldLevel, LevelHoldersAre, HoldRange, RangeHoldersAre}

@@ -1,38 +1,17 @@
 // Who holds a managed level, or a port of a managed range, on a table that is the image of a well-formed set.
 use facts::Handle;
-use facts::Socket;
-use layout::IO_BASE_AT;
-use layout::IO_COUNT_AT;
-use layout::IO_SHARED_AT;
-use layout::IO_SIZE;
-use layout::IOS_AT;
-use layout::IRQ_LEVEL_AT;
-use layout::IRQ_MANNER_AT;
-use layout::IRQ_SIZE;
-use layout::IRQS_AT;
-use layout::MARKED;
-use layout::MOST_SOCKETS;
+use facts::Seat;
+use layout::MOST_SEATS;
+use seats::IoSeat;
+use seats::IrqSeat;
 ghost use mathlib.Core.Path.{_≡_};
-ghost use Prim.Native.Nat.{_+_, _<_, _≤_};
+ghost use Prim.Native.Nat.{_<_, min};
 ghost use lib.ListN.{length};
 ghost use Rattle.facts.specs.Table;
-ghost use Rattle.facts.specs.Says.{Says};
 ghost use Rattle.layout.specs.Layout.{tableSize};
+ghost use Rattle.layout.specs.Reading.{factsIn};
 ghost use Rattle.layout.specs.Sound.{Accepted};
-ghost use Rattle.managed_holders.specs.Holders.{HoldsIn, holderIn, typeIn, AloneIn, SomeAloneIn, LowestBelow, LowestIs};
-ghost use Rattle.managed_holders.specs.Holders.{LevelHoldersAre, RangeHoldersAre};
-
-// What a grant may hold: a level, or some of the ports from a base on.
-pub enum Resource {
-    Level(usize),
-    Ports(usize, usize),
-}
-
-// The socket of a holder with the lowest handle.
-pub enum Holder {
-    At(Socket),
-    Nobody,
-}
+ghost use Rattle.managed_holders.specs.Holders.{HereIs, LevelHolds, PortsHold, together, LevelHoldersAre, RangeHoldersAre};
 
 // The lowest handle of the holders, and the attributes that First and Next show of them.
 pub enum Holders {
@@ -45,119 +24,65 @@ const HELD: u8 = 0x80;
 
 const HELD_SHARED: u8 = HELD + 0x01;
 
-// Whether the grant of the socket holds the level.
-fn level_on(t: &[u8], l: usize, s: Socket) -> bool
-    requires { ⌜ (length (now t) ≡ tableSize) × (s .0 < Table.mostSockets) ⌝ }
-    ensures { λ r. ⌜ Says r (HoldsIn (now (t .entry)) (Resource.Level l) (s .0)) ⌝ }
+// Who holds the level at the seat, shown with the type of its grant.
+fn level_at(t: &[u8], l: usize, s: Seat) -> Holders
+    requires { ⌜ (length (now t) ≡ tableSize) × (s .0 < Table.mostSeats) ⌝ }
+    ensures { λ r. ⌜ HereIs (LevelHolds (factsIn (now (t .entry))) l (s .0)) r ⌝ }
 {
-    let number = s.0;
-    let at = IRQS_AT + number * IRQ_SIZE;
-    if table_read::word(t, at) == 0 {
-        return false;
-    }
-    table_read::byte(t, at + IRQ_LEVEL_AT) == l
-}
-
-// Whether the grant of the socket holds one of the ports.
-fn ports_on(t: &[u8], base: usize, count: usize, s: Socket) -> bool
-    requires { ⌜ (length (now t) ≡ tableSize) × (s .0 < Table.mostSockets) ⌝ }
-    ensures { λ r. ⌜ Says r (HoldsIn (now (t .entry)) (Resource.Ports base count) (s .0)) ⌝ }
-{
-    let number = s.0;
-    let at = IOS_AT + number * IO_SIZE;
-    if table_read::word(t, at) == 0 {
-        return false;
-    }
-    let held = table_read::word(t, at + IO_BASE_AT);
-    let ports = table_read::byte(t, at + IO_COUNT_AT);
-    io_ranges::overlaps(held, ports, base, count)
-}
-
-// Whether the grant of the socket holds what is asked for.
-fn holds(t: &[u8], what: Resource, s: Socket) -> bool
-    requires { ⌜ (length (now t) ≡ tableSize) × (s .0 < Table.mostSockets) ⌝ }
-    ensures { λ r. ⌜ Says r (HoldsIn (now (t .entry)) what (s .0)) ⌝ }
-{
-    match what {
-        Resource::Level(l) => level_on(t, l, s),
-        Resource::Ports(base, count) => ports_on(t, base, count, s),
-    }
-}
-
-// The handle of the client whose grant it is.
-fn handle_on(t: &[u8], what: Resource, s: Socket) -> Handle
-    requires { ⌜ (length (now t) ≡ tableSize) × (s .0 < Table.mostSockets) ⌝ }
-    ensures { λ r. ⌜ r .0 ≡ holderIn (now (t .entry)) what (s .0) ⌝ }
-{
-    let number = s.0;
-    match what {
-        Resource::Level(_) => table_read::handle(t, IRQS_AT + number * IRQ_SIZE),
-        Resource::Ports(_, _) => table_read::handle(t, IOS_AT + number * IO_SIZE),
-    }
-}
-
-// This socket, where it holds it and no holder below it has as low a handle; else the best of those below it.
-fn better(t: &[u8], what: Resource, best: Holder, s: Socket) -> Holder
-    requires { ⌜ (length (now t) ≡ tableSize) × (s .0 < Table.mostSockets) × LowestBelow (now t) what (s .0) best ⌝ }
-    ensures { λ r. ⌜ LowestBelow (now (t .entry)) what (s .0 + 1) r ⌝ }
-{
-    if !holds(t, what, s) {
-        return best;
-    }
-    let Holder::At(other) = best else {
-        return Holder::At(s);
+    let IrqSeat::Held(held) = seats::level_held(t, s) else {
+        return Holders::Nobody;
     };
-    let lowest = handle_on(t, what, other);
-    let handle = handle_on(t, what, s);
-    if handle.0 < lowest.0 {
-        return Holder::At(s);
+    if held.level != l {
+        return Holders::Nobody;
     }
-    Holder::At(other)
+    let client = held.client;
+    let manner = held.manner;
+    Holders::Lowest(client, HELD + irq_levels::type_of(manner))
 }
 
-fn lowest(t: &[u8], what: Resource) -> Holder
-    requires { ⌜ length (now t) ≡ tableSize ⌝ }
-    ensures { λ r. ⌜ LowestIs (now (t .entry)) what r ⌝ }
+// Who holds one of the ports at the seat, shown as sharing or not.
+fn ports_at(t: &[u8], base: usize, count: usize, s: Seat) -> Holders
+    requires { ⌜ (length (now t) ≡ tableSize) × (s .0 < Table.mostSeats) ⌝ }
+    ensures { λ r. ⌜ HereIs (PortsHold (factsIn (now (t .entry))) base count (s .0)) r ⌝ }
 {
-    let mut best = Holder::Nobody;
-    for s in 0..MOST_SOCKETS {
-        best = better(t, what, best, Socket(s));
+    let IoSeat::Held(held) = seats::held(t, s) else {
+        return Holders::Nobody;
+    };
+    if !io_ranges::overlaps(held.base, held.count, base, count) {
+        return Holders::Nobody;
     }
-    best
+    let client = held.client;
+    if held.shared {
+        return Holders::Lowest(client, HELD_SHARED);
+    }
+    Holders::Lowest(client, HELD)
 }
 
-// Whether the grant of the socket holds one of the ports and doesn't share.
-fn alone_on(t: &[u8], base: usize, count: usize, s: Socket) -> bool
-    requires { ⌜ (length (now t) ≡ tableSize) × (s .0 < Table.mostSockets) ⌝ }
-    ensures { λ r. ⌜ Says r (AloneIn (now (t .entry)) base count (s .0)) ⌝ }
+// The lower of two handles, and of two bytes.
+fn lower(a: Handle, b: Handle) -> Handle
+    ensures { λ r. ⌜ r .0 ≡ min (a .0) (b .0) ⌝ }
 {
-    let number = s.0;
-    if !ports_on(t, base, count, s) {
-        return false;
-    }
-    table_read::byte(t, IOS_AT + number * IO_SIZE + IO_SHARED_AT) != MARKED
+    if b.0 < a.0 { b } else { a }
 }
 
-fn unshared(t: &[u8], base: usize, count: usize) -> bool
-    requires { ⌜ length (now t) ≡ tableSize ⌝ }
-    ensures { λ r. ⌜ Says r (SomeAloneIn (now (t .entry)) base count) ⌝ }
+fn lower_byte(a: u8, b: u8) -> u8
+    ensures { λ r. ⌜ r ≡ min a b ⌝ }
 {
-    for s in 0..MOST_SOCKETS {
-        if alone_on(t, base, count, Socket(s)) {
-            return true;
-        }
-    }
-    false
+    if b < a { b } else { a }
 }
 
-// The type of the socket's grant.
-fn type_on(t: &[u8], s: Socket) -> u8
-    requires { ⌜ (length (now t) ≡ tableSize) × (s .0 < Table.mostSockets) ⌝ }
-    ensures { λ r. ⌜ (r ≡ typeIn (now (t .entry)) (s .0)) × (r ≤ 2) ⌝ }
+// The holders at some seats and those at another: the lower of their handles, and of what is shown of them. All holders of a level have one type, and
+// HELD, of one that doesn't share, is below HELD_SHARED.
+fn joined(some: Holders, more: Holders) -> Holders
+    ensures { λ r. ⌜ r ≡ together some more ⌝ }
 {
-    let number = s.0;
-    let manner = table_read::byte(t, IRQS_AT + number * IRQ_SIZE + IRQ_MANNER_AT);
-    irq_levels::type_of(table_read::manner_of(manner))
+    let Holders::Lowest(client, shown) = some else {
+        return more;
+    };
+    let Holders::Lowest(client2, shown2) = more else {
+        return some;
+    };
+    Holders::Lowest(lower(client, client2), lower_byte(shown, shown2))
 }
 
 // "the handle answered is then the lowest of the holders' handles"; "For IRQ, bits 0 to 1 are the holders' type"
@@ -165,26 +90,20 @@ pub fn of_level(t: &[u8], l: usize) -> Holders
     requires { ⌜ Accepted (now t) ⌝ }
     ensures { λ r. ⌜ LevelHoldersAre (now (t .entry)) l r ⌝ }
 {
-    let what = Resource::Level(l);
-    let Holder::At(s) = lowest(t, what) else {
-        return Holders::Nobody;
-    };
-    let h = handle_on(t, what, s);
-    let attributes = HELD + type_on(t, s);
-    Holders::Lowest(h, attributes)
+    let mut holders = Holders::Nobody;
+    for s in 0..MOST_SEATS {
+        holders = joined(holders, level_at(t, l, Seat(s)));
+    }
+    holders
 }
 
 pub fn of_range(t: &[u8], base: usize, count: usize) -> Holders
     requires { ⌜ Accepted (now t) ⌝ }
     ensures { λ r. ⌜ RangeHoldersAre (now (t .entry)) base count r ⌝ }
 {
-    let what = Resource::Ports(base, count);
-    let Holder::At(s) = lowest(t, what) else {
-        return Holders::Nobody;
-    };
-    let h = handle_on(t, what, s);
-    if unshared(t, base, count) {
-        return Holders::Lowest(h, HELD);
+    let mut holders = Holders::Nobody;
+    for s in 0..MOST_SEATS {
+        holders = joined(holders, ports_at(t, base, count, Seat(s)));
     }
-    Holders::Lowest(h, HELD_SHARED)
+    holders
 }

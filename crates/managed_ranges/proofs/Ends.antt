@@ -3,17 +3,16 @@ use Rattle.facts.proofs.Words.{_≡_, refl, ap, sym, _∙_, subst, _⊎_, inl, 
 use Rattle.facts.proofs.Words.{arith, length, getD, set, length-set, Ports}
 use Rattle.layout.proofs.Of
 use Rattle.managed_ranges.specs.declared.PortsNamed.the-variants as named
-use Rattle.facts.specs.{Code, BadAttribute, BadBase, InUse, OutOfResource, Facts, Range, IoGrant, byte, withWord, withLong, Within, Meet, Managed}
+use Rattle.facts.specs.{Code, BadAttribute, BadBase, InUse, OutOfResource, Facts, Range, byte, withWord, withLong, Within, Managed}
 use Rattle.facts.specs.{Check, _gives_, FirstGiven, rangeChecks, rangeRemoved, withRanges, inserted, JustThat, RangeAnswered, putChecks, takeChecks}
-use Rattle.facts.specs.{allPorts, mostLines, mostRanges}
+use Rattle.facts.specs.{allPorts, mostLines, mostRanges, MeetsHeld}
 use Rattle.facts.proofs.{meet-symmetric}
-use Rattle.layout.specs.{image, mark, two, four, rangesIn, rangePlace, rangeIn, ioIn, Accepted, ManagedIn, rangeBase, TakenOut, PutIn, rangeCountAt}
-use Rattle.layout.specs.{rangeReservedAt, rangeSize, restAt, tableSize}
+use Rattle.layout.specs.{image, mark, two, four, rangesIn, rangePlace, rangeIn, Accepted, ManagedIn, rangeBase, TakenOut, PutIn, rangeCountAt}
+use Rattle.layout.specs.{rangeReservedAt, rangeSize, restAt, tableSize, factsIn}
 use Rattle.layout.proofs.{below-at, byte-same, byte-other, word-length, word-low, word-high, word-other, long-length, long-bytes, long-other}
 use Rattle.layout.proofs.{range-put-in, range-taken-out}
 use Rattle.table_write.specs.{RoomMade}
 use Rattle.io_ranges.proofs.{answers-meet, meet-answers}
-use Rattle.io_meeting.specs.{MeetsSome}
 use Rattle.managed_changes.specs.declared.Change.{Change}
 use Rattle.managed_changes.specs.declared.Change.the-variants.{Made, Refused}
 use Rattle.managed_changes.specs.{Changes}
@@ -137,17 +136,17 @@ module _ (b : List ℕ) (a : Accepted b) (base n : ℕ) where
   abbrev whole : Ports
   whole = record { base = base; count = n; lines = mostLines }
 
-  met-answered : (i : ℕ) → FoundAt b base n i → MeetsSome b whole → RangeAnswered (a .facts) (rangeIn b i)
-  met-answered i f (s, l, m) =
-      let live = Of.io-said b a s l (m .used) in
+  met-answered : (i : ℕ) → FoundAt b base n i → MeetsHeld (a .facts) whole → RangeAnswered (a .facts) (rangeIn b i)
+  met-answered i f m =
       let here = Of.sound-in b a .ranges i (f .listed) .within in
+      let ports = m .range .ports in
       let x =
-      meet-answers (ioIn b s .ports) (a .formed .ios s (ioIn b s) live .lines) base n (omega (arith, here, f .base-is, f .count-is))
-      (meet-symmetric whole (ioIn b s .ports) (m .meets)) in
+      meet-answers ports (a .formed .ios (m .seat) (m .range) (m .held) .lines) base n (omega (arith, here, f .base-is, f .count-is))
+      (meet-symmetric whole ports (m .meets)) in
       record {
-        socket = s;
-        grant = ioIn b s;
-        live = live;
+        seat = m .seat;
+        range = m .range;
+        held = m .held;
         port = x .0;
         has = record {
           from = omega (arith, x .1 .from, Of.range-base b a i, f .base-is);
@@ -156,32 +155,25 @@ module _ (b : List ℕ) (a : Accepted b) (base n : ℕ) where
         answers = x .2;
       }
 
-  answered-met : (r : Range) → JustThat (a .facts) base n r → RangeAnswered (a .facts) r → MeetsSome b whole
+  answered-met : (r : Range) → JustThat (a .facts) base n r → RangeAnswered (a .facts) r → MeetsHeld (a .facts) whole
   answered-met r j x =
-      let g = x .grant in
-      let said = Of.said-io b a (x .socket) g (x .live) in
+      let ports = x .range .ports in
       let met =
-      answers-meet (g .ports) (a .formed .ios (x .socket) g (x .live) .lines) base n (x .port) (x .answers)
-      (record { from = omega (arith, x .has .from, j .1); below = omega (arith, x .has .below, j .1, j .2) }) in (
-        x .socket,
-        said .0,
-        record {
-          used = said .1;
-          meets = subst (λ (y : IoGrant). Meet whole (y .ports)) (sym (said .2)) (meet-symmetric (g .ports) whole met);
-        },
-      )
+      answers-meet ports (a .formed .ios (x .seat) (x .range) (x .held) .lines) base n (x .port) (x .answers)
+      (record { from = omega (arith, x .has .from, j .1); below = omega (arith, x .has .below, j .1, j .2) }) in
+      record { seat = x .seat; range = x .range; held = x .held; meets = meet-symmetric ports whole met }
 
-  pub take-held : (i : ℕ) → FoundAt b base n i → MeetsSome b whole → TakesRange base n b b (Refused InUse)
+  pub take-held : (i : ℕ) → FoundAt b base n i → MeetsHeld (factsIn b) whole → TakesRange base n b b (Refused InUse)
   take-held i f met =
       refused (takeChecks base n) taken b a InUse
-      (inr ((λ none. none (rangeIn b i) (just i f)), inl ((rangeIn b i, just i f, met-answered i f met), refl)))
+      (inr ((λ none. none (rangeIn b i) (just i f)), inl ((rangeIn b i, just i f, met-answered i f (rw (Of.facts-in b a) met)), refl)))
 
-  pub take-made : (b′ : List ℕ) (i : ℕ) → FoundAt b base n i → (MeetsSome b whole → ⊥)
+  pub take-made : (b′ : List ℕ) (i : ℕ) → FoundAt b base n i → (MeetsHeld (factsIn b) whole → ⊥)
       → TakenOut b b′ 2 (rangePlace i) rangeSize restAt
       → TakesRange base n b b′ Made
   take-made b′ i f silent out =
       made (takeChecks base n) taken b a b′
-      ((λ none. none (rangeIn b i) (just i f)), ((λ x. silent (answered-met (x .0) (x .1) (x .2)), tt)))
+      ((λ none. none (rangeIn b i) (just i f)), ((λ x. silent (subst (λ (F : Facts). MeetsHeld F whole) (Of.facts-in b a) (answered-met (x .0) (x .1) (x .2))), tt)))
       (subst (λ (x : ℕ). image (rangeRemoved (a .facts) x) ≡ b′) (f .base-is) (range-taken-out b b′ a i (f .listed) out))
 
 -- the record of a range, written where there is room for it

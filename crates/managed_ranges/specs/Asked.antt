@@ -9,16 +9,15 @@ use Rattle.facts.specs.Table
 use Rattle.facts.specs.Table.{Facts, Range}
 use Rattle.facts.specs.Sets.{_∈_}
 use Rattle.facts.specs.Choice.{Lowest}
-use Rattle.facts.specs.Ports.{Within}
+use Rattle.facts.specs.Ports.{Within, MeetsHeld}
 use Rattle.facts.specs.Checks.{_gives_, FirstGiven}
 use Rattle.facts.specs.Resources.{addRangeChecks, removeRangeChecks, rangeChecks, rangeAdded, rangeRemoved, withRanges, inserted}
 use Rattle.facts.specs.Resources.{putChecks, takeChecks}
 use Rattle.layout.specs.Layout
 use Rattle.layout.specs.Layout.{mark, two, four}
-use Rattle.layout.specs.Reading.{rangesIn, rangePlace}
+use Rattle.layout.specs.Reading.{rangesIn, rangePlace, factsIn}
 use Rattle.layout.specs.Sound.{Accepted, ManagedIn, rangeBase, rangeCount}
 use Rattle.layout.specs.Changed.{PutIn}
-use Rattle.io_meeting.specs.Meeting.{MeetsSome}
 use Rattle.managed_changes.specs.declared.Change.{Change}
 use Rattle.managed_changes.specs.Changing.{Changes}
 use Rattle.managed_ranges.specs.declared.Lines.{Lines}
@@ -122,8 +121,8 @@ FoundIs b base n found.Nowhere = (i : ℕ) → FoundAt b base n i → ⊥
 
 -- no card that is granted ports answers at one of these, all of whose lines count; or one does
 abbrev pub CardsAre : List ℕ → ℕ → ℕ → Cards → Type 0
-CardsAre b base n cards.Silent = MeetsSome b (record { base = base; count = n; lines = Table.mostLines }) → ⊥
-CardsAre b base n cards.Answering = MeetsSome b (record { base = base; count = n; lines = Table.mostLines })
+CardsAre b base n cards.Silent = MeetsHeld (factsIn b) (record { base = base; count = n; lines = Table.mostLines }) → ⊥
+CardsAre b base n cards.Answering = MeetsHeld (factsIn b) (record { base = base; count = n; lines = Table.mostLines })
 
 -- the range with the lowest base that isn't below the number, or there is none
 pub record NextIs (F : Facts) (from base count : ℕ) : Type 0 where

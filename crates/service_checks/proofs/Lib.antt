@@ -1,3 +1,3 @@
 -- What every service on a socket begins with. Assumes nothing.
-pub mod Begin
-pub use Begin.{Begun, Begins, in-sockets, in-table, positive}
+pub mod Beginning
+pub use Beginning.{seat-named, in-seats, in-table, in-clients, positive, by-length, by-handle, by-socket, by-card, Service, refused-ahead, refused-own, done-own}

@@ -15,7 +15,9 @@ use Rattle.service_checks.specs.declared.Counted.the-variants.{Below, Pa
 use Rattle.service_checks.specs.declared.SocketNamed.{SocketNamed}
 use Rattle.service_checks.specs.declared.SocketNamed.the-variants.{At, Bad}
 use Rattle.service_checks.specs.declared.Card.{Card}
-use Rattle.service_checks.specs.declared.Card.the-variants.{In, Out}
+use Rattle.service_checks.specs.declared.Card.the-variants.{Enough, Missing}
+use Rattle.service_checks.specs.declared.CardNeed.{CardNeed}
+use Rattle.service_checks.specs.declared.CardNeed.the-variants.{Needed, Ignored}
 
 -- there are n bytes, or not
 abbrev pub SizeIs : List ℕ → ℕ → Size → Type 0
@@ -37,7 +39,12 @@ abbrev pub SocketNamedIs : List ℕ → List ℕ → SocketNamed → Type 0
 SocketNamedIs b p (At s) = NamesSocket b p (s .0)
 SocketNamedIs b p Bad = (socketsIn b ≤ socketOf p) ⊎ (byte p 1 ≢ 0)
 
--- the socket's byte says a card, or not
-abbrev pub CardIs : List ℕ → ℕ → Card → Type 0
-CardIs b s In = byte b (Layout.cardsAt + s) ≡ 1
-CardIs b s Out = byte b (Layout.cardsAt + s) ≢ 1
+-- the card that a service needs is in: the socket's byte says a card; or none is needed
+abbrev pub CardEnough : List ℕ → ℕ → CardNeed → Type 0
+CardEnough b s Needed = byte b (Layout.cardsAt + s) ≡ 1
+CardEnough b s Ignored = Unit {0}
+
+-- or it is missing
+abbrev pub CardIs : List ℕ → ℕ → CardNeed → Card → Type 0
+CardIs b s need Enough = CardEnough b s need
+CardIs b s need Missing = CardEnough b s need → ⊥

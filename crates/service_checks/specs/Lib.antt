@@ -1,3 +1,5 @@
 -- What the contracts of `service_checks` cite. Assumes nothing.
 pub mod Checking
-pub use Checking.{SizeIs, CountedIs, NamesSocket, SocketNamedIs, CardIs}
+pub mod Beginning
+pub use Checking.{SizeIs, CountedIs, NamesSocket, SocketNamedIs, CardEnough, CardIs}
+pub use Beginning.{checksAhead, BegunAt, BegunIs}

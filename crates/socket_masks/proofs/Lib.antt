@@ -1,4 +1,3 @@
 -- Each end of the services on masks. Assumes nothing.
 mod Ends
-pub use Ends.{Requests, Releases, in-sockets, in-table, request-begins, request-no-card, request-bad, request-held, request-done, release-begins}
-pub use Ends.{release-nothing, release-done}
+pub use Ends.{requesting, releasing, in-table, request-bad, request-held, request-done, release-nothing, release-done}

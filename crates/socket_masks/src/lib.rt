@@ -1,17 +1,15 @@
 // RequestSocketMask and ReleaseSocketMask, on a table that is the image of a well-formed set.
-use client_record::ClientFound;
 use facts::Code;
 use facts::Handle;
-use facts::Socket;
+use facts::Seat;
 use layout::ALL_EVENTS;
 use layout::CLIENT_MASKS_AT;
 use layout::CLIENT_SIZE;
 use layout::CLIENTS_AT;
 use layout::MASK_SIZE;
 use service_answers::Answer;
-use service_checks::Card;
-use service_checks::Size;
-use service_checks::SocketNamed;
+use service_checks::Begun;
+use service_checks::CardNeed;
 ghost use mathlib.Core.Path.{_≡_};
 ghost use Prim.Native.Nat.{_<_};
 ghost use lib.ListN.{length};
@@ -48,29 +46,29 @@ fn events_asked(p: &[u8]) -> Events
     }
 }
 
-// Whether the client listed in the place `i` has a mask for the socket.
+// Whether the client listed in the place `i` has a mask at the seat.
 pub enum SocketMask {
     Held,
     Free,
 }
 
-fn mask_of(t: &[u8], i: usize, socket: Socket) -> SocketMask
-    requires { ⌜ (length (now t) ≡ tableSize) × (i < Table.mostClients) × (socket .0 < Table.mostSockets) ⌝ }
-    ensures { λ r. ⌜ MaskIs (now (t .entry)) i (socket .0) r ⌝ }
+fn mask_of(t: &[u8], i: usize, seat: Seat) -> SocketMask
+    requires { ⌜ (length (now t) ≡ tableSize) × (i < Table.mostClients) × (seat .0 < Table.mostSeats) ⌝ }
+    ensures { λ r. ⌜ MaskIs (now (t .entry)) i (seat .0) r ⌝ }
 {
-    if client_record::mask_on(t, i, socket) {
+    if client_record::mask_on(t, i, seat) {
         SocketMask::Held
     } else {
         SocketMask::Free
     }
 }
 
-// The word of the client's mask for the socket: 0 for none, 4,096 and the mask itself for one.
-fn write(t: &mut [u8], i: usize, socket: Socket, word: usize)
-    requires { ⌜ (length (now t) ≡ tableSize) × (i < Table.mostClients) × (socket .0 < Table.mostSockets) ⌝ }
-    ensures { λ _. ⌜ now (t .exit) ≡ withWord (now (t .entry)) (maskPlace i (socket .0)) word ⌝ }
+// The word of the client's mask at the seat: 0 for none, 4,096 and the mask itself for one.
+fn write(t: &mut [u8], i: usize, seat: Seat, word: usize)
+    requires { ⌜ (length (now t) ≡ tableSize) × (i < Table.mostClients) × (seat .0 < Table.mostSeats) ⌝ }
+    ensures { λ _. ⌜ now (t .exit) ≡ withWord (now (t .entry)) (maskPlace i (seat .0)) word ⌝ }
 {
-    let number = socket.0;
+    let number = seat.0;
     let at = CLIENTS_AT + i * CLIENT_SIZE + CLIENT_MASKS_AT + number * MASK_SIZE;
     table_write::put_word(t, at, word);
 }
@@ -79,44 +77,35 @@ pub fn request(t: &mut [u8], h: Handle, p: &[u8]) -> Answer
     requires { ⌜ Accepted (now t) ⌝ }
     ensures { λ r. ⌜ RequestServed (h .0) (now (p .entry)) (now (t .entry)) (now (t .exit)) r ⌝ }
 {
-    let Size::Right = service_checks::sized(p, REQUEST_LENGTH) else {
-        return Answer::Refused(Code::BadArgLength);
-    };
-    let ClientFound::At(i) = client_record::client_at(t, h) else {
-        return Answer::Refused(Code::BadHandle);
-    };
-    let SocketNamed::At(socket) = service_checks::socket_named(t, p) else {
-        return Answer::Refused(Code::BadSocket);
-    };
-    let Card::In = service_checks::card_at(t, socket) else {
-        return Answer::Refused(Code::NoCard);
-    };
-    let Events::Allowed(events) = events_asked(p) else {
-        return Answer::Refused(Code::BadAttribute);
-    };
-    let SocketMask::Free = mask_of(t, i, socket) else {
-        return Answer::Refused(Code::InUse);
-    };
-    write(t, i, socket, ALL_EVENTS + events);
-    Answer::Done(h)
+    let begun = service_checks::begin(t, h, p, REQUEST_LENGTH, CardNeed::Needed);
+    match begun {
+        Begun::At(i, seat) => {
+            let Events::Allowed(events) = events_asked(p) else {
+                return Answer::Refused(Code::BadAttribute);
+            };
+            let SocketMask::Free = mask_of(t, i, seat) else {
+                return Answer::Refused(Code::InUse);
+            };
+            write(t, i, seat, ALL_EVENTS + events);
+            Answer::Done(h)
+        }
+        Begun::Refused(code) => Answer::Refused(code),
+    }
 }
 
 pub fn release(t: &mut [u8], h: Handle, p: &[u8]) -> Answer
     requires { ⌜ Accepted (now t) ⌝ }
     ensures { λ r. ⌜ ReleaseServed (h .0) (now (p .entry)) (now (t .entry)) (now (t .exit)) r ⌝ }
 {
-    let Size::Right = service_checks::sized(p, RELEASE_LENGTH) else {
-        return Answer::Refused(Code::BadArgLength);
-    };
-    let ClientFound::At(i) = client_record::client_at(t, h) else {
-        return Answer::Refused(Code::BadHandle);
-    };
-    let SocketNamed::At(socket) = service_checks::socket_named(t, p) else {
-        return Answer::Refused(Code::BadSocket);
-    };
-    let SocketMask::Held = mask_of(t, i, socket) else {
-        return Answer::Refused(Code::BadSocket);
-    };
-    write(t, i, socket, 0);
-    Answer::Done(h)
+    let begun = service_checks::begin(t, h, p, RELEASE_LENGTH, CardNeed::Ignored);
+    match begun {
+        Begun::At(i, seat) => {
+            let SocketMask::Held = mask_of(t, i, seat) else {
+                return Answer::Refused(Code::BadSocket);
+            };
+            write(t, i, seat, 0);
+            Answer::Done(h)
+        }
+        Begun::Refused(code) => Answer::Refused(code),
+    }
 }

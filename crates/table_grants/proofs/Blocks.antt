@@ -5,7 +5,8 @@ use Rattle.facts.specs.{mostAsked, bit, Within}
 use Rattle.layout.specs.{ioIn, IoPairSound}
 use Rattle.io_ranges.proofs.{mod-fewer}
 use Rattle.table_read.specs.{Covers}
-use Rattle.table_read.proofs.{one-bit, or-left, or-right}
+use Rattle.facts.proofs.{one-bit}
+use Rattle.table_read.proofs.{or-left, or-right}
 use Rattle.table_grants.specs.{blockOf, BlocksWithin, AnswersInBlock}
 use Rattle.table_grants.proofs.Covering.{none-common}
 

@@ -1,4 +1,4 @@
--- Sets with a bit for each number: of all below a bound, of the sockets passed, and whether two have a number in common. Assumes nothing.
+-- Sets with a bit for each number: of all below a bound, of the seats passed, and whether two have a number in common. Assumes nothing.
 use Rattle.facts.proofs.Words.{_≡_, refl, ap, _∙_, _≢_, ℕ, suc, _+_, _-_, _/_, _%_, _^_, _<_, pow-suc, ℕ-discrete, arith, bin-ind, bitAnd, bitOr}
 use Rattle.facts.proofs.Words.{eqb, pow-pos, ones-split, ones-lt, high, Says}
 use Rattle.facts.specs.{bit}
@@ -37,7 +37,7 @@ none-common x y e p q k a b =
     let z : bit (bitAnd x y) k ≡ 0 = ap (λ (n : ℕ). bit n k) e ∙ no-bit k in
     omega (arith, bit-and x y k, p k a, q k b)
 
--- the set of the sockets passed, and of one more
+-- the set of the seats passed, and of one more
 module _ (P : ℕ → ℕ → Type 0) where
   pub covers-none : CoversBelow 0 0 P
   covers-none = all-none _

@@ -1,4 +1,4 @@
--- The manners that don't go with one; what IRQ grants hold; and that a grant keeps company with those of the sockets below it exactly if none of them
+-- The manners that don't go with one; what IRQ grants hold; and that a grant keeps company with those at the seats below it exactly if none of them
 -- holds its level in a manner that doesn't go with its own. Assumes nothing.
 use Rattle.facts.proofs.Words.{_≡_, refl, sym, ap, ap₂, _∙_, subst, _↔_, List, ℕ, _+_, _*_, _^_, _≤_, _<_, arith, bitAnd, eqb, Says}
 use Rattle.facts.specs.{Manner, Exclusive, TimeMultiplexed, DynamicLevel, DynamicPulse, byte, bit, Together}
@@ -8,7 +8,8 @@ use Rattle.layout.proofs.{below-at, used-sound}
 use Rattle.irq_levels.specs.Apart.{MannersApart}
 use Rattle.irq_levels.proofs.{rule-says}
 use Rattle.table_read.specs.{HasJust}
-use Rattle.table_read.proofs.{exactly-one, bit-below, shifted-bit, shifted-only}
+use Rattle.facts.proofs.{bit-below, shifted-bit, shifted-only}
+use Rattle.table_read.proofs.{exactly-one}
 use Rattle.table_grants.specs.{PlacesSound, CompanySound, HoldsAs, HeldBelow, Against, heldAs}
 use Rattle.table_grants.proofs.Covering.{common-says}
 
@@ -45,7 +46,7 @@ module _ (b : List ℕ) (s : ℕ) {level manner : ℕ} (l : level ≡ byte b (ir
             number = ap (λ (n : ℕ). heldAs n (at .0)) (sym l) ∙ at .1;
           }
 
--- the grant of the socket s, held against what the sockets below it hold
+-- the grant at the seat s, held against what those at the seats below it hold
 module _ (b : List ℕ) (s : ℕ) (places : PlacesSound (IrqPlaceSound b) s) where
   manner-last : (t : ℕ) → t < s → IrqUsed b t → byte b (irqPlace t + irqMannerAt) ≤ 3
   manner-last t l u = used-sound b (irqPlace t) irqSize (omega arith) (places t l) u .manner

@@ -1,13 +1,15 @@
--- Four bytes are zero where the number that they say is; a record that is used is sound, and records that are all zero keep company; managed ports, read,
--- are those that a record says; and two grants are held against each other where both are there. Assumes nothing.
-use Rattle.facts.proofs.Words.{_≡_, ap, _∙_, subst, _⊎_, inl, _≢_, List, Bool, true, false, not, ℕ, _+_, _-_, _≤_, _<_, arith, Ports, Says}
-use Rattle.facts.specs.{mostSockets, byte, word, long}
-use Rattle.facts.proofs.{says-true, says-as, says-yes, says-no}
-use Rattle.layout.specs.{portsIn, Zero}
-use Rattle.io_answering.specs.{AllManagedIn}
+-- Four bytes are zero where the number that they say is; records that are all zero are sound and keep company; and what is held
+-- at a seat is what its record says. Assumes nothing.
+use Rattle.facts.proofs.Words.{_≡_, ap, sym, subst, _∙_, _⊎_, inl, _≢_, List, ℕ, _+_, _-_, _≤_, _<_, arith, Ports, Bool, Says}
+use Rattle.facts.specs.{mostSeats, byte, word, long, Seat, mostLines, IoGrant, allPorts, mostAsked}
+use Rattle.facts.proofs.{says-as}
+use Rattle.layout.proofs.{ports-are, used-sound}
+use Rattle.layout.specs.{portsIn, Zero, IoPlaceSound, IoSound, ioPlace, ioBaseAt, ioCountAt, ioSize, ioLinesAt, IoUsed}
 use Rattle.table_read.proofs.{All, all-none, all-more}
-use Rattle.table_grants.specs.declared.ios.GrantPorts.{GrantPorts}
-use Rattle.table_grants.specs.{PortsAt, SocketSound}
+use Rattle.seats.specs.declared.HeldPorts.{HeldPorts}
+use Rattle.seats.specs.declared.IoSeat.the-variants.{Held}
+use Rattle.seats.specs.{HeldIs, range}
+use Rattle.table_grants.specs.{PortsSound, SeatSound}
 
 -- four bytes are zero exactly if the number that they say is
 module _ (b : List ℕ) (at to : ℕ) (n : to ≡ at + 4) where
@@ -38,9 +40,9 @@ module _ (b : List ℕ) (at to : ℕ) (n : to ≡ at + 4) where
 
 -- records that are all zero are sound and keep company: there is no grant
 module _ (b : List ℕ) (from to size : ℕ) (place : ℕ → ℕ) (two : 2 ≤ size) (starts : (s : ℕ) → from ≤ place s)
-    (ends : (s : ℕ) → s < mostSockets → place s + size ≤ to) (z : Zero b from to) where
-  pub zero-sound : {P : ℕ → Type 0} {Q : ℕ → ℕ → Type 0} (s : ℕ) → s < mostSockets
-      → SocketSound (λ t. Zero b (place t) (place t + size) ⊎ ((word b (place t) ≢ 0) × P t))
+    (ends : (s : ℕ) → s < mostSeats → place s + size ≤ to) (z : Zero b from to) where
+  pub zero-sound : {P : ℕ → Type 0} {Q : ℕ → ℕ → Type 0} (s : ℕ) → s < mostSeats
+      → SeatSound (λ t. Zero b (place t) (place t + size) ⊎ ((word b (place t) ≢ 0) × P t))
       (λ t u. word b (place t) ≢ 0 → word b (place u) ≢ 0 → Q t u) s
   zero-sound s l =
       record {
@@ -53,17 +55,37 @@ module _ (b : List ℕ) (from to size : ℕ) (place : ℕ → ℕ) (two : 2 ≤ 
             )));
       }
 
--- whether the ports that a record says are managed, and wherever their card answers
-pub managed-read : {b : List ℕ} {at : ℕ} {p : GrantPorts} {r : Bool} → PortsAt b at p
-    → Says r (AllManagedIn b (record { base = p .base; count = p .count; lines = p .lines }))
-    → Says r (AllManagedIn b (portsIn b at))
-managed-read {b} {at} {p} {r} a s =
-    subst (λ (x : Ports). Says r (AllManagedIn b x)) (λ i. record { base = a .base i; count = a .count i; lines = a .lines i }) s
+-- a base and a count that a record can say
+pub record HeldFits (x : HeldPorts) : Type 0 where
+  pub base : x .base < allPorts
+  pub count : x .count ≤ mostAsked
 
--- two records that may have a client each, and P where both have
-module _ {both : Bool} {A A′ P : Type 0} (used : Says both (A × A′)) where
-  pub apart-says : not both ≡ true → Says true (A → A′ → P)
-  apart-says e = says-true (λ a a′. absurd (says-no used e (a, a′)))
+-- an I/O grant that is there: its ports are those of its record, which are bytes
+module _ (b : List ℕ) (s : Seat) (x : HeldPorts) (h : HeldIs b s (Held x)) where
+  pub ports-held : _≡_ {A = Ports} (range x .ports) (portsIn b (ioPlace s))
+  ports-held = ap (λ (y : IoGrant). y .ports) (h .1) ∙ ports-are b s
 
-  pub company-says : {r : Bool} → not both ≡ false → Says r P → Says r (A → A′ → P)
-  company-says e s = let here = says-yes used e in says-as s (λ p a a′. p) (λ f. f (here .0) (here .1))
+  pub lines-held : x .lines ≡ byte b (ioPlace s + ioLinesAt)
+  lines-held = ap (λ (p : Ports). p .lines) ports-held
+
+  pub ports-say : {r : Bool} → Says r (PortsSound b (range x .ports)) → Says r (IoUsed b s × PortsSound b (portsIn b (ioPlace s)))
+  ports-say p = says-as p (λ p. (h .0, subst (PortsSound b) ports-held p)) (λ q. subst (PortsSound b) (sym ports-held) (q .1))
+
+  pub held-fits : ((i : ℕ) → byte b i ≤ 255) → HeldFits x
+  held-fits known =
+      let at = ioPlace s + ioBaseAt in
+      record {
+        base = omega (arith, ap (λ (p : Ports). p .base) ports-held, known at, known (at + 1));
+        count = omega (arith, ap (λ (p : Ports). p .count) ports-held, known (ioPlace s + ioCountAt));
+      }
+
+  -- so that it is sound where the record is
+  module _ (place : IoPlaceSound b s) where
+    grant-sound : IoSound b s
+    grant-sound = used-sound b (ioPlace s) ioSize (omega arith) place (h .0)
+
+    pub held-port : 1 ≤ x .count
+    held-port = omega (arith, ap (λ (p : Ports). p .count) ports-held, grant-sound .port)
+
+    pub held-lines : x .lines ≤ mostLines
+    held-lines = omega (arith, lines-held, grant-sound .lines)

@@ -3,6 +3,7 @@
 use mathlib.Core.Path.{_≡_}
 use mathlib.Core.List.{List}
 use Prim.Native.Nat.{ℕ, _+_, _*_, _/_, _%_, _^_, _≤_, _<_}
+use Rattle.facts.specs.Table.{Seat}
 use Rattle.facts.specs.Packets.{byte, bit}
 use Rattle.facts.specs.Ports.{Within}
 use Rattle.facts.specs.Levels.{Together}
@@ -12,9 +13,9 @@ use Rattle.layout.specs.Layout.{irqLevelAt, irqMannerAt}
 use Rattle.table_read.specs.Sets.{Covers, HasJust, SomeBelow}
 use Rattle.table_grants.specs.declared.irqs.Holding.{Holding}
 
--- the set has each number that P says of a socket below n
-abbrev pub CoversBelow : ℕ → ℕ → (ℕ → ℕ → Type 0) → Type 0
-CoversBelow set n P = (s : ℕ) → s < n → Covers set (P s)
+-- the set has each number that P says of a seat below n
+abbrev pub CoversBelow : ℕ → ℕ → (Seat → ℕ → Type 0) → Type 0
+CoversBelow set n P = (s : Seat) → s < n → Covers set (P s)
 
 -- ports stand in blocks of 256, which are counted modulo 64
 abbrev pub blockOf : ℕ → ℕ
@@ -24,8 +25,8 @@ blockOf p = p / 256 % 64
 abbrev pub BlocksWithin : ℕ → ℕ → ℕ → Type 0
 BlocksWithin set base count = (p : ℕ) → Within p base count → bit set (blockOf p) ≡ 1
 
--- the I/O grant of the socket s answers in the block k: to a port there that equals one of its own modulo two to its lines
-pub record AnswersInBlock (b : List ℕ) (s k : ℕ) : Type 0 where
+-- the I/O grant at the seat s answers in the block k: to a port there that equals one of its own modulo two to its lines
+pub record AnswersInBlock (b : List ℕ) (s : Seat) (k : ℕ) : Type 0 where
   pub used : IoUsed b s
   pub port : ℕ
   pub own : ℕ
@@ -37,24 +38,24 @@ pub record AnswersInBlock (b : List ℕ) (s k : ℕ) : Type 0 where
 abbrev pub heldAs : ℕ → ℕ → ℕ
 heldAs level manner = level * 4 + manner
 
--- the IRQ grant of the socket s holds its level in its manner
-pub record HoldsAs (b : List ℕ) (s k : ℕ) : Type 0 where
+-- the IRQ grant at the seat s holds its level in its manner
+pub record HoldsAs (b : List ℕ) (s : Seat) (k : ℕ) : Type 0 where
   pub used : IrqUsed b s
   pub number : heldAs (byte b (irqPlace s + irqLevelAt)) (byte b (irqPlace s + irqMannerAt)) ≡ k
 
--- so does that of some socket below n
+-- so does that at some seat below n
 abbrev pub HeldBelow : List ℕ → ℕ → ℕ → Type 0
 HeldBelow b n = SomeBelow n (HoldsAs b)
 
--- the level of the IRQ grant of the socket s, in a manner that doesn't go with its own
-pub record Against (b : List ℕ) (s k : ℕ) : Type 0 where
+-- the level of the IRQ grant at the seat s, in a manner that doesn't go with its own
+pub record Against (b : List ℕ) (s : Seat) (k : ℕ) : Type 0 where
   pub used : IrqUsed b s
   pub manner : ℕ
   pub last : manner ≤ 3
   pub apart : Together (mannerOf (byte b (irqPlace s + irqMannerAt))) (mannerOf manner) → ⊥
   pub number : heldAs (byte b (irqPlace s + irqLevelAt)) manner ≡ k
 
--- the sets that say what the socket s holds
-pub record HoldingIs (b : List ℕ) (s : ℕ) (h : Holding) : Type 0 where
+-- the sets that say what is held at the seat s
+pub record HoldingIs (b : List ℕ) (s : Seat) (h : Holding) : Type 0 where
   pub own : HasJust (h .own) (HoldsAs b s)
   pub against : HasJust (h .against) (Against b s)

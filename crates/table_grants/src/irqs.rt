@@ -1,10 +1,9 @@
-// The IRQ grants: a socket's record, and the company that it keeps with those of the sockets below it.
+// The IRQ grants: a seat's record, and the company that its grant keeps with those of the seats below it.
 use crate::sockets::holder_sound;
-use facts::Socket;
+use facts::Handle;
+use facts::Seat;
 use layout::ALL_LEVELS;
 use layout::CLIENTS_AT;
-use layout::IO_SIZE;
-use layout::IOS_AT;
 use layout::IRQ_LEVEL_AT;
 use layout::IRQ_MANNER_AT;
 use layout::IRQ_SIZE;
@@ -12,19 +11,17 @@ use layout::IRQS_AT;
 use layout::LEVEL_SIZE;
 use layout::LEVELS_AT;
 use layout::MARKED;
-use layout::MOST_SOCKETS;
+use layout::MOST_SEATS;
 ghost use mathlib.Core.Path.{_≡_};
-ghost use mathlib.Core.Logic.{_≢_};
 ghost use Prim.Native.Nat.{_+_, _<_, _≤_};
 ghost use lib.ListN.{length};
 ghost use Rattle.facts.specs.Table;
 ghost use Rattle.facts.specs.Says.{Says};
-ghost use Rattle.facts.specs.Packets;
 ghost use Rattle.layout.specs.Layout.{tableSize};
 ghost use Rattle.layout.specs.Reading.{clientsIn};
 ghost use Rattle.layout.specs.Sound.{IoPlaceSound, IrqPlaceSound, IrqPairSound, CountsSound, ClientsSound};
 ghost use Rattle.table_read.specs.Sets.{HasJust};
-ghost use Rattle.table_grants.specs.Parts.{HolderSound, PlacesSound, CompanySound, SocketSound, IosSound, IrqsSound};
+ghost use Rattle.table_grants.specs.Parts.{IoHolder, HolderSound, PlacesSound, CompanySound, SeatSound, IosSound, IrqsSound};
 ghost use Rattle.table_grants.specs.Company.{HeldBelow, HoldingIs};
 
 // The manners are 0 to 3.
@@ -33,39 +30,36 @@ const LAST_MANNER: usize = 3;
 // A level and a manner are one number: the level's manners stand side by side, so that a set of them has a bit for each.
 const ALL_MANNERS: usize = LAST_MANNER + 1;
 
-// Whether the records at two places have a client, and the same one.
-fn same_client(t: &[u8], at: usize, other: usize) -> bool
-    requires { ⌜ (at + 1 < length (now t)) × (other + 1 < length (now t)) ⌝ }
-    ensures { λ r. ⌜ Says r ((Packets.word (now (t .entry)) at ≢ 0) × (Packets.word (now (t .entry)) other ≡ Packets.word (now (t .entry)) at)) ⌝ }
+// Whether the client holds the I/O grant at the seat `s`.
+fn holds_io(t: &[u8], client: Handle, s: Seat) -> bool
+    requires { ⌜ (length (now t) ≡ tableSize) × (s .0 < Table.mostSeats) ⌝ }
+    ensures { λ r. ⌜ Says r (IoHolder (now (t .entry)) (s .0) (client .0)) ⌝ }
 {
-    let client = table_read::handle(t, at);
     if client.0 == 0 {
         return false;
     }
-    client_record::granted(t, other, client)
+    let holder = table_read::handle(t, seats::io_place(s));
+    holder.0 == client.0
 }
 
-// The client and the socket of an IRQ grant, whose record stands at a place: sound where the socket's I/O grant has the same client, as most often.
-fn irq_holder_sound(t: &[u8], at: usize, s: Socket) -> bool
-    requires { ⌜ (length (now t) ≡ tableSize) × (at + 1 < tableSize) × (clientsIn (now t) ≤ Table.mostClients) ⌝ }
-    requires { ⌜ (s .0 < Table.mostSockets) × IoPlaceSound (now t) (s .0) ⌝ }
-    ensures { λ r. ⌜ Says r (HolderSound (now (t .entry)) at (s .0)) ⌝ }
+// The client of the IRQ grant at the seat `s`, and the seat's socket: sound where the client holds the seat's I/O grant too, as most often.
+fn irq_holder_sound(t: &[u8], client: Handle, s: Seat) -> bool
+    requires { ⌜ (length (now t) ≡ tableSize) × (clientsIn (now t) ≤ Table.mostClients) × (s .0 < Table.mostSeats) × IoPlaceSound (now t) (s .0) ⌝ }
+    ensures { λ r. ⌜ Says r (HolderSound (now (t .entry)) (client .0) (s .0)) ⌝ }
 {
-    let number = s.0;
-    if same_client(t, at, IOS_AT + number * IO_SIZE) {
+    if holds_io(t, client, s) {
         return true;
     }
-    holder_sound(t, at, s)
+    holder_sound(t, client, s)
 }
 
-// The IRQ grant of the socket `s`, or a record that is all zero.
-fn irq_place_sound(t: &[u8], s: Socket) -> bool
-    requires { ⌜ (length (now t) ≡ tableSize) × (s .0 < Table.mostSockets) × CountsSound (now t) × ClientsSound (now t) ⌝ }
+// The IRQ grant at the seat `s`, or a record that is all zero.
+fn irq_place_sound(t: &[u8], s: Seat) -> bool
+    requires { ⌜ (length (now t) ≡ tableSize) × (s .0 < Table.mostSeats) × CountsSound (now t) × ClientsSound (now t) ⌝ }
     requires { ⌜ IoPlaceSound (now t) (s .0) ⌝ }
     ensures { λ r. ⌜ Says r (IrqPlaceSound (now (t .entry)) (s .0)) ⌝ }
 {
-    let number = s.0;
-    let at = IRQS_AT + number * IRQ_SIZE;
+    let at = seats::irq_place(s);
     if table_read::zero(t, at, at + IRQ_SIZE) {
         return true;
     }
@@ -79,7 +73,7 @@ fn irq_place_sound(t: &[u8], s: Socket) -> bool
     if LAST_MANNER < table_read::byte(t, at + IRQ_MANNER_AT) {
         return false;
     }
-    irq_holder_sound(t, at, s)
+    irq_holder_sound(t, table_read::handle(t, at), s)
 }
 
 // The level that a grant holds: in its own manner, and in each manner that doesn't go with it.
@@ -88,13 +82,12 @@ pub struct Holding {
     pub against: u64,
 }
 
-// What the IRQ grant of the socket `s` holds.
-fn irq_holding(t: &[u8], s: Socket) -> Holding
-    requires { ⌜ (length (now t) ≡ tableSize) × (s .0 < Table.mostSockets) × IrqPlaceSound (now t) (s .0) ⌝ }
+// What the IRQ grant at the seat `s` holds.
+fn irq_holding(t: &[u8], s: Seat) -> Holding
+    requires { ⌜ (length (now t) ≡ tableSize) × (s .0 < Table.mostSeats) × IrqPlaceSound (now t) (s .0) ⌝ }
     ensures { λ r. ⌜ HoldingIs (now (t .entry)) (s .0) r ⌝ }
 {
-    let number = s.0;
-    let at = IRQS_AT + number * IRQ_SIZE;
+    let at = seats::irq_place(s);
     if table_read::word(t, at) == 0 {
         return Holding { own: 0, against: 0 };
     }
@@ -105,9 +98,9 @@ fn irq_holding(t: &[u8], s: Socket) -> Holding
     Holding { own, against }
 }
 
-// "grants meet only as demand 3 allows": whether no socket below `s` holds its level in a manner that doesn't go with its own.
-fn irq_company_sound(t: &[u8], s: Socket, held: u64) -> bool
-    requires { ⌜ (length (now t) ≡ tableSize) × (s .0 < Table.mostSockets) × PlacesSound (IrqPlaceSound (now t)) (s .0 + 1) ⌝ }
+// "grants meet only as demand 3 allows": whether no grant at a seat below `s` holds its level in a manner that doesn't go with its own.
+fn irq_company_sound(t: &[u8], s: Seat, held: u64) -> bool
+    requires { ⌜ (length (now t) ≡ tableSize) × (s .0 < Table.mostSeats) × PlacesSound (IrqPlaceSound (now t)) (s .0 + 1) ⌝ }
     requires { ⌜ HasJust held (HeldBelow (now t) (s .0)) ⌝ }
     ensures { λ r. ⌜ Says r (CompanySound (IrqPairSound (now (t .entry))) (s .0)) ⌝ }
 {
@@ -115,11 +108,11 @@ fn irq_company_sound(t: &[u8], s: Socket, held: u64) -> bool
     held & holding.against == 0
 }
 
-// The IRQ record of the socket `s`, and the company that its grant keeps with those below it.
-fn irq_socket_sound(t: &[u8], s: Socket, held: u64) -> bool
-    requires { ⌜ (length (now t) ≡ tableSize) × (s .0 < Table.mostSockets) × CountsSound (now t) × ClientsSound (now t) ⌝ }
+// The IRQ record of the seat `s`, and the company that its grant keeps with those below it.
+fn irq_seat_sound(t: &[u8], s: Seat, held: u64) -> bool
+    requires { ⌜ (length (now t) ≡ tableSize) × (s .0 < Table.mostSeats) × CountsSound (now t) × ClientsSound (now t) ⌝ }
     requires { ⌜ IoPlaceSound (now t) (s .0) × PlacesSound (IrqPlaceSound (now t)) (s .0) × HasJust held (HeldBelow (now t) (s .0)) ⌝ }
-    ensures { λ r. ⌜ Says r (SocketSound (IrqPlaceSound (now (t .entry))) (IrqPairSound (now (t .entry))) (s .0)) ⌝ }
+    ensures { λ r. ⌜ Says r (SeatSound (IrqPlaceSound (now (t .entry))) (IrqPairSound (now (t .entry))) (s .0)) ⌝ }
 {
     if !irq_place_sound(t, s) {
         return false;
@@ -127,7 +120,7 @@ fn irq_socket_sound(t: &[u8], s: Socket, held: u64) -> bool
     irq_company_sound(t, s, held)
 }
 
-// The IRQ grants of all sockets: `held` are the levels that the grants passed hold, in their manners.
+// The IRQ grants at all seats: `held` are the levels that the grants passed hold, in their manners.
 pub fn irqs_sound(t: &[u8]) -> bool
     requires { ⌜ (length (now t) ≡ tableSize) × CountsSound (now t) × ClientsSound (now t) × IosSound (now t) ⌝ }
     ensures { λ r. ⌜ Says r (IrqsSound (now (t .entry))) ⌝ }
@@ -136,11 +129,11 @@ pub fn irqs_sound(t: &[u8]) -> bool
         return true;
     }
     let mut held: u64 = 0;
-    for s in 0..MOST_SOCKETS {
-        if !irq_socket_sound(t, Socket(s), held) {
+    for s in 0..MOST_SEATS {
+        if !irq_seat_sound(t, Seat(s), held) {
             return false;
         }
-        let holding = irq_holding(t, Socket(s));
+        let holding = irq_holding(t, Seat(s));
         held = held | holding.own;
     }
     true

@@ -1,4 +1,4 @@
-// What each socket of a table has: its card's mark and its grants, and how the grants of two sockets keep company.
+// What each socket of a table has: its card's mark and the grants at its seat, and how the grants at two seats keep company.
 mod ios;
 mod irqs;
 pub mod sockets;

@@ -1,7 +1,9 @@
-// The sockets: the marks of their cards, and who holds their grants.
+// The marks of the sockets' cards, who holds a grant, and what all sockets have.
 use crate::ios::ios_sound;
 use crate::irqs::irqs_sound;
-use facts::Socket;
+use client_record::ClientFound;
+use facts::Handle;
+use facts::Seat;
 use layout::CARDS_AT;
 use layout::MARKS;
 use layout::MOST_SOCKETS;
@@ -48,15 +50,19 @@ fn cards_sound(t: &[u8]) -> bool
     cards_end(t)
 }
 
-// "every grant .. has a live client and a socket below the count": the grant of the socket `s`, whose record stands at a place.
-pub fn holder_sound(t: &[u8], at: usize, s: Socket) -> bool
-    requires { ⌜ (length (now t) ≡ tableSize) × (at + 1 < tableSize) × (clientsIn (now t) ≤ Table.mostClients) ⌝ }
-    ensures { λ r. ⌜ Says r (HolderSound (now (t .entry)) at (s .0)) ⌝ }
+// "every grant .. has a live client and a socket below the count": a client with a grant at the seat `s`.
+pub fn holder_sound(t: &[u8], client: Handle, s: Seat) -> bool
+    requires { ⌜ (length (now t) ≡ tableSize) × (clientsIn (now t) ≤ Table.mostClients) ⌝ }
+    ensures { λ r. ⌜ Says r (HolderSound (now (t .entry)) (client .0) (s .0)) ⌝ }
 {
     if table_read::byte(t, SOCKETS_IN) <= s.0 {
         return false;
     }
-    client_record::live(t, table_read::handle(t, at))
+    let holder = client_record::client_at(t, client);
+    match holder {
+        ClientFound::At(_) => true,
+        ClientFound::Nobody => false,
+    }
 }
 
 // The cards and the grants of all sockets.

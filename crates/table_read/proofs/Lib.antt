@@ -7,7 +7,7 @@ pub mod Zeros
 pub mod Quarters
 pub use Below.{All, all-none, all-more, SoFar, so-far-none, so-far-more, so-far-next, so-far-stop, so-far-end}
 pub use Bits.{lowest-bit, higher-bit, no-bit}
-pub use Sets.{one-shifted, one-bit, shifted-bit, shifted-only, bit-below, or-left, or-right, exactly-none, exactly-empty, exactly-one, bit-and}
+pub use Sets.{one-shifted, or-left, or-right, exactly-none, exactly-empty, exactly-one, bit-and}
 pub use Sets.{exactly-both, exactly-as, exactly-more}
 pub use Some.{NoneYet, none-next, some-found, none-found}
 pub use Zeros.{zero-where, or-says, zero-joined, Gathered, gathered-none, gathered-more, gathered-says, place-false, place-says, live-used}

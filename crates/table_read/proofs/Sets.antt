@@ -3,55 +3,13 @@ use Rattle.facts.proofs.Words.{_≡_, sym, ap, _∙_, subst, _⊎_, inl, inr, �
 use Rattle.facts.proofs.Words.{mul-assoc, div-eq-of-lt, eq-or-lt-of-le, ℕ-discrete, decLt, arith, bitAnd, bitOr, and-shr, and-step, or-shr, or-step}
 use Rattle.facts.proofs.Words.{shifted-even, pow-add, pow-mono, shl-exact, shl-shr, shr-shr}
 use Rattle.facts.specs.{bit}
+use Rattle.facts.proofs.{one-bit, one-only}
 use Rattle.table_read.specs.{HasJust, SomeBelow}
 use Rattle.table_read.proofs.Bits.{no-bit}
 
 -- the set of one number, which a one that is shifted is
 pub one-shifted : (k w : ℕ) → k < w → (1 * 2 ^ k) % 2 ^ w ≡ 2 ^ k
 one-shifted k w l = shl-exact 1 k w (omega arith) (omega arith) ∙ one-mul (2 ^ k)
-
-pub one-bit : (k : ℕ) → bit (2 ^ k) k ≡ 1
-one-bit k = ap (λ (n : ℕ). bit n k) (sym (one-mul (2 ^ k))) ∙ ap (λ (n : ℕ). n % 2) (shl-shr 1 k)
-
--- a set shifted by j has each of its numbers raised by j, and no other
-pub shifted-bit : (set j m : ℕ) → bit (set * 2 ^ j) (j + m) ≡ bit set m
-shifted-bit set j m = ap (λ (n : ℕ). n % 2) (sym (shr-shr (set * 2 ^ j) j m) ∙ ap (λ (n : ℕ). n / 2 ^ m) (shl-shr set j))
-
-pub shifted-only : (set j k : ℕ) → bit (set * 2 ^ j) k ≡ 1 → (m : ℕ) × (j + m ≡ k) × (bit set m ≡ 1)
-shifted-only set j k e = below-or-not (decLt k j)
-  where
-    more : ℕ
-    more = j - k - 1
-
-    twice : j ≡ suc more + k → set * 2 ^ j ≡ set * 2 ^ suc more * 2 ^ k
-    twice h = ap (λ (n : ℕ). set * n) (ap (λ (n : ℕ). 2 ^ n) h ∙ pow-add 2 (suc more) k) ∙ sym (mul-assoc set (2 ^ suc more) (2 ^ k))
-
-    low : j ≡ suc more + k → bit (set * 2 ^ j) k ≡ 0
-    low h =
-        ap (λ (n : ℕ). bit n k) (twice h) ∙ ap (λ (n : ℕ). n % 2) (shl-shr (set * 2 ^ suc more) k) ∙ shifted-even set more
-
-    below-or-not : Dec (k < j) → (m : ℕ) × (j + m ≡ k) × (bit set m ≡ 1)
-    below-or-not (yes l) = absurd (omega (arith, low (omega arith)))
-    below-or-not (no l) =
-        let here : j + (k - j) ≡ k = omega arith in
-        (k - j, here, sym (shifted-bit set j (k - j)) ∙ ap (bit (set * 2 ^ j)) here ∙ e)
-
--- a set has no number past its last
-pub bit-below : (set n k : ℕ) → set < 2 ^ n → bit set k ≡ 1 → k < n
-bit-below set n k l e = below-or-not (decLt k n)
-  where
-    below-or-not : Dec (k < n) → k < n
-    below-or-not (yes h) = h
-    below-or-not (no h) =
-        let past : 2 ^ n ≤ 2 ^ k = pow-mono {i = n} {j = k} (omega arith) in
-        let none : bit set k ≡ 0 = ap (λ (m : ℕ). m % 2) (div-eq-of-lt (omega arith)) in
-        absurd (omega arith)
-
--- the set of one number has no other
-pub one-only : (j k : ℕ) → bit (2 ^ j) k ≡ 1 → j ≡ k
-one-only j k e =
-    let m = shifted-only 1 j k (ap (λ (n : ℕ). bit n k) (one-mul (2 ^ j)) ∙ e) in
-    omega (arith, m .1, bit-below 1 1 (m .0) (omega arith) (m .2))
 
 -- a number is in one of two sets, or in both
 module _ (x y k : ℕ) where

@@ -1,36 +1,22 @@
--- `client_record::client_at` meets its contract: none of the clients passed has the handle.
+-- `client_record::client_at` meets its contract: who stands by number is listed there; else the search answers.
 -- Assumes nothing.
-use Rattle.facts.proofs.Words.{_≡_, sym, _∙_, _-_, arith}
-use Rattle.layout.specs.{handleIn}
-use Rattle.table_read.proofs.{SoFar, so-far-none, so-far-more}
+use Rattle.facts.proofs.Words.{arith, now, needs}
+use Rattle.client_record.specs.Finding.{ByNumber}
 use Rattle.client_record.proofs.client_at.Tie as tie
 
-abbrev Inv-loop : tie.InvT-loop
-Inv-loop t clients wanted i₀ i = SoFar clients (λ k. handleIn t k ≡ wanted → ⊥) i
+-- the client stands by its number
+abbrev test : tie.After-struct-known → tie.After-stands-by-number
+test c = c .before .before
 
-abbrev μ-loop : tie.MeasureT-loop
-μ-loop t clients wanted i₀ i = clients - i
+abbrev start : tie.After-struct-known → tie.Start
+start c = test c .before .before
 
--- where the turn began in which the handle was read
-abbrev turn : tie.After-struct-known Inv-loop μ-loop → tie.At-loop Inv-loop μ-loop
-turn c = c .before .before .before
+stands : (c : tie.After-struct-known) → ByNumber (now (start c .args .t)) (start c .args .h .0)
+stands c = test c .stands-by-number .ensures .holds (c .before .if1 .taken)
 
-returns : tie.Need-returns Inv-loop μ-loop
-returns c =
-    record {
-      listed = omega arith;
-      handle = sym (c .before .before .handle .ensures) ∙ c .if1 .taken;
-      first = turn (c .before) .loop .inv .each;
-    }
-
-loop-again : tie.Need-loop-again Inv-loop μ-loop
-loop-again c = so-far-more (turn (c .before) .loop .inv) (omega arith) (λ e. c .if1 .left (c .before .before .handle .ensures ∙ e))
-
-returns-2 : tie.Need-returns-2 Inv-loop μ-loop
-returns-2 c = λ l. c .before .loop .inv .each (l .0) (omega (arith, l .1)) (l .2)
+returns : tie.Need-returns
+returns c = record { listed = omega (arith, stands c .least, stands c .listed); handle = stands c .handle }
 
 pub client-at-spec : {M : Type 1} → Rattle.client_record.proofs.client_at.Statement.statement M
 client-at-spec =
-    tie.close
-    (tie.spec Inv-loop μ-loop (λ c κs. omega arith) (λ c. so-far-none) (λ c. omega arith) (λ c. omega arith) (λ c κs. omega arith) returns
-    (λ c. omega arith) (λ c. omega arith) loop-again returns-2)
+    tie.close (tie.spec (λ c κs. search needs) (λ c. search needs) (λ c. omega (arith, stands c .least)) returns (λ c κs. search needs) (λ c. search needs))

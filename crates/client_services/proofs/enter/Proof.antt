@@ -1,7 +1,7 @@
 -- `client_services::enter` meets its contract: the four numbers and the count are written one after the other.
 -- Assumes nothing.
-use Rattle.facts.proofs.Words.{needs, now}
-use Rattle.client_services.proofs.{enters, enters-length}
+use Rattle.facts.proofs.Words.{needs, now, length-set}
+use Rattle.client_services.proofs.{enters}
 use Rattle.client_services.proofs.enter.Tie as tie
 
 -- each write, and where the bytes were lent for it
@@ -30,24 +30,14 @@ module _ (c : tie.After-slice-known5) where
   abbrev start : tie.Start
   start = first .before .before .before
 
-same-length : tie.Need-same-length
-same-length c =
-    let a = start c .args in
-    enters-length (now (a .t)) (first c .put-word .last .0) (second c .put-word2 .last .0) (third c .put-word3 .last .0)
-    (fourth c .put-word4 .last .0) (a .n)
-    (a .h .0) (a .attributes) (a .events) (first c .put-word .ensures) (second c .put-word2 .ensures) (third c .put-word3 .ensures)
-    (fourth c .put-word4 .ensures)
-
 returns : tie.Need-returns
 returns c =
     let a = start c .args in
-    enters (now (a .t)) (first c .put-word .last .0) (second c .put-word2 .last .0) (third c .put-word3 .last .0) (fourth c .put-word4 .last .0)
-    (a .n) (a .h .0)
-    (a .attributes) (a .events) (first c .put-word .ensures) (second c .put-word2 .ensures) (third c .put-word3 .ensures)
-    (fourth c .put-word4 .ensures)
+    enters (now (a .t)) _ _ _ _ (a .n) (a .h .0) (a .attributes) (a .events) (first c .put-word .ensures) (second c .put-word2 .ensures)
+    (third c .put-word3 .ensures) (fourth c .put-word4 .ensures)
 
 pub enter-spec : {M : Type 1} → Rattle.client_services.proofs.enter.Statement.statement M
 enter-spec =
     tie.close
     (tie.spec (λ c. search needs) (λ c. search needs) (λ c. search needs) (λ c κs. search needs) (λ c. search needs) (λ c κs. search needs)
-    (λ c. search needs) (λ c κs. search needs) (λ c κs. search needs) (λ c. search needs) (λ c. search needs) (λ c. search needs) same-length returns)
+    (λ c. search needs) (λ c κs. search needs) (λ c κs. search needs) (λ c. search needs) (λ c. search needs) (λ c. search needs) (λ c. simp length-set (search needs)) returns)

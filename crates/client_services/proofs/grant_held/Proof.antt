@@ -1,16 +1,17 @@
--- `client_services::grant_held` meets its contract: none of the sockets passed has a grant of the client.
+-- `client_services::grant_held` meets its contract: none of the seats passed has a grant of the client.
 -- Assumes nothing.
 use Rattle.facts.proofs.Words.{_-_, arith}
-use Rattle.facts.specs.{mostSockets}
+use Rattle.facts.specs.{mostSeats}
+use Rattle.layout.specs.{factsIn}
 use Rattle.table_read.proofs.{so-far-none, NoneYet, none-next, some-found, none-found}
-use Rattle.client_services.specs.{GrantIn}
+use Rattle.client_services.specs.{GrantAt}
 use Rattle.client_services.proofs.grant_held.Tie as tie
 
 abbrev Inv-loop : tie.InvT-loop
-Inv-loop t h s₀ s = NoneYet mostSockets (GrantIn t (h .0)) s
+Inv-loop t h s₀ s = NoneYet mostSeats (GrantAt (factsIn t) (h .0)) s
 
 abbrev μ-loop : tie.MeasureT-loop
-μ-loop t h s₀ s = mostSockets - s
+μ-loop t h s₀ s = mostSeats - s
 
 returns : tie.Need-returns Inv-loop μ-loop
 returns c = some-found (omega arith) (c .before .grant-on .ensures) (c .if1 .taken)

@@ -1,16 +1,16 @@
--- `client_services::mask_held` meets its contract: the client has no mask for the sockets passed.
+-- `client_services::mask_held` meets its contract: the client has no mask at the seats passed.
 -- Assumes nothing.
 use Rattle.facts.proofs.Words.{_-_, arith}
-use Rattle.facts.specs.{mostSockets}
+use Rattle.facts.specs.{mostSeats}
 use Rattle.table_read.proofs.{so-far-none, NoneYet, none-next, some-found, none-found}
 use Rattle.layout.specs.{MaskUsed}
 use Rattle.client_services.proofs.mask_held.Tie as tie
 
 abbrev Inv-loop : tie.InvT-loop
-Inv-loop t i s₀ s = NoneYet mostSockets (MaskUsed t i) s
+Inv-loop t i s₀ s = NoneYet mostSeats (MaskUsed t i) s
 
 abbrev μ-loop : tie.MeasureT-loop
-μ-loop t i s₀ s = mostSockets - s
+μ-loop t i s₀ s = mostSeats - s
 
 returns : tie.Need-returns Inv-loop μ-loop
 returns c = some-found (omega arith) (c .before .mask-on .ensures) (c .if1 .taken)

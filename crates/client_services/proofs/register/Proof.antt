@@ -1,12 +1,10 @@
 -- `client_services::register` meets its contract: each check's answer says which end of the rule it is.
 -- Assumes nothing.
-use Rattle.facts.proofs.Words.{_≡_, sym, subst, List, ℕ, needs, length, now}
-use Rattle.service_checks.specs.{SizeIs}
-use Rattle.facts.specs.{Success, registerLength}
-use Rattle.layout.specs.{ServedBy}
+use Rattle.facts.proofs.Words.{_≡_, List, ℕ, needs, length, now}
+use Rattle.facts.specs.{registerLength}
 use Rattle.layout.proofs.{size-in}
-use Rattle.client_services.specs.{Asks, AsksFor, NextIs, RoomIs}
-use Rattle.client_services.proofs.{Registers, register-length, register-bad, register-full, register-done}
+use Rattle.client_services.specs.{Asks, NextIs}
+use Rattle.client_services.proofs.{register-length, register-bad, register-full, register-done}
 use Rattle.client_services.proofs.register.Tie as tie
 
 -- where the call began, its table and its packet
@@ -21,7 +19,7 @@ packet c = now (start c .args .p)
 
 -- the packet's length is right
 length-right : (c : tie.After-enum-told) → length (packet (c .before .before)) ≡ registerLength
-length-right c = subst (SizeIs (packet (c .before .before)) registerLength) (c .enum-told .given .1) (c .before .before .sized .ensures)
+length-right c = let tried = c .before .before in rw (c .enum-told .given .1) at (tried .sized .ensures)
 
 -- a client is asked for, with its attributes and its event mask
 abbrev call-of-request : tie.After-asks → tie.After-sized
@@ -31,7 +29,7 @@ abbrev request-of-client : tie.After-known-told → tie.After-asks
 request-of-client c = c .before .before .before
 
 client : (c : tie.After-known-told) → let g = c .before .attributes .given .0 in Asks (packet (call-of-request (request-of-client c))) (g .0) (g .1 .0)
-client c = subst (AsksFor (packet (call-of-request (request-of-client c)))) (c .before .attributes .given .1) (request-of-client c .asks .ensures)
+client c = let tried = c .before .before .before in rw (c .before .attributes .given .1) at (tried .asks .ensures)
 
 -- there is room for it: the next place, and the next handle
 abbrev client-of-room : tie.After-next-place → tie.After-known-told
@@ -44,20 +42,18 @@ abbrev room-of-place : tie.After-known-told2 → tie.After-next-place
 room-of-place c = c .before .before .before
 
 room : (c : tie.After-known-told2) → let g = c .before .n .given .0 in NextIs (table (call-of-room (room-of-place c))) (g .0) (g .1 .0 .0)
-room c = subst (RoomIs (table (call-of-room (room-of-place c)))) (c .before .n .given .1) (room-of-place c .next-place .ensures)
+room c = let tried = c .before .before .before in rw (c .before .n .given .1) at (tried .next-place .ensures)
 
 returns : tie.Need-returns
 returns c =
     let sized = c .before .before in
-    register-length (table sized) (packet sized) (start sized .pre)
-    (subst (SizeIs (packet sized) registerLength) (c .enum-told2 .given .1) (sized .sized .ensures))
+    register-length (table sized) (packet sized) (start sized .pre) (rw (c .enum-told2 .given .1) at (sized .sized .ensures))
 
 returns-2 : tie.Need-returns-2
 returns-2 c =
     let asks = c .before .before in
     let sized = call-of-request asks in
-    register-bad (table sized) (packet sized) (start sized .pre) (length-right (asks .before))
-    (subst (AsksFor (packet sized)) (c .enum-told3 .given .1) (asks .asks .ensures))
+    register-bad (table sized) (packet sized) (start sized .pre) (length-right (asks .before)) (rw (c .enum-told3 .given .1) at (asks .asks .ensures))
 
 next-place-requires : tie.Need-next-place-requires
 next-place-requires c κs = let sized = call-of-request (request-of-client (c .before)) in size-in (table sized) (start sized .pre)
@@ -68,7 +64,7 @@ returns-3 c =
     let sized = call-of-room place in
     let told = client-of-room place in
     register-full (table sized) (packet sized) (start sized .pre) (length-right (request-of-client told .before)) (client told)
-    (subst (RoomIs (table sized)) (c .enum-told4 .given .1) (place .next-place .ensures))
+    (rw (c .enum-told4 .given .1) at (place .next-place .ensures))
 
 enter-requires : tie.Need-enter-requires
 enter-requires c κs = let sized = call-of-room (room-of-place (c .before)) in (size-in (table sized) (start sized .pre), room (c .before) .room)
@@ -79,8 +75,7 @@ returns-4 c =
     let found = entered .before .before in
     let sized = call-of-room (room-of-place found) in
     let told = client-of-room (room-of-place found) in
-    subst (λ (b : List ℕ). ServedBy (Registers (packet sized)) (table sized) b (packet sized) Success (found .before .n .given .0 .1 .0 .0))
-    (sym (entered .enter .ensures))
+    rw (entered .enter .ensures)
     (register-done (table sized) (packet sized) (start sized .pre) (length-right (request-of-client told .before)) (client told) (room found))
 
 pub register-spec : {M : Type 1} → Rattle.client_services.proofs.register.Statement.statement M

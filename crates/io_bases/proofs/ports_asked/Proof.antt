@@ -1,83 +1,60 @@
 -- `io_bases::ports_asked` meets its contract: a port lies past the last one, or one where the card answers is not managed, or all are.
 -- Assumes nothing.
-use Rattle.facts.proofs.Words.{refl, arith, now, needs}
+use Rattle.facts.proofs.Words.{refl, inl, List, ℕ, _+_, _<_, arith, now, needs}
+use Rattle.facts.specs.{allPorts}
 use Rattle.facts.proofs.{says-yes, says-no}
+use Rattle.layout.specs.Sound.{Sound}
 use Rattle.layout.proofs.{size-in, sound-in}
-use Rattle.io_bases.proofs.{past-ports, all-managed}
+use Rattle.io_answering.proofs.{none-yet}
+use Rattle.io_bases.proofs.{all-managed}
 use Rattle.io_bases.proofs.Said.{unmanaged}
 use Rattle.io_bases.proofs.ports_asked.Tie as tie
 
--- where the count was read, after the base, and where the call began
-abbrev counted : tie.After-lines-asked → tie.After-count-asked
-counted c = c .before
+-- where the call began, and its table, which is sound
+abbrev start : tie.Else1 → tie.Start
+start c = c .before .before
 
-abbrev start : tie.After-count-asked → tie.Start
-start c = let based = c .before in based .before .before .before
+abbrev table : tie.Else1 → List ℕ
+table c = now (start c .args .t)
 
-returns : tie.Need-returns
-returns c =
-    let read = c .before in
-    let k = counted read in
-    let s = start k .args in
-    λ a. past-ports (now (s .t)) (now (s .p)) (k .before .base-asked .ensures .0) (k .count-asked .ensures .0) (read .lines-asked .ensures .0) a
-    (c .if1 .taken)
+sound : (c : tie.Else1) → Sound (table c)
+sound c = sound-in (table c) (start c .pre .0)
 
--- where no port was found to lie past the last one
-abbrev asked : tie.Else1 → tie.After-lines-asked
-asked c = c .before
+-- no port lies past the last one
+within : (c : tie.Else1) → allPorts < start c .args .asked .base + start c .args .asked .count → ⊥
+within c l = omega (arith, c .if1 .left)
+
+-- where the rows were filled
+abbrev within-of-rows : tie.After-gap-rows → tie.Else1
+within-of-rows c = c .before .before
+
+abbrev rows-of-look : tie.After-managed → tie.After-gap-rows
+rows-of-look c = let lent = c .before in lent .before .before
 
 gap-rows-requires : tie.Need-gap-rows-requires
-gap-rows-requires c κs =
-    let s = start (counted (asked (c .before))) in
-    let b = now (s .args .t) in
-    let sound = sound-in b (s .pre .0) in ((size-in b (s .pre .0), sound .ranges-most, sound .ranges), refl)
-
--- where the rows were filled, and before that no port was found to lie past the last one
-abbrev filled : tie.After-managed → tie.After-gap-rows
-filled c = c .before .before
-
-abbrev within : tie.After-gap-rows → tie.Else1
-within c = c .before .before
+gap-rows-requires c κs = let k = c .before in ((size-in (table k) (start k .pre .0), sound k .ranges-most, sound k .ranges), none-yet 80 _ refl (omega arith))
 
 managed-requires : tie.Need-managed-requires
 managed-requires c κs =
-    let made = c .before in
-    let read = asked (within made) in
-    let k = counted read in
-    let s = start k in
-    let b = now (s .args .t) in
-    let sound = sound-in b (s .pre .0) in (
-      (size-in b (s .pre .0), sound .ranges-most, sound .ranges, made .gap-rows .ensures),
-      (
-        omega (arith, k .before .base-asked .ensures .1),
-        omega (arith, k .count-asked .ensures .0, s .pre .3),
-        k .count-asked .ensures .1,
-        omega (arith, read .lines-asked .ensures .0, s .pre .2),
-      ),
-    )
+    let made = c .before .before in
+    let k = within-of-rows made in
+    let f = start k .pre .1 in
+    ((size-in (table k) (start k .pre .0), sound k .ranges-most, sound k .ranges, made .gap-rows .ensures), (f .base, f .port, f .ports, f .lines))
 
 returns-2 : tie.Need-returns-2
 returns-2 c =
     let looked = c .before in
-    let at = within (filled looked) in
-    let read = asked at in
-    let k = counted read in
-    let s = start k .args in
-    λ a. unmanaged (now (s .t)) (now (s .p)) (k .before .base-asked .ensures .0) (k .count-asked .ensures .0) (read .lines-asked .ensures .0) a
-    (λ l. omega (arith, at .if1 .left)) (says-no (looked .managed .ensures) (c .if2 .taken))
+    let k = within-of-rows (rows-of-look looked) in
+    λ a. unmanaged (table k) (start k .args .asked) a (within k) (says-no (looked .managed .ensures) (c .if2 .taken))
 
 returns-3 : tie.Need-returns-3
 returns-3 c =
     let looked = c .before in
-    let at = within (filled looked) in
-    let read = asked at in
-    let k = counted read in
-    let s = start k .args in
-    λ a. all-managed (now (s .t)) (now (s .p)) (k .before .base-asked .ensures .0) (k .count-asked .ensures .0) (read .lines-asked .ensures .0) a
-    (λ l. omega (arith, at .if1 .left)) (says-yes (looked .managed .ensures) (c .if2 .left))
+    let k = within-of-rows (rows-of-look looked) in
+    λ a. all-managed (table k) (start k .args .asked) a (within k) (says-yes (looked .managed .ensures) (c .if2 .left))
 
 pub ports-asked-spec : {M : Type 1} → Rattle.io_bases.proofs.ports_asked.Statement.statement M
 ports-asked-spec =
     tie.close
-    (tie.spec (λ c κs. search needs) (λ c κs. search needs) (λ c κs. search needs) (λ c. search needs) returns gap-rows-requires managed-requires
-    returns-2 returns-3)
+    (tie.spec (λ c. let f = c .before .pre .1 in omega (arith, f .base, f .ports)) (λ c. λ a. inl (omega (arith, c .if1 .taken))) (λ c. search needs) gap-rows-requires
+    managed-requires returns-2 returns-3)

@@ -13,14 +13,17 @@ returns : tie.Need-returns
 returns c =
     let a = start (c .before) .args in
     let fit = start (c .before) .pre .0 in
-    leap-none (a .s) (a .base) fit (rw (← masked _ (a .s .ones) (fit .period)) (c .if1 .taken))
+    leap-none (a .s) (a .base) (a .s .ones) (fit .start) (fit .width) (rw (← masked _ (a .s .ones) (fit .period)) (c .if1 .taken))
 
 returns-2 : tie.Need-returns-2
 returns-2 c =
     let a = start (c .before) .args in
     let fit = start (c .before) .pre .0 in
     let behind = masked (a .base + around - a .s .start) (a .s .ones) (fit .period) in
-    rw behind (leap-some (a .s) (a .base) fit (rw (← behind) (omega (arith, c .if1 .left))))
+    rw behind
+    (leap-some (a .s) (a .base) (a .s .ones) (fit .start) (fit .width) (omega arith) (rw (← behind) (omega (arith, c .if1 .left))))
 
 pub ahead-spec : {M : Type 1} → Rattle.io_obstacles.proofs.ahead.Statement.statement M
-ahead-spec = tie.close (tie.spec (λ c. search needs) (λ c. search needs) returns (λ c. search needs) returns-2)
+ahead-spec =
+    tie.close
+    (tie.spec (λ c. search needs) (λ c. search needs) (λ c. search needs) returns (λ c. search needs) (λ c. search needs) returns-2)

@@ -1,45 +1,39 @@
--- `io_services::enter_asked` meets its contract: what the packet asks for is entered, and the base is put into it.
+-- `io_services::enter_asked` meets its contract: what is asked for is entered, and the base is put into the packet.
 -- Assumes nothing.
-use Rattle.facts.proofs.Words.{_∙_, now, needs}
-use Rattle.layout.specs.{ioEntered}
+use Rattle.facts.proofs.Words.{_∙_, ap, ℕ, now, needs, Bool, true, false, _<_, arith}
+use Rattle.layout.specs.{ioEntered, mark}
 use Rattle.io_services.proofs.enter_asked.Tie as tie
 
--- where the call began; then count, lines and mark are read
-abbrev lined : tie.After-shared-mark → tie.After-lines-asked
-lined c = c .before .before
+-- where the call began
+abbrev start : tie.After-mark-of → tie.Start
+start c = let lent = c .before in lent .before .before .before
 
-abbrev counted : tie.After-shared-mark → tie.After-count-asked
-counted c = lined c .before .before
+-- a mark is 0 or 1
+mark-low : (s : Bool) → mark s < 256
+mark-low true = omega arith
+mark-low false = omega arith
 
-abbrev lent : tie.After-count-asked → tie.After-slice-known2
-lent c = c .before .before
-
-abbrev start : tie.After-shared-mark → tie.Start
-start c = lent (counted c) .before .before
+enter-requires : tie.Need-enter-requires
+enter-requires c κs =
+    let s = start c in
+    let f = s .pre .3 in
+    (s .pre .0, s .pre .1, s .pre .2, f .ports, omega (arith, f .lines), omega (arith, c .mark-of .ensures, mark-low (s .args .asked .shared)))
 
 -- the record is entered, then the base put in
-abbrev put-lent : tie.After-put-word → tie.After-put-word-arg
-put-lent c = c .before
-
-abbrev before-put : tie.After-put-word → tie.After-enter
-before-put c = put-lent c .before .before .before
+abbrev entry-of-put : tie.After-put-word → tie.After-enter
+entry-of-put c = let lent = c .before in lent .before .before .before
 
 returns : tie.Need-returns
 returns c =
     let put = c .before .before in
-    let entered = before-put put in
-    let mark = entered .before .before in
-    let lines = mark .before .before in
-    let count = lines .before .before in
-    let s = start mark .args in (
+    let entered = entry-of-put put in
+    let marked = entered .before in
+    let a = start marked .args in (
       entered .enter .ensures
-          ∙ (λ i. ioEntered (now (s .t)) (s .socket .0) (s .h .0) (s .base) (count .count-asked .ensures .0 i) (lines .lines-asked .ensures .0 i)
-          (mark .shared-mark .ensures .0 i)),
+          ∙ ap (λ (m : ℕ). ioEntered (now (a .t)) (a .seat .0) (a .h .0) (a .base) (a .asked .count) (a .asked .lines) m) (marked .mark-of .ensures),
       put .put-word .ensures,
     )
 
 pub enter-asked-spec : {M : Type 1} → Rattle.io_services.proofs.enter_asked.Statement.statement M
 enter-asked-spec =
-    tie.close
-    (tie.spec (λ c κs. search needs) (λ c κs. search needs) (λ c κs. search needs) (λ c κs. search needs) (λ c κs. search needs) (λ c. search needs)
-    (λ c. search needs) returns)
+    tie.close (tie.spec (λ c κs. search needs) enter-requires (λ c κs. search needs) (λ c. search needs) (λ c. search needs) returns)

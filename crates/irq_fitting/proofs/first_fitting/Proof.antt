@@ -1,18 +1,8 @@
 -- `irq_fitting::first_fitting` meets its contract: the lowest of the unreserved levels that fit, or of the reserved ones, or there is none.
 -- Assumes nothing.
-use Rattle.facts.proofs.Words.{List, ℕ, now, needs}
+use Rattle.facts.proofs.Words.{needs}
 use Rattle.irq_fitting.proofs.{unreserved-taken, reserved-taken, none-fits}
 use Rattle.irq_fitting.proofs.first_fitting.Tie as tie
-
--- where the call began, its table and its packet
-abbrev start : tie.After-named → tie.Start
-start c = c .before .before .before
-
-abbrev table : tie.After-named → List ℕ
-table c = now (start c .args .t)
-
-abbrev packet : tie.After-named → List ℕ
-packet c = now (start c .args .p)
 
 -- where the levels that fit were found, and none of them was unreserved
 abbrev found : tie.Else1 → tie.After-levels-fitting
@@ -21,28 +11,21 @@ found c = c .before .before
 returns : tie.Need-returns
 returns c =
     let k = c .before .before .before in
-    let n = k .before in
-    λ a. unreserved-taken (table n) (packet n) a (n .named .result) (start n .args .way) (n .named .ensures) (start n .pre .2) (k .levels-fitting .result)
-    (k .levels-fitting .ensures) (c .lowest .result) (c .lowest .ensures)
+    unreserved-taken _ _ _ (k .levels-fitting .ensures) _ (c .lowest .ensures)
 
 returns-2 : tie.Need-returns-2
 returns-2 c =
     let e = c .before .before .before in
     let k = found e in
-    let n = k .before in
-    λ a. reserved-taken (table n) (packet n) a (n .named .result) (start n .args .way) (n .named .ensures) (start n .pre .2) (k .levels-fitting .result)
-    (k .levels-fitting .ensures) (e .if1 .left) (c .lowest2 .result) (c .lowest2 .ensures)
+    reserved-taken _ _ _ (k .levels-fitting .ensures) (e .if1 .left) _ (c .lowest2 .ensures)
 
 returns-3 : tie.Need-returns-3
 returns-3 c =
     let e = c .before .before in
     let k = found e in
-    let n = k .before in
-    λ a. none-fits (table n) (packet n) a (n .named .result) (start n .args .way) (n .named .ensures) (start n .pre .2) (k .levels-fitting .result)
-    (k .levels-fitting .ensures) (e .if1 .left) (c .if2 .left)
+    none-fits _ _ _ (k .levels-fitting .ensures) (e .if1 .left) (c .if2 .left)
 
 pub first-fitting-spec : {M : Type 1} → Rattle.irq_fitting.proofs.first_fitting.Statement.statement M
 first-fitting-spec =
     tie.close
-    (tie.spec (λ c κs. search needs) (λ c κs. search needs) (λ c κs. search needs) (λ c. search needs) returns (λ c κs. search needs)
-    (λ c. search needs) returns-2 returns-3)
+    (tie.spec (λ c κs. search needs) (λ c κs. search needs) (λ c. search needs) returns (λ c κs. search needs) (λ c. search needs) returns-2 returns-3)

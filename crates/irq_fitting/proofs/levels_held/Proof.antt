@@ -1,23 +1,21 @@
--- `irq_fitting::levels_held` meets its contract: each socket in turn.
+-- `irq_fitting::levels_held` meets its contract: each seat in turn.
 -- Assumes nothing.
 use Rattle.facts.proofs.Words.{_≡_, _-_, _≤_, arith}
-use Rattle.facts.specs.{mostSockets}
+use Rattle.facts.specs.{mostSeats}
+use Rattle.layout.specs.{factsIn}
 use Rattle.table_read.specs.{HasJust, SomeBelow}
 use Rattle.table_read.proofs.{exactly-none, exactly-more}
 use Rattle.irq_fitting.specs.{StandsAt, GoesAt}
 use Rattle.irq_fitting.proofs.levels_held.Tie as tie
 
 abbrev Inv-loop : tie.InvT-loop
-Inv-loop t p m way₀ together₀ s₀ way together s =
-    (s ≤ mostSockets) × HasJust way (SomeBelow s (StandsAt t p)) × HasJust together (SomeBelow s (GoesAt t p))
+Inv-loop t asked way₀ together₀ s₀ way together s =
+    (s ≤ mostSeats) × HasJust way (SomeBelow s (StandsAt (factsIn t) asked)) × HasJust together (SomeBelow s (GoesAt (factsIn t) asked))
 
 abbrev μ-loop : tie.MeasureT-loop
-μ-loop t p m way₀ together₀ s₀ way together s = mostSockets - s
+μ-loop t asked way₀ together₀ s₀ way together s = mostSeats - s
 
--- where the call began, and where a turn did
-abbrev start : tie.After-manner-asked Inv-loop μ-loop → tie.Start Inv-loop μ-loop
-start c = c .before .before .before
-
+-- where a turn began
 abbrev turn : tie.After-levels-at Inv-loop μ-loop → tie.In-loop Inv-loop μ-loop
 turn c = c .before
 
@@ -25,9 +23,7 @@ loop-holds : tie.Need-loop-holds Inv-loop μ-loop
 loop-holds c = (omega arith, exactly-none (λ l x. omega (arith, x .1)), exactly-none (λ l x. omega (arith, x .1)))
 
 levels-at-requires : tie.Need-levels-at-requires Inv-loop μ-loop
-levels-at-requires c κs =
-    let asked = c .before .before in
-    (start asked .pre .0, omega (arith, c .loop-test .taken), start asked .pre .1, asked .manner-asked .ensures)
+levels-at-requires c κs = (c .before .before .before .pre, omega (arith, c .loop-test .taken))
 
 loop-again : tie.Need-loop-again Inv-loop μ-loop
 loop-again c =
@@ -38,11 +34,10 @@ loop-again c =
 returns : tie.Need-returns Inv-loop μ-loop
 returns c =
     let k = c .before .loop in
-    let all : k .s ≡ mostSockets = omega (arith, k .inv .0, c .loop-test .left) in
+    let all : k .s ≡ mostSeats = omega (arith, k .inv .0, c .loop-test .left) in
     record { way = rw all at (k .inv .1); together = rw all at (k .inv .2) }
 
 pub levels-held-spec : {M : Type 1} → Rattle.irq_fitting.proofs.levels_held.Statement.statement M
 levels-held-spec =
     tie.close
-    (tie.spec Inv-loop μ-loop (λ c κs. c .before .before .pre .1) loop-holds levels-at-requires (λ c. omega arith) (λ c. omega arith) loop-again
-    returns)
+    (tie.spec Inv-loop μ-loop loop-holds levels-at-requires (λ c. omega arith) (λ c. omega arith) loop-again returns)

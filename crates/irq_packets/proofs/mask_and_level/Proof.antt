@@ -1,16 +1,12 @@
 -- `irq_packets::mask_and_level` meets its contract: Mask, and a level beside it.
 -- Assumes nothing.
 use Rattle.facts.proofs.Words.{needs}
-use Rattle.facts.proofs.{says-eq, says-as, says-yes, says-not, says-false-by}
+use Rattle.facts.proofs.{says-not}
+use Rattle.irq_packets.proofs.{says-read, says-both}
 use Rattle.irq_packets.proofs.mask_and_level.Tie as tie
 
 returns : tie.Need-returns
-returns c = says-false-by (c .before .info-set .ensures) (c .if1 .taken) (λ q. q .0)
-
-returns-2 : tie.Need-returns-2
-returns-2 c =
-    let mask = says-yes (c .before .before .info-set .ensures) (c .before .if1 .left) in
-    rw (c .level-asked .ensures) (says-as (says-not (says-eq _ _)) (λ q. (mask, q)) (λ q. q .1))
+returns c = says-both (c .before .before .info-set .ensures) (says-not (says-read (c .before .level-asked .ensures) _)) (c .both .ensures)
 
 pub mask-and-level-spec : {M : Type 1} → Rattle.irq_packets.proofs.mask_and_level.Statement.statement M
-mask-and-level-spec = tie.close (tie.spec (λ c κs. search needs) returns (λ c κs. search needs) returns-2)
+mask-and-level-spec = tie.close (tie.spec (λ c κs. search needs) (λ c κs. search needs) (λ c κs. search needs) returns)

@@ -1,23 +1,46 @@
--- `irq_services::grant_of` meets its contract: the record says the client and the level, and its manner.
+-- `irq_services::grant_of` meets its contract: nothing is held there, or not by this client or not this level; or it is, in this manner.
 -- Assumes nothing.
-use Rattle.facts.proofs.Words.{ap, sym, _∙_, needs}
-use Rattle.facts.proofs.{says-yes, says-no}
-use Rattle.layout.specs.{mannerOf}
+use Rattle.facts.proofs.Words.{_≡_, ap, _∙_, some, now, needs}
+use Rattle.facts.specs.{IrqGrant}
+use Rattle.layout.specs.{factsIn}
+use Rattle.seats.specs.{grant, irqAt}
+use Rattle.seats.proofs.{irq-read}
+use Rattle.irq_services.proofs.{none-held, held-is, so-held}
 use Rattle.irq_services.proofs.grant_of.Tie as tie
 
+-- where the call began
+abbrev start : tie.After-level-held → tie.Start
+start c = c .before .before
+
+-- what the table says of the seat is what was answered
+answered : (c : tie.After-level-held) → let a = start c .args in factsIn (now (a .t)) .irq (a .seat .0) ≡ irqAt (c .level-held .result)
+answered c = let s = start c in irq-read (now (s .args .t)) (s .args .seat .0) (s .pre .1) (c .level-held .result) (c .level-held .ensures)
+
+abbrev look-of-grant : tie.After-known-told → tie.After-level-held
+look-of-grant c = c .before .before .before
+
+found : (c : tie.After-known-told) → let a = start (look-of-grant c) .args in
+    factsIn (now (a .t)) .irq (a .seat .0) ≡ some (grant (c .before .x .given .0 .0))
+found c = answered (look-of-grant c) ∙ ap irqAt (c .before .x .given .1)
+
+-- where its client was told, and its level
+abbrev grant-of-client : tie.After-struct-known2 → tie.After-known-told
+grant-of-client c = c .before .before .before
+
+abbrev grant-of-level : tie.After-struct-known3 → tie.After-known-told
+grant-of-level c = grant-of-client (c .before .before)
+
 returns : tie.Need-returns
-returns c = λ x. says-no (c .before .granted .ensures) (c .if1 .taken) (x .client)
+returns c = none-held _ _ _ _ (answered (c .before .before) ∙ ap irqAt (c .enum-told .given .1))
+
+returns-2 : tie.Need-returns-2
+returns-2 c = λ g x. c .if1 .taken (ap (λ (y : IrqGrant). y .client) (held-is _ _ _ _ _ (found (grant-of-client (c .before))) g x) ∙ x .client)
 
 returns-3 : tie.Need-returns-3
-returns-3 c =
-    let level = c .before .before in
-    let client = level .before .before in (
-      record { client = says-yes (client .before .granted .ensures) (client .if1 .left); level = sym (level .before .byte .ensures .0) ∙ level .if2 .left },
-      c .manner-of .ensures ∙ ap mannerOf (c .before .byte2 .ensures .0),
-    )
+returns-3 c = λ g x. c .if2 .taken (ap (λ (y : IrqGrant). y .level) (held-is _ _ _ _ _ (found (grant-of-level (c .before))) g x) ∙ x .level)
+
+returns-4 : tie.Need-returns-4
+returns-4 c = so-held _ _ _ _ _ (found (grant-of-level (c .before))) (c .before .before .if1 .left) (c .if2 .left)
 
 pub grant-of-spec : {M : Type 1} → Rattle.irq_services.proofs.grant_of.Statement.statement M
-grant-of-spec =
-    tie.close
-    (tie.spec (λ c. search needs) (λ c. search needs) (λ c κs. search needs) returns (λ c. search needs) (λ c κs. search needs) (λ c. search needs)
-    (λ c. search needs) (λ c κs. search needs) (λ c κs. search needs) returns-3)
+grant-of-spec = tie.close (tie.spec (λ c κs. search needs) (λ c. search needs) (λ c. search needs) returns returns-2 returns-3 returns-4)

@@ -1,319 +1,180 @@
 -- `irq_services::request` meets its contract: each check's answer says which end of the rule it is.
 -- Assumes nothing.
-use Rattle.facts.proofs.Words.{_≡_, ap, sym, _∙_, subst, subst₂, List, ℕ, _+_, _<_, arith, needs, length, now}
-use Rattle.facts.specs.{Success, byte, requestIrqLength, IrqAttributesBad, IrqInfoBad, LevelTaken, allLevels}
+use Rattle.facts.proofs.Words.{_≡_, ap, ℕ, _<_, arith, now, needs}
+use Rattle.facts.specs.{requestIrqLength, IrqAttributesBad, IrqInfoBad, LevelTaken, allLevels, IrqAsked, irqAsked}
 use Rattle.facts.proofs.{taken-fits}
-use Rattle.layout.specs.{LiveIn, IrqUsed, ServedBy, irqEntered, mannerByte, cardsAt}
-use Rattle.layout.proofs.{size-in, clients-in}
-use Rattle.client_record.specs.{FirstAt, Finds}
-use Rattle.service_checks.specs.{SizeIs, NamesSocket, SocketNamedIs, CardIs}
-use Rattle.service_checks.proofs.{in-table, Begun}
-use Rattle.irq_packets.specs.{AttributesAre, InfoIs}
+use Rattle.layout.proofs.{manner-most}
+use Rattle.seats.specs.{LevelHeldIs}
+use Rattle.seats.specs.declared.IrqSeat.the-variants.{Free}
+use Rattle.service_checks.specs.{BegunAt}
+use Rattle.service_checks.specs.declared.CardNeed.the-variants.{Needed}
+use Rattle.service_checks.proofs.{in-table, refused-ahead}
 use Rattle.irq_fitting.specs.{TakenIs}
-use Rattle.irq_services.specs.{PlaceIs}
-use Rattle.irq_services.proofs.{Requests, byte-small, request-begins, request-no-card, request-attributes, request-info, request-held}
-use Rattle.irq_services.proofs.{request-none, request-done}
+use Rattle.irq_fitting.specs.declared.TakenLevel.{TakenLevel}
+use Rattle.irq_services.proofs.{requesting, request-attributes, request-info, request-held, request-none, request-done}
 use Rattle.irq_services.proofs.request.Tie as tie
 
--- where the call began, its table, its packet and its handle
-abbrev lent : tie.After-sized → tie.After-slice-known2
-lent c = c .before .before
+-- where the call began
+abbrev packet-lent : tie.After-begin → tie.After-slice-known2
+packet-lent c = c .before .before .before
 
-abbrev start : tie.After-sized → tie.Start
-start c = lent c .before .before
-
-abbrev table : tie.After-sized → List ℕ
-table c = now (start c .args .t)
-
-abbrev packet : tie.After-sized → List ℕ
-packet c = now (start c .args .p)
-
-abbrev handle : tie.After-sized → ℕ
-handle c = start c .args .h .0
+abbrev start : tie.After-begin → tie.Start
+start c = packet-lent c .before .before
 
 -- a handle is a number of 16 bits
-handle-fits : (c : tie.After-sized) → handle c < 65536
-handle-fits c = let g = start c .good .1 .0 in omega (arith, g)
+handle-fits : (s : tie.Start) → s .args .h .0 < 65536
+handle-fits s = let g = s .good .1 .0 in omega (arith, g)
 
--- the packet's length is right
-length-right : (c : tie.After-enum-told) → length (packet (c .before .before)) ≡ requestIrqLength
-length-right c = subst (SizeIs (packet (c .before .before)) requestIrqLength) (c .enum-told .given .1) (c .before .before .sized .ensures)
+-- the service has begun
+abbrev start-of-seat : tie.After-known-told → tie.Start
+start-of-seat c = start (c .before .before .before)
 
--- the client is live
-abbrev call-of-search : tie.After-client-at-arg → tie.After-sized
-call-of-search c = c .before .before .before
+abbrev seat : tie.After-known-told → ℕ
+seat c = c .before .begun .given .0 .1 .0 .0
 
-abbrev search-of-client : tie.After-enum-told3 → tie.After-client-at
-search-of-client c = c .before .before
-
-abbrev call-of-client : tie.After-enum-told3 → tie.After-sized
-call-of-client c = call-of-search (search-of-client c .before)
-
-listed : (c : tie.After-enum-told3) → FirstAt (table (call-of-client c)) (handle (call-of-client c)) (c .enum-told3 .given .0 .0)
-listed c = subst (Finds (table (call-of-client c)) (handle (call-of-client c))) (c .enum-told3 .given .1) (search-of-client c .client-at .ensures)
-
-length-with-client : (c : tie.After-enum-told3) → length (packet (call-of-client c)) ≡ requestIrqLength
-length-with-client c = length-right (search-of-client c .before .before)
-
-live : (c : tie.After-enum-told3) → LiveIn (table (call-of-client c)) (handle (call-of-client c))
-live c = (c .enum-told3 .given .0 .0, listed c .listed, listed c .handle)
-
--- the socket is named
-abbrev client-of-check : tie.After-socket-named → tie.After-enum-told3
-client-of-check c = c .before .before .before
-
-abbrev check-of-socket : tie.After-known-told → tie.After-socket-named
-check-of-socket c = c .before .before .before
-
-abbrev call-of-socket : tie.After-known-told → tie.After-sized
-call-of-socket c = call-of-client (client-of-check (check-of-socket c))
-
-abbrev socket : tie.After-known-told → ℕ
-socket c = c .before .socket .given .0 .0 .0
-
-names : (c : tie.After-known-told) → NamesSocket (table (call-of-socket c)) (packet (call-of-socket c)) (socket c)
-names c = subst (SocketNamedIs (table (call-of-socket c)) (packet (call-of-socket c))) (c .before .socket .given .1) (check-of-socket c .socket-named .ensures)
-
-begun : (c : tie.After-known-told) → Begun (table (call-of-socket c)) (packet (call-of-socket c)) requestIrqLength (handle (call-of-socket c)) (socket c)
-begun c = record { size = length-with-client (client-of-check (check-of-socket c)); live = live (client-of-check (check-of-socket c)); socket = names c }
-
--- a card is in
-abbrev socket-of-look : tie.After-card-at → tie.After-known-told
-socket-of-look c = c .before .before
-
-abbrev socket-of-card : tie.After-enum-told6 → tie.After-known-told
-socket-of-card c = socket-of-look (c .before .before)
-
-abbrev call-of-card : tie.After-enum-told6 → tie.After-sized
-call-of-card c = call-of-socket (socket-of-card c)
-
-card-present : (c : tie.After-enum-told6) → byte (table (call-of-card c)) (cardsAt + socket (socket-of-card c)) ≡ 1
-card-present c = subst (CardIs (table (call-of-card c)) (socket (socket-of-card c))) (c .enum-told6 .given .1) (c .before .before .card-at .ensures)
+begun : (c : tie.After-known-told) → let s = start-of-seat c in
+    BegunAt (now (s .args .t)) (now (s .args .p)) requestIrqLength (s .args .h .0) Needed (c .before .begun .given .0 .0) (seat c)
+begun c = let tried = c .before .before .before in rw (c .before .begun .given .1) at (tried .begin .ensures)
 
 -- the attributes are good
-abbrev check-of-attributes : tie.After-enum-told8 → tie.After-attributes-asked
-check-of-attributes c = c .before .before
+abbrev seat-of-attributes : tie.After-attributes-asked → tie.After-known-told
+seat-of-attributes c = c .before .before
 
-abbrev card-of-attributes : tie.After-enum-told8 → tie.After-enum-told6
-card-of-attributes c = check-of-attributes c .before .before
-
-abbrev call-of-attributes : tie.After-enum-told8 → tie.After-sized
-call-of-attributes c = call-of-card (card-of-attributes c)
-
-attributes-good : (c : tie.After-enum-told8) → IrqAttributesBad (packet (call-of-attributes c)) → ⊥
-attributes-good c = subst (AttributesAre (packet (call-of-attributes c))) (c .enum-told8 .given .1) (check-of-attributes c .attributes-asked .ensures)
+attributes-good : (c : tie.After-enum-told) → IrqAttributesBad (now (start-of-seat (seat-of-attributes (c .before .before)) .args .p)) → ⊥
+attributes-good c = let tried = c .before .before in rw (c .enum-told .given .1) at (tried .attributes-asked .ensures)
 
 -- IRQInfo1 and IRQInfo2 are good
-abbrev check-of-info : tie.After-enum-told10 → tie.After-info-asked
-check-of-info c = c .before .before
+abbrev attributes-of-info : tie.After-info-asked → tie.After-enum-told
+attributes-of-info c = c .before .before
 
-abbrev attributes-of-info : tie.After-enum-told10 → tie.After-enum-told8
-attributes-of-info c = check-of-info c .before .before
+abbrev seat-of-info : tie.After-enum-told3 → tie.After-known-told
+seat-of-info c = let good = attributes-of-info (c .before .before) in seat-of-attributes (good .before .before)
 
-abbrev call-of-info : tie.After-enum-told10 → tie.After-sized
-call-of-info c = call-of-attributes (attributes-of-info c)
+info-good : (c : tie.After-enum-told3) → IrqInfoBad (now (start-of-seat (seat-of-info c) .args .p)) → ⊥
+info-good c = let tried = c .before .before in rw (c .enum-told3 .given .1) at (tried .info-asked .ensures)
 
-info-good : (c : tie.After-enum-told10) → IrqInfoBad (packet (call-of-info c)) → ⊥
-info-good c =
-    subst (InfoIs (packet (call-of-info c))) (c .enum-told10 .given .1) (check-of-info c .info-asked .ensures)
+-- the seat has no grant
+abbrev info-of-look : tie.After-level-held → tie.After-enum-told3
+info-of-look c = c .before .before
 
--- the socket has no grant
-abbrev check-of-place : tie.After-enum-told12 → tie.After-place-of
-check-of-place c = c .before .before
+abbrev info-of-place : tie.After-enum-told5 → tie.After-enum-told3
+info-of-place c = info-of-look (c .before .before)
 
-abbrev info-of-place : tie.After-enum-told12 → tie.After-enum-told10
-info-of-place c = check-of-place c .before .before
+abbrev seat-of-place : tie.After-enum-told5 → tie.After-known-told
+seat-of-place c = seat-of-info (info-of-place c)
 
-abbrev socket-of-place : tie.After-enum-told12 → tie.After-known-told
-socket-of-place c = socket-of-card (card-of-attributes (attributes-of-info (info-of-place c)))
+place-free : (c : tie.After-enum-told5) → let k = seat-of-place c in LevelHeldIs (now (start-of-seat k .args .t)) (seat k) Free
+place-free c = let look = c .before .before in rw (c .enum-told5 .given .1) at (look .level-held .ensures)
 
-abbrev call-of-place : tie.After-enum-told12 → tie.After-sized
-call-of-place c = call-of-socket (socket-of-place c)
+-- the packet is read, and a level chosen by what it asks for
+abbrev place-of-asked : tie.After-asked → tie.After-enum-told5
+place-of-asked c = c .before .before
 
-place-free : (c : tie.After-enum-told12) → IrqUsed (table (call-of-place c)) (socket (socket-of-place c)) → ⊥
-place-free c = subst (PlaceIs (table (call-of-place c)) (socket (socket-of-place c))) (c .enum-told12 .given .1) (check-of-place c .place-of .ensures)
+abbrev asked-of-choice : tie.After-choose → tie.After-asked
+asked-of-choice c = c .before .before
 
--- a level is taken
-abbrev place-of-choice : tie.After-choose → tie.After-enum-told12
-place-of-choice c = c .before .before .before
+chosen : (c : tie.After-choose) {r : TakenLevel} → c .choose .result ≡ r
+    → let s = start-of-seat (seat-of-place (place-of-asked (asked-of-choice c))) in TakenIs (now (s .args .t)) (irqAsked (now (s .args .p))) r
+chosen c e = rw (asked-of-choice c .asked .ensures) at (rw e at (c .choose .ensures))
 
-abbrev call-of-choice : tie.After-choose → tie.After-sized
-call-of-choice c = call-of-place (place-of-choice c)
-
+-- it is taken
 abbrev choice-of-level : tie.After-known-told2 → tie.After-choose
 choice-of-level c = c .before .before .before
 
-abbrev call-of-level : tie.After-known-told2 → tie.After-sized
-call-of-level c = call-of-choice (choice-of-level c)
+abbrev asked-of-level : tie.After-known-told2 → tie.After-asked
+asked-of-level c = asked-of-choice (choice-of-level c)
+
+abbrev seat-of-level : tie.After-known-told2 → tie.After-known-told
+seat-of-level c = seat-of-place (place-of-asked (asked-of-level c))
 
 abbrev level : tie.After-known-told2 → ℕ
 level c = c .before .level .given .0 .0
 
-level-taken : (c : tie.After-known-told2) → let k = call-of-level c in LevelTaken (start k .pre .facts) (packet k) (level c)
-level-taken c =
-    let k = call-of-level c in
-    subst (TakenIs (table k) (packet k)) (c .before .level .given .1) (choice-of-level c .choose .ensures) (start k .pre)
+level-taken : (c : tie.After-known-told2) → let s = start-of-seat (seat-of-level c) in LevelTaken (s .pre .facts) (irqAsked (now (s .args .p))) (level c)
+level-taken c = chosen (choice-of-level c) (c .before .level .given .1) (start-of-seat (seat-of-level c) .pre)
 
 level-below : (c : tie.After-known-told2) → level c < allLevels
 level-below c =
-    let k = call-of-level c in
-    let a = start k .pre in
-    a .formed .levels (level c) (taken-fits (a .facts) (a .formed) (packet k) (level c) (level-taken c) .managed)
+    let s = start-of-seat (seat-of-level c) in
+    let a = s .pre in
+    a .formed .levels (level c) (taken-fits (a .facts) (a .formed) (irqAsked (now (s .args .p))) (level c) (level-taken c) .managed)
 
--- its manner is asked for
-abbrev level-of-manner : tie.After-manner-asked → tie.After-known-told2
-level-of-manner c = c .before .before
-
--- the grant is entered, and the packet says it
-abbrev manner-of-entry : tie.After-enter → tie.After-manner-asked
-manner-of-entry c = c .before .before .before
-
-abbrev entry-before-assign : tie.After-assign-arg → tie.After-enter
-entry-before-assign c = c .before .before .before
-
-abbrev entry-of-assign : tie.After-assign → tie.After-enter
-entry-of-assign c = entry-before-assign (c .before)
+-- the grant is entered
+abbrev level-of-entry : tie.After-enter → tie.After-known-told2
+level-of-entry c = let byte = c .before in byte .before .before
 
 returns : tie.Need-returns
 returns c =
-    let k = c .before .before in
-    request-begins (table k) (packet k) (start k .pre) (handle k) .by-length
-    (subst (SizeIs (packet k) requestIrqLength) (c .enum-told2 .given .1) (k .sized .ensures))
+    let tried = c .before .before in
+    let k = seat-of-attributes tried in
+    request-attributes (start-of-seat k .pre) (begun k) (rw (c .enum-told2 .given .1) at (tried .attributes-asked .ensures))
 
-client-at-requires : tie.Need-client-at-requires
-client-at-requires c κs =
-    let k = call-of-search c in
-    (size-in (table k) (start k .pre), omega (arith, clients-in (table k) (start k .pre), start k .pre .formed .clients-most))
+info-asked-requires : tie.Need-info-asked-requires
+info-asked-requires c κs = let good = c .before in begun (seat-of-attributes (good .before .before)) .size
 
 returns-2 : tie.Need-returns-2
 returns-2 c =
     let tried = c .before .before in
-    let k = call-of-search (tried .before) in
-    request-begins (table k) (packet k) (start k .pre) (handle k) .by-handle (length-right (tried .before .before))
-    (subst (Finds (table k) (handle k)) (c .enum-told4 .given .1) (tried .client-at .ensures))
+    let good = attributes-of-info tried in
+    let k = seat-of-attributes (good .before .before) in
+    request-info (start-of-seat k .pre) (begun k) (attributes-good good) (rw (c .enum-told4 .given .1) at (tried .info-asked .ensures))
 
-socket-named-requires : tie.Need-socket-named-requires
-socket-named-requires c κs = let e = c .before .before in let k = call-of-client e in (size-in (table k) (start k .pre), omega (arith, length-with-client e))
+level-held-requires : tie.Need-level-held-requires
+level-held-requires c κs = let k = seat-of-info (c .before) in in-table (start-of-seat k .pre) (begun k)
 
 returns-3 : tie.Need-returns-3
 returns-3 c =
-    let tried = c .before .before in
-    let k = call-of-client (client-of-check tried) in
-    request-begins (table k) (packet k) (start k .pre) (handle k) .by-socket (length-with-client (client-of-check tried)) (live (client-of-check tried))
-    (subst (SocketNamedIs (table k) (packet k)) (c .enum-told5 .given .1) (tried .socket-named .ensures))
-
-card-at-requires : tie.Need-card-at-requires
-card-at-requires c κs =
-    let n = c .before in
-    let k = call-of-socket n in
-    in-table (table k) (packet k) (start k .pre) (begun n)
+    let look = c .before .before in
+    let told = info-of-look look in
+    let k = seat-of-info told in
+    request-held (start-of-seat k .pre) (begun k) (attributes-good (attributes-of-info (told .before .before))) (info-good told) _
+    (rw (c .enum-told6 .given .1) at (look .level-held .ensures))
 
 returns-4 : tie.Need-returns-4
 returns-4 c =
-    let n = socket-of-look (c .before .before) in
-    let k = call-of-socket n in
-    request-no-card (table k) (packet k) (start k .pre) (handle k) (begun n)
-    (subst (CardIs (table k) (socket n)) (c .enum-told7 .given .1) (c .before .before .card-at .ensures))
-
-attributes-asked-requires : tie.Need-attributes-asked-requires
-attributes-asked-requires c κs = length-with-client (client-of-check (check-of-socket (socket-of-card (c .before))))
-
-returns-5 : tie.Need-returns-5
-returns-5 c =
     let tried = c .before .before in
-    let e = tried .before .before in
-    let n = socket-of-card e in
-    let k = call-of-socket n in
-    request-attributes (table k) (packet k) (start k .pre) (handle k) (begun n) (card-present e)
-    (subst (AttributesAre (packet k)) (c .enum-told9 .given .1) (tried .attributes-asked .ensures))
-
-info-asked-requires : tie.Need-info-asked-requires
-info-asked-requires c κs = length-with-client (client-of-check (check-of-socket (socket-of-card (card-of-attributes (c .before)))))
-
-returns-6 : tie.Need-returns-6
-returns-6 c =
-    let tried = c .before .before in
-    let g = tried .before .before in
-    let n = socket-of-card (card-of-attributes g) in
-    let k = call-of-socket n in
-    request-info (table k) (packet k) (start k .pre) (handle k) (begun n) (card-present (card-of-attributes g)) (attributes-good g)
-    (subst (InfoIs (packet k)) (c .enum-told11 .given .1) (tried .info-asked .ensures))
-
-place-of-requires : tie.Need-place-of-requires
-place-of-requires c κs =
-    let n = socket-of-card (card-of-attributes (attributes-of-info (c .before))) in
-    let k = call-of-socket n in
-    in-table (table k) (packet k) (start k .pre) (begun n)
-
-returns-7 : tie.Need-returns-7
-returns-7 c =
-    let tried = c .before .before in
-    let i = tried .before .before in
-    let g = attributes-of-info i in
-    let n = socket-of-card (card-of-attributes g) in
-    let k = call-of-socket n in
-    request-held (table k) (packet k) (start k .pre) (handle k) (begun n) (card-present (card-of-attributes g)) (attributes-good g) (info-good i)
-    (subst (PlaceIs (table k) (socket n)) (c .enum-told13 .given .1) (tried .place-of .ensures))
-
-choose-requires : tie.Need-choose-requires
-choose-requires c κs =
-    let n = socket-of-place (c .before .before) in
-    (start (call-of-socket n) .pre, length-with-client (client-of-check (check-of-socket n)))
-
-returns-8 : tie.Need-returns-8
-returns-8 c =
-    let tried = c .before .before in
-    let f = place-of-choice tried in
-    let i = info-of-place f in
-    let g = attributes-of-info i in
-    let n = socket-of-place f in
-    let k = call-of-socket n in
-    request-none (table k) (packet k) (start k .pre) (handle k) (begun n) (card-present (card-of-attributes g)) (attributes-good g) (info-good i) (place-free f)
-    (subst (TakenIs (table k) (packet k)) (c .enum-told14 .given .1) (tried .choose .ensures) (start k .pre))
-
-manner-asked-requires : tie.Need-manner-asked-requires
-manner-asked-requires c κs = length-with-client (client-of-check (check-of-socket (socket-of-place (place-of-choice (choice-of-level (c .before))))))
+    let free = place-of-asked (asked-of-choice tried) in
+    let told = info-of-place free in
+    let k = seat-of-place free in
+    let a = start-of-seat k .pre in
+    request-none a (begun k) (attributes-good (attributes-of-info (told .before .before))) (info-good told) (place-free free)
+    (chosen tried (c .enum-told7 .given .1) a)
 
 enter-requires : tie.Need-enter-requires
 enter-requires c κs =
-    let m = c .before .before in
-    let l = level-of-manner m in
-    let n = socket-of-place (place-of-choice (choice-of-level l)) in
-    let k = call-of-socket n in
-    let t = in-table (table k) (packet k) (start k .pre) (begun n) in
-    (t .0, t .1, level-below l, subst (λ (x : ℕ). x < 256) (sym (c .manner-byte .ensures)) (byte-small (m .manner-asked .result)))
+    let taken = c .before .before in
+    let k = seat-of-level taken in
+    let t = in-table (start-of-seat k .pre) (begun k) in
+    (t .0, t .1, level-below taken, omega (arith, c .manner-byte .ensures, manner-most (asked-of-level taken .asked .result .manner)))
 
 assign-requires : tie.Need-assign-requires
 assign-requires c κs =
-    let m = manner-of-entry (entry-before-assign c) in
-    let l = level-of-manner m in
-    (length-with-client (client-of-check (check-of-socket (socket-of-place (place-of-choice (choice-of-level l))))), level-below l, m .manner-asked .ensures)
+    let entered = c .before .before .before in
+    let taken = level-of-entry entered in
+    (begun (seat-of-level taken) .size, level-below taken, ap (λ (q : IrqAsked). q .manner) (asked-of-level taken .asked .ensures))
 
-returns-9 : tie.Need-returns-9
-returns-9 c =
+returns-5 : tie.Need-returns-5
+returns-5 c =
     let assigned = c .before .before in
-    let entered = entry-of-assign assigned in
-    let m = manner-of-entry entered in
-    let l = m .before .before in
-    let f = place-of-choice (choice-of-level l) in
-    let i = info-of-place f in
-    let g = attributes-of-info i in
-    let n = socket-of-place f in
-    let k = call-of-socket n in
-    subst₂ (λ (b p : List ℕ). ServedBy (Requests (handle k) (packet k)) (table k) b p Success (handle k))
-    (sym (entered .enter .ensures ∙ ap (irqEntered (table k) (socket n) (handle k) (level l))
-    (entered .before .manner-byte .ensures ∙ ap mannerByte (m .manner-asked .ensures)))) (sym (assigned .assign .ensures))
-    (request-done (table k) (packet k) (start k .pre) (handle k) (begun n) (card-present (card-of-attributes g)) (attributes-good g) (info-good i) (place-free f) (level l) (level-taken l)
-    (handle-fits k))
+    let lent = assigned .before in
+    let entered = lent .before .before .before in
+    let taken = level-of-entry entered in
+    let asked = asked-of-level taken in
+    let free = place-of-asked asked in
+    let told = info-of-place free in
+    let k = seat-of-level taken in
+    rw (entered .enter .ensures, entered .before .manner-byte .ensures, asked .asked .ensures, assigned .assign .ensures)
+    (request-done (start-of-seat k .pre) (begun k) (attributes-good (attributes-of-info (told .before .before))) (info-good told) (place-free free)
+    (level taken) (level-taken taken) (handle-fits (start-of-seat k)))
+
+returns-6 : tie.Need-returns-6
+returns-6 c =
+    let tried = c .before .before .before in
+    let s = start tried in
+    refused-ahead requesting (s .pre) (s .args .h .0) (now (s .args .p)) (c .before .begun2 .given .0 .0)
+    ((rw (c .before .begun2 .given .1) at (tried .begin .ensures)) (s .pre))
 
 pub request-spec : {M : Type 1} → Rattle.irq_services.proofs.request.Statement.statement M
 request-spec =
     tie.close
-    (tie.spec (λ c κs. search needs) (λ c. search needs) (λ c. search needs) (λ c. search needs) returns client-at-requires (λ c. search needs)
-    (λ c. search needs) (λ c. search needs) (λ c. search needs) returns-2 socket-named-requires (λ c. search needs) (λ c. search needs)
-    (λ c. search needs) (λ c. search needs) returns-3 card-at-requires (λ c. search needs) (λ c. search needs) (λ c. search needs)
-    (λ c. search needs) returns-4 attributes-asked-requires (λ c. search needs) (λ c. search needs) (λ c. search needs) (λ c. search needs) returns-5
-    info-asked-requires (λ c. search needs) (λ c. search needs) (λ c. search needs) (λ c. search needs) returns-6 place-of-requires
-    (λ c. search needs) (λ c. search needs) (λ c. search needs) (λ c. search needs) returns-7 choose-requires (λ c. search needs) (λ c. search needs)
-    (λ c. search needs) (λ c. search needs) returns-8 manner-asked-requires (λ c κs. search needs) enter-requires assign-requires (λ c. search needs)
-    (λ c. search needs) returns-9)
+    (tie.spec (λ c κs. search needs) (λ c. search needs) (λ c κs. begun (c .before) .size) (λ c. search needs) (λ c. search needs) (λ c. search needs) (λ c. search needs) returns info-asked-requires (λ c. search needs) (λ c. search needs) (λ c. search needs) (λ c. search needs) returns-2 level-held-requires (λ c. search needs) (λ c. search needs) (λ c. search needs) (λ c. search needs) returns-3 (λ c κs. begun (seat-of-place (c .before)) .size) (λ c κs. search needs) (λ c. search needs) (λ c. search needs) (λ c. search needs) (λ c. search needs) returns-4 (λ c κs. search needs) enter-requires assign-requires (λ c. search needs) (λ c. search needs) (λ c. search needs) returns-5 (λ c. search needs) (λ c. search needs) returns-6)

@@ -1,12 +1,13 @@
--- `irq_sharers::count` meets its contract: the grants on the sockets passed are counted.
+-- `irq_sharers::count` meets its contract: the grants at the seats passed are counted.
 -- Assumes nothing.
 use Rattle.facts.proofs.Words.{_≡_, refl, ap, _∙_, _-_, _≤_, arith, now}
-use Rattle.irq_sharers.specs.{sharersIn}
+use Rattle.facts.specs.{sharersBelow}
+use Rattle.layout.specs.{socketsIn, factsIn}
 use Rattle.irq_sharers.proofs.{sharers-more}
 use Rattle.irq_sharers.proofs.count.Tie as tie
 
 abbrev Inv-loop : tie.InvT-loop
-Inv-loop t level sockets n₀ s₀ n s = (s ≤ sockets) × (n ≡ sharersIn t level s) × (n ≤ s)
+Inv-loop t level sockets n₀ s₀ n s = (s ≤ sockets) × (n ≡ sharersBelow (factsIn t) level s) × (n ≤ s)
 
 abbrev μ-loop : tie.MeasureT-loop
 μ-loop t level sockets n₀ s₀ n s = sockets - s
@@ -19,7 +20,6 @@ abbrev looped : tie.After-sharer Inv-loop μ-loop → tie.At-loop Inv-loop μ-lo
 looped c = c .before .before
 
 loop-holds : tie.Need-loop-holds Inv-loop μ-loop
-unfolding sharersIn
 loop-holds c = (omega arith, refl, omega arith)
 
 sharer-requires : tie.Need-sharer-requires Inv-loop μ-loop
@@ -33,17 +33,16 @@ loop-again c =
     let at = looped c .loop in
     let a = start (looped c .before) .args in (
       omega arith,
-      sharers-more (now (a .t)) (a .level) (at .s) (at .n) (c .sharer .result) (at .inv .1) (c .sharer .ensures .0),
+      sharers-more (factsIn (now (a .t))) (a .level) (at .s) (at .n) (c .sharer .result) (at .inv .1) (c .sharer .ensures .0),
       omega (arith, at .inv .2, c .sharer .ensures .1),
     )
 
 returns : tie.Need-returns Inv-loop μ-loop
 returns c =
     let at = c .before .loop in
-    let a = start (c .before .before) .args in (
-      at .inv .1 ∙ ap (sharersIn (now (a .t)) (a .level)) (omega (arith, c .before .before .byte .ensures .0)),
-      omega (arith, at .inv .2, c .before .before .byte .ensures .0),
-    )
+    let a = start (c .before .before) .args in
+    let all : at .s ≡ socketsIn (now (a .t)) = omega (arith, c .before .before .byte .ensures .0) in
+    (at .inv .1 ∙ ap (sharersBelow (factsIn (now (a .t))) (a .level)) all, omega (arith, at .inv .2, c .before .before .byte .ensures .0))
 
 pub count-spec : {M : Type 1} → Rattle.irq_sharers.proofs.count.Statement.statement M
 count-spec =

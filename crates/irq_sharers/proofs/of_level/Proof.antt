@@ -4,8 +4,8 @@ use Rattle.facts.proofs.Words.{_≡_, subst, List, ℕ, arith, needs, now}
 use Rattle.layout.proofs.{size-in, sockets-in}
 use Rattle.irq_levels.specs.declared.LevelNumber.the-variants.{Below}
 use Rattle.irq_levels.specs.{LevelIs}
-use Rattle.irq_sharers.specs.{sharersIn}
-use Rattle.layout.specs.{socketsIn}
+use Rattle.facts.specs.{sharersBelow}
+use Rattle.layout.specs.{socketsIn, factsIn}
 use Rattle.irq_sharers.proofs.{sharers-past, sharers-done}
 use Rattle.irq_sharers.proofs.of_level.Tie as tie
 
@@ -45,7 +45,7 @@ returns-2 c =
     let b = table (asked (c .before)) in (
       s .pre,
       sharers-done b (s .pre) (s .args .level) (c .count .result) (l .1)
-          (subst (λ (n : ℕ). c .count .result ≡ sharersIn b n (socketsIn b)) (l .0) (c .count .ensures .0)),
+          (subst (λ (n : ℕ). c .count .result ≡ sharersBelow (factsIn b) n (socketsIn b)) (l .0) (c .count .ensures .0)),
     )
 
 pub of-level-spec : {M : Type 1} → Rattle.irq_sharers.proofs.of_level.Statement.statement M

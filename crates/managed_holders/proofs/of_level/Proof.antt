@@ -1,54 +1,49 @@
--- `managed_holders::of_level` meets its contract: nobody holds it, or the socket that the search found is a holder with the lowest handle.
+-- `managed_holders::of_level` meets its contract: the holders at the seats passed, and at last at all.
 -- Assumes nothing.
-use Rattle.facts.proofs.Words.{subst, List, ℕ, needs, now}
-use Rattle.facts.specs.{mostSockets}
+use Rattle.facts.proofs.Words.{_≡_, _-_, _≤_, arith, needs, now}
+use Rattle.layout.proofs.Of
+use Rattle.facts.specs.{mostSeats}
+use Rattle.layout.specs.{factsIn}
 use Rattle.layout.proofs.{size-in}
-use Rattle.managed_holders.specs.declared.Resource.{Resource}
-use Rattle.managed_holders.specs.declared.Resource.the-variants.{Level}
-use Rattle.managed_holders.specs.{HoldsIn, holderIn, LeastBelow, LowestIs}
-use Rattle.managed_holders.proofs.{level-nobody, level-lowest}
+use Rattle.seats.proofs.{formed-in}
+use Rattle.managed_holders.specs.{LevelHolds, AreBelow}
+use Rattle.managed_holders.proofs.{holders-more, level-shown}
 use Rattle.managed_holders.proofs.of_level.Tie as tie
 
--- where the call began, its table, and what is asked for
-abbrev start : tie.After-lowest → tie.Start
+abbrev Inv-loop : tie.InvT-loop
+Inv-loop t l holders₀ s₀ holders s = (s ≤ mostSeats) × AreBelow s (LevelHolds (factsIn t) l) holders
+
+abbrev μ-loop : tie.MeasureT-loop
+μ-loop t l holders₀ s₀ holders s = mostSeats - s
+
+-- where the call began, and where a turn did
+abbrev start : tie.At-loop Inv-loop μ-loop → tie.Start Inv-loop μ-loop
 start c = c .before .before
 
-abbrev table : tie.After-lowest → List ℕ
-table c = now (start c .args .t)
+abbrev turn : tie.After-joined Inv-loop μ-loop → tie.At-loop Inv-loop μ-loop
+turn c = c .before .before .before
 
-abbrev level : tie.After-lowest → Resource
-level c = Level (start c .args .l)
+level-at-requires : tie.Need-level-at-requires Inv-loop μ-loop
+level-at-requires c κs = let s = start (c .before) in (size-in (now (s .args .t)) (s .pre), omega (arith, c .loop-test .taken))
 
--- where a holder is found
-abbrev asked : tie.After-known-told → tie.After-lowest
-asked c = c .before .before .before
+loop-again : tie.Need-loop-again Inv-loop μ-loop
+loop-again c =
+    let k = turn c .loop in
+    let a = start (turn c) .args in (
+      omega arith,
+      rw (c .joined .ensures) (holders-more (k .s) (LevelHolds (factsIn (now (a .t))) (a .l)) (k .holders) (c .before .level-at .result) (k .inv .1) (c .before .level-at .ensures)),
+    )
 
-found : (c : tie.After-known-told) → let at = asked c in
-    LeastBelow mostSockets (HoldsIn (table at) (level at)) (holderIn (table at) (level at)) (c .before .s .given .0 .0 .0)
-found c = let at = asked c in subst (LowestIs (table at) (level at)) (c .before .s .given .1) (at .lowest .ensures)
-
-returns : tie.Need-returns
+returns : tie.Need-returns Inv-loop μ-loop
 returns c = λ a.
-    let at = c .before .before in
-    level-nobody (table at) a (start at .args .l) (subst (LowestIs (table at) (level at)) (c .enum-told .given .1) (at .lowest .ensures))
-
-handle-on-requires : tie.Need-handle-on-requires
-handle-on-requires c κs = (size-in (table (asked c)) (start (asked c) .pre), found c .below)
-
-type-on-requires : tie.Need-type-on-requires
-type-on-requires c κs =
-    let at = asked (c .before) in
-    (size-in (table at) (start at .pre), found (c .before) .below)
-
-returns-2 : tie.Need-returns-2
-returns-2 c = λ a.
-    let handle = c .before in
-    let at = asked (handle .before) in
-    level-lowest (table at) a (start at .args .l) (found (handle .before)) (handle .handle-on .result) (c .type-on .result)
-    (handle .handle-on .ensures) (c .type-on .ensures .0)
+    let k = c .before .loop in
+    let s = start (c .before) in
+    let b = now (s .args .t) in
+    let all : k .s ≡ mostSeats = omega (arith, k .inv .0, c .loop-test .left) in
+    rw (Of.facts-in b a) (level-shown (factsIn b) (formed-in b (s .pre)) (s .args .l) (k .holders) (rw all at (k .inv .1)))
 
 pub of-level-spec : {M : Type 1} → Rattle.managed_holders.proofs.of_level.Statement.statement M
 of-level-spec =
     tie.close
-    (tie.spec (λ c κs. size-in (now (c .before .args .t)) (c .before .pre)) (λ c. search needs) (λ c. search needs) returns handle-on-requires
-    type-on-requires (λ c. search needs) returns-2)
+    (tie.spec Inv-loop μ-loop (λ c. (omega arith, λ s l x y p. omega (arith, l))) level-at-requires (λ c κs. search needs) (λ c. omega arith)
+    (λ c. omega arith) loop-again returns)

@@ -1,64 +1,51 @@
--- `managed_holders::of_range` meets its contract: nobody holds one of the ports, or the socket that the search found is a holder with the lowest handle.
+-- `managed_holders::of_range` meets its contract: the holders at the seats passed, and at last at all.
 -- Assumes nothing.
-use Rattle.facts.proofs.Words.{subst, List, ℕ, needs, now}
-use Rattle.facts.specs.{mostSockets}
+use Rattle.facts.proofs.Words.{_≡_, sym, subst₂, ℕ, _-_, _≤_, arith, needs, now}
+use Rattle.layout.proofs.Of
+use Rattle.facts.specs.{mostSeats}
+use Rattle.layout.specs.{factsIn}
 use Rattle.layout.proofs.{size-in}
-use Rattle.managed_holders.specs.declared.Resource.{Resource}
-use Rattle.managed_holders.specs.declared.Resource.the-variants.{Ports}
-use Rattle.managed_holders.specs.{HoldsIn, holderIn, LeastBelow, LowestIs}
-use Rattle.managed_holders.proofs.{range-nobody, range-alone, range-sharing}
+use Rattle.seats.proofs.{formed-in}
+use Rattle.managed_holders.specs.{PortsHold, AreBelow}
+use Rattle.managed_holders.proofs.{holders-more, range-shown}
 use Rattle.managed_holders.proofs.of_range.Tie as tie
 
--- where the call began, its table, and what is asked for
-abbrev start : tie.After-lowest → tie.Start
+abbrev Inv-loop : tie.InvT-loop
+Inv-loop t base count holders₀ s₀ holders s = (s ≤ mostSeats) × AreBelow s (PortsHold (factsIn t) base count) holders
+
+abbrev μ-loop : tie.MeasureT-loop
+μ-loop t base count holders₀ s₀ holders s = mostSeats - s
+
+-- where the call began, and where a turn did
+abbrev start : tie.At-loop Inv-loop μ-loop → tie.Start Inv-loop μ-loop
 start c = c .before .before
 
-abbrev table : tie.After-lowest → List ℕ
-table c = now (start c .args .t)
+abbrev turn : tie.After-joined Inv-loop μ-loop → tie.At-loop Inv-loop μ-loop
+turn c = c .before .before .before
 
-abbrev ports : tie.After-lowest → Resource
-ports c = Ports (start c .args .base) (start c .args .count)
+ports-at-requires : tie.Need-ports-at-requires Inv-loop μ-loop
+ports-at-requires c κs = let s = start (c .before) in (size-in (now (s .args .t)) (s .pre), omega (arith, c .loop-test .taken))
 
--- where a holder is found
-abbrev asked : tie.After-known-told → tie.After-lowest
-asked c = c .before .before .before
+loop-again : tie.Need-loop-again Inv-loop μ-loop
+loop-again c =
+    let k = turn c .loop in
+    let a = start (turn c) .args in
+    let P : ℕ → ℕ → ℕ → Type 0 = PortsHold (factsIn (now (a .t))) (a .base) (a .count) in (
+      omega arith,
+      rw (c .joined .ensures) (holders-more (k .s) P (k .holders) (c .before .ports-at .result) (k .inv .1) (c .before .ports-at .ensures)),
+    )
 
-found : (c : tie.After-known-told) → let at = asked c in
-    LeastBelow mostSockets (HoldsIn (table at) (ports at)) (holderIn (table at) (ports at)) (c .before .s .given .0 .0 .0)
-found c = let at = asked c in subst (LowestIs (table at) (ports at)) (c .before .s .given .1) (at .lowest .ensures)
-
-returns : tie.Need-returns
+returns : tie.Need-returns Inv-loop μ-loop
 returns c = λ a r e f.
-    let at = c .before .before in
-    let args = start at .args in
-    range-nobody (table at) a (args .base) (args .count) r e f (subst (LowestIs (table at) (ports at)) (c .enum-told .given .1) (at .lowest .ensures))
-
-handle-on-requires : tie.Need-handle-on-requires
-handle-on-requires c κs = (size-in (table (asked c)) (start (asked c) .pre), found c .below)
-
-unshared-requires : tie.Need-unshared-requires
-unshared-requires c κs =
-    let at = asked (c .before) in
-    size-in (table at) (start at .pre)
-
-returns-2 : tie.Need-returns-2
-returns-2 c = λ a r e f.
-    let handle = c .before .before in
-    let at = asked (handle .before) in
-    let args = start at .args in
-    range-alone (table at) a (args .base) (args .count) r e f (found (handle .before)) (handle .handle-on .result) (handle .handle-on .ensures)
-    (c .before .unshared .ensures .holds (c .if1 .taken))
-
-returns-3 : tie.Need-returns-3
-returns-3 c = λ a r e f.
-    let handle = c .before .before in
-    let at = asked (handle .before) in
-    let args = start at .args in
-    range-sharing (table at) a (args .base) (args .count) r e f (found (handle .before)) (handle .handle-on .result) (handle .handle-on .ensures)
-    (c .before .unshared .ensures .fails (c .if1 .left))
+    let k = c .before .loop in
+    let s = start (c .before) in
+    let b = now (s .args .t) in
+    let all : k .s ≡ mostSeats = omega (arith, k .inv .0, c .loop-test .left) in
+    let Are : ℕ → ℕ → Type 0 = λ base count. AreBelow mostSeats (PortsHold (factsIn b) base count) (k .holders) in
+    rw (Of.facts-in b a) (range-shown (factsIn b) (formed-in b (s .pre)) r (k .holders) (subst₂ Are (sym e) (sym f) (rw all at (k .inv .1))))
 
 pub of-range-spec : {M : Type 1} → Rattle.managed_holders.proofs.of_range.Statement.statement M
 of-range-spec =
     tie.close
-    (tie.spec (λ c κs. size-in (now (c .before .args .t)) (c .before .pre)) (λ c. search needs) (λ c. search needs) returns handle-on-requires
-    unshared-requires returns-2 returns-3)
+    (tie.spec Inv-loop μ-loop (λ c. (omega arith, λ s l x y p. omega (arith, l))) ports-at-requires (λ c κs. search needs) (λ c. omega arith)
+    (λ c. omega arith) loop-again returns)

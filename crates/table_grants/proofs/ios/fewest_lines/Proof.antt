@@ -1,4 +1,4 @@
--- `table_grants::ios::fewest_lines` meets its contract: none of the sockets passed has a card that decodes fewer.
+-- `table_grants::ios::fewest_lines` meets its contract: none of the seats passed has a card that decodes fewer.
 -- Assumes nothing.
 use Rattle.facts.proofs.Words.{_+_, _-_, _≤_, arith, needs}
 use Rattle.facts.specs.{byte}
@@ -12,7 +12,7 @@ Inv-loop t sockets fewest₀ s₀ fewest s = All s (λ i. IoUsed t i → fewest 
 abbrev μ-loop : tie.MeasureT-loop
 μ-loop t sockets fewest₀ s₀ fewest s = sockets - s
 
--- the turn in which a socket was looked at
+-- the turn in which a seat was looked at
 abbrev turn : tie.After-smaller Inv-loop μ-loop → tie.At-loop Inv-loop μ-loop
 turn c = c .before .before .before
 
@@ -23,15 +23,15 @@ counted c = c .before
 abbrev start : tie.After-byte Inv-loop μ-loop → tie.Start Inv-loop μ-loop
 start c = c .before .before
 
-lines-on-requires : tie.Need-lines-on-requires Inv-loop μ-loop
-lines-on-requires c κs =
+lines-at-requires : tie.Need-lines-at-requires Inv-loop μ-loop
+lines-at-requires c κs =
     let k = counted (c .before) in
     let pre = start k .pre in (pre .0, omega (arith, c .loop-test .taken, k .byte .ensures .0, pre .1 .sockets-most))
 
 loop-again : tie.Need-loop-again Inv-loop μ-loop
 loop-again c =
     let k = turn c in
-    all-more (λ i l u. omega (arith, c .smaller .ensures, k .loop .inv i l u)) (λ u. omega (arith, c .smaller .ensures, c .before .lines-on .ensures u))
+    all-more (λ i l u. omega (arith, c .smaller .ensures, k .loop .inv i l u)) (λ u. omega (arith, c .smaller .ensures, c .before .lines-at .ensures u))
 
 returns : tie.Need-returns Inv-loop μ-loop
 returns c = λ s l u. let k = c .before in k .loop .inv s (omega (arith, counted k .byte .ensures .0, c .loop-test .left)) u
@@ -39,5 +39,5 @@ returns c = λ s l u. let k = c .before in k .loop .inv s (omega (arith, counted
 pub fewest-lines-spec : {M : Type 1} → Rattle.table_grants.proofs.ios.fewest_lines.Statement.statement M
 fewest-lines-spec =
     tie.close
-    (tie.spec Inv-loop μ-loop (λ c κs. omega (arith, c .before .pre .0)) (λ c. all-none _) lines-on-requires (λ c κs. search needs)
+    (tie.spec Inv-loop μ-loop (λ c κs. omega (arith, c .before .pre .0)) (λ c. all-none _) lines-at-requires (λ c κs. search needs)
     (λ c. omega arith) (λ c. omega arith) loop-again returns)

@@ -1,39 +1,41 @@
 -- `table_grants::ios::io_blocks` meets its contract: a grant that decodes few lines may answer in any block, and another in those of its own ports.
 -- Assumes nothing.
-use Rattle.facts.proofs.Words.{_∙_, arith, needs, now}
-use Rattle.layout.specs.{ioSize, ioPlace, IoSound}
-use Rattle.layout.proofs.{ports-read, used-sound}
-use Rattle.table_grants.proofs.{all-bits, own-blocks}
+use Rattle.facts.proofs.Words.{subst, ap, arith, needs, now}
+use Rattle.facts.specs.{IoGrant}
+use Rattle.seats.specs.declared.IoSeat.the-variants.{Held}
+use Rattle.seats.specs.{HeldIs}
+use Rattle.table_grants.proofs.{all-bits, own-blocks, held-fits, held-port}
 use Rattle.table_grants.proofs.ios.io_blocks.Tie as tie
 
--- where the call began, and where the ports had been read
-abbrev begun : tie.Else1 → tie.Start
-begun c = c .before .before .before
+-- where the call began, and where there is a grant
+abbrev start : tie.After-held → tie.Start
+start c = c .before .before
 
-abbrev read : tie.Else2 → tie.After-ports-at
-read c = c .before
+abbrev looked : tie.After-known-told → tie.After-held
+looked c = c .before .before .before
 
-grant : (c : tie.Else1) → let a = begun c .args in IoSound (now (a .t)) (a .s .0)
-grant c =
-    let a = begun c .args in
-    let at = ioPlace (a .s .0) in
-    used-sound (now (a .t)) at ioSize (omega arith) (begun c .pre .2) (λ e. c .if1 .left (c .before .word .ensures .0 ∙ e))
+there : (c : tie.After-known-told) → let a = start (looked c) .args in HeldIs (now (a .t)) (a .s .0) (Held (c .before .held2 .given .0 .0))
+there c = subst (HeldIs _ _) (c .before .held2 .given .1) (looked c .held .ensures)
+
+abbrev found : tie.Else1 → tie.After-known-told
+found c = c .before .before
+
+returns : tie.Need-returns
+returns c = λ k a. absurd ((rw (c .enum-told .given .1) at (c .before .before .held .ensures)) (a .used))
 
 blocks-within-requires : tie.Need-blocks-within-requires
 blocks-within-requires c κs =
-    let ports = read c .ports-at .ensures in
-    (ports .base-most, omega (arith, ports .count, grant (read c .before) .port), ports .count-most)
+    let k = looked (found c) in
+    let fits = held-fits _ _ _ (there (found c)) (λ i. omega (arith, k .before .shared-slice-known .given i)) in
+    (fits .base, held-port _ _ _ (there (found c)) (start k .pre .2), fits .count)
 
 returns-3 : tie.Need-returns-3
 returns-3 c =
-    let known = read (c .before) in
-    let ports = known .ports-at .ensures in
-    let a = begun (known .before) .args in
-    own-blocks (now (a .t)) (a .s .0) _ _ (ports-read (now (a .t)) _ (ports .base) (ports .count) (ports .lines)) (c .before .if2 .left)
-    (c .blocks-within .ensures)
+    let g = found (c .before) in
+    own-blocks _ _ _ _ (ap (λ (x : IoGrant). x .ports) (there g .1)) (c .before .if1 .left) (c .blocks-within .ensures)
 
 pub io-blocks-spec : {M : Type 1} → Rattle.table_grants.proofs.ios.io_blocks.Statement.statement M
 io-blocks-spec =
     tie.close
-    (tie.spec (λ c. search needs) (λ c. search needs) (λ c κs. search needs) (λ c. search needs) (λ c κs. search needs)
-    (λ c k a. all-bits 64 k (omega (arith, a .block))) blocks-within-requires returns-3)
+    (tie.spec (λ c κs. search needs) (λ c. search needs) (λ c. search needs) returns (λ c k a. all-bits 64 k (omega (arith, a .block)))
+    blocks-within-requires returns-3)

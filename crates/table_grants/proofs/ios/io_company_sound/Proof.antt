@@ -1,4 +1,4 @@
--- `table_grants::ios::io_company_sound` meets its contract: grants with no block in common do not meet, and else the pairs with the sockets passed are sound.
+-- `table_grants::ios::io_company_sound` meets its contract: grants with no block in common do not meet, and else the pairs with the seats passed are sound.
 -- Assumes nothing.
 use Rattle.facts.proofs.Words.{_-_, arith, now}
 use Rattle.facts.proofs.{says-true}

@@ -1,19 +1,20 @@
--- `table_grants::ios::ios_sound` meets its contract. The loop's invariant: the sockets passed are sound, and the set has each block in which their grants answer.
+-- `table_grants::ios::ios_sound` meets its contract. The loop's invariant: the seats passed are sound, and the set has each block in which their grants answer.
 -- Assumes nothing.
-use Rattle.facts.proofs.Words.{refl, _-_, arith, now}
-use Rattle.facts.specs.{mostSockets}
+use Rattle.facts.proofs.Words.{refl, _-_, arith, now, needs}
+use Rattle.facts.specs.{mostSeats}
 use Rattle.facts.proofs.{says-true, says-yes}
 use Rattle.layout.specs.{iosAt, irqsAt, ioSize, ioPlace, IoPlaceSound, IoPairSound}
 use Rattle.table_read.proofs.{SoFar, so-far-none, so-far-next, so-far-stop, so-far-end}
-use Rattle.table_grants.specs.{SocketSound, RowsServe, AnswersInBlock, CoversBelow}
+use Rattle.table_grants.specs.{SeatSound, RowsServe, AnswersInBlock, CoversBelow}
+use Rattle.io_answering.proofs.{none-yet}
 use Rattle.table_grants.proofs.{covers-none, covers-more, zero-sound}
 use Rattle.table_grants.proofs.ios.ios_sound.Tie as tie
 
 abbrev Inv-loop : tie.InvT-loop
-Inv-loop t rows blocks₀ s₀ blocks s = SoFar mostSockets (SocketSound (IoPlaceSound t) (IoPairSound t)) s × CoversBelow blocks s (AnswersInBlock t)
+Inv-loop t rows blocks₀ s₀ blocks s = SoFar mostSeats (SeatSound (IoPlaceSound t) (IoPairSound t)) s × CoversBelow blocks s (AnswersInBlock t)
 
 abbrev μ-loop : tie.MeasureT-loop
-μ-loop t rows blocks₀ s₀ blocks s = mostSockets - s
+μ-loop t rows blocks₀ s₀ blocks s = mostSeats - s
 
 -- where the call began, and where a turn did
 abbrev begun : tie.After-zero Inv-loop μ-loop → tie.Start Inv-loop μ-loop
@@ -21,7 +22,7 @@ begun c = c .before .before
 
 -- where the rows of the gaps were made, for the fewest lines of any card: they serve each
 abbrev made : tie.At-loop Inv-loop μ-loop → tie.After-gap-rows Inv-loop μ-loop
-made c = c .before
+made c = c .before .before
 
 abbrev few : tie.After-gap-rows Inv-loop μ-loop → tie.After-fewest-lines Inv-loop μ-loop
 few c = c .before .before
@@ -47,10 +48,10 @@ returns c =
 gap-rows-requires : tie.Need-gap-rows-requires Inv-loop μ-loop
 gap-rows-requires c κs =
     let looked = c .before .before in
-    let pre = begun (looked .before) .pre in ((pre .0, pre .1 .ranges-most, pre .3), refl)
+    let pre = begun (looked .before) .pre in ((pre .0, pre .1 .ranges-most, pre .3), none-yet 80 _ refl (omega arith))
 
-io-socket-sound-requires : tie.Need-io-socket-sound-requires Inv-loop μ-loop
-io-socket-sound-requires c κs =
+io-seat-sound-requires : tie.Need-io-seat-sound-requires Inv-loop μ-loop
+io-seat-sound-requires c κs =
     let test = c .before in
     let k = test .before in
     let inv = k .loop .inv in
@@ -58,18 +59,18 @@ io-socket-sound-requires c κs =
     ((pre .0, test .loop-test .taken, pre .1, pre .2, pre .3), (serve k, λ u l. inv .0 .each u l .place, inv .1))
 
 returns-2 : tie.Need-returns-2 Inv-loop μ-loop
-returns-2 c = so-far-stop (c .before .before .before .loop-test .taken) (c .before .io-socket-sound .ensures) (c .if2 .taken)
+returns-2 c = so-far-stop (c .before .before .before .loop-test .taken) (c .before .io-seat-sound .ensures) (c .if2 .taken)
 
 io-blocks-requires : tie.Need-io-blocks-requires Inv-loop μ-loop
 io-blocks-requires c κs =
     let pre = start (made (turn c .before)) .pre in
-    (pre .0, turn c .loop-test .taken, says-yes (c .before .io-socket-sound .ensures) (c .if2 .left) .place)
+    (pre .0, turn c .loop-test .taken, says-yes (c .before .io-seat-sound .ensures) (c .if2 .left) .place)
 
 loop-again : tie.Need-loop-again Inv-loop μ-loop
 loop-again c =
     let passed = c .before in
     let inv = turn passed .before .loop .inv in (
-      so-far-next (inv .0) (turn passed .loop-test .taken) (passed .before .io-socket-sound .ensures) (passed .if2 .left),
+      so-far-next (inv .0) (turn passed .loop-test .taken) (passed .before .io-seat-sound .ensures) (passed .if2 .left),
       covers-more _ _ _ _ (inv .1) (c .io-blocks .ensures),
     )
 
@@ -79,6 +80,6 @@ returns-3 c = so-far-end (c .before .loop .inv .0) (c .loop-test .left)
 pub ios-sound-spec : {M : Type 1} → Rattle.table_grants.proofs.ios.ios_sound.Statement.statement M
 ios-sound-spec =
     tie.close
-    (tie.spec Inv-loop μ-loop (λ c κs. omega arith) returns (λ c κs. let pre = begun (c .before) .pre in (pre .0, pre .1)) gap-rows-requires
-    (λ c. (so-far-none, covers-none _)) io-socket-sound-requires returns-2 io-blocks-requires (λ c. omega arith) (λ c. omega arith) loop-again
+    (tie.spec Inv-loop μ-loop (λ c κs. omega arith) returns (λ c κs. let pre = begun (c .before) .pre in (pre .0, pre .1)) (λ c. search needs) gap-rows-requires
+    (λ c. (so-far-none, covers-none _)) io-seat-sound-requires returns-2 io-blocks-requires (λ c. omega arith) (λ c. omega arith) loop-again
     returns-3)

@@ -1,8 +1,8 @@
--- `table_grants::irqs::irq_holder_sound` meets its contract: a client that holds the socket's I/O grant is live, and the socket is below the count.
+-- `table_grants::irqs::irq_holder_sound` meets its contract: a client that holds the seat's I/O grant is live, and its socket is below the count.
 -- Assumes nothing.
-use Rattle.facts.proofs.Words.{sym, _∙_, arith, needs, now}
+use Rattle.facts.proofs.Words.{subst, arith, needs, now}
 use Rattle.facts.proofs.{says-true}
-use Rattle.layout.specs.{ioSize, ioPlace}
+use Rattle.layout.specs.{ioSize, ioPlace, LiveIn}
 use Rattle.layout.proofs.{used-sound}
 use Rattle.table_grants.proofs.irqs.irq_holder_sound.Tie as tie
 
@@ -10,12 +10,9 @@ returns : tie.Need-returns
 returns c =
     let start = c .before .before .before in
     let b = now (start .args .t) in
-    let io = ioPlace (start .args .s .0) in
-    let same = c .before .same-client .ensures .holds (c .if1 .taken) in
-    let grant = used-sound b io ioSize (omega arith) (start .pre .1 .1) (λ e. same .0 (sym (same .1) ∙ e)) in
-    says-true (record { client = rw (same .1) at (grant .client); socket = grant .socket })
+    let same = c .before .holds-io .ensures .holds (c .if1 .taken) in
+    let grant = used-sound b (ioPlace (start .args .s .0)) ioSize (omega arith) (start .pre .3) (same .used) in
+    says-true (record { live = subst (LiveIn b) (same .is) (grant .client); socket = grant .socket })
 
 pub irq-holder-sound-spec : {M : Type 1} → Rattle.table_grants.proofs.irqs.irq_holder_sound.Statement.statement M
-irq-holder-sound-spec =
-    tie.close
-    (tie.spec (λ c. search needs) (λ c. search needs) (λ c κs. search needs) returns (λ c κs. search needs) (λ c. search needs))
+irq-holder-sound-spec = tie.close (tie.spec (λ c κs. search needs) returns (λ c κs. search needs) (λ c. search needs))

@@ -1,64 +1,91 @@
 -- `table_grants::irqs::irq_place_sound` meets its contract: a record that is not zero is a grant if each test passes.
 -- Assumes nothing.
-use Rattle.facts.proofs.Words.{inl, _≡_, sym, _∙_, _+_, arith, needs, now}
-use Rattle.facts.specs.{byte}
+use Rattle.facts.proofs.Words.{inl, _≡_, sym, ap, _∙_, subst, List, ℕ, _+_, arith, needs, now}
+use Rattle.facts.specs.{byte, word}
 use Rattle.facts.proofs.{says-true}
-use Rattle.layout.specs.{irqSize, irqPlace, levelPlace, Zero, irqLevelAt}
+use Rattle.layout.specs.{irqSize, irqPlace, levelPlace, Zero, LiveIn, irqLevelAt, irqMannerAt}
 use Rattle.table_read.proofs.{place-false, place-says, live-used}
 use Rattle.table_grants.proofs.irqs.irq_place_sound.Tie as tie
 
--- where the call began, and where the record had been found used
-abbrev begun : tie.Else1 → tie.Start
-begun c = c .before .before .before
+-- where the call began, its table and its seat, whose record stands at its place
+abbrev start : tie.After-zero → tie.Start
+start c = c .before .before .before
 
-abbrev read : tie.After-byte2 → tie.Else1
-read c = c .before .before .before
+abbrev table : tie.After-zero → List ℕ
+table c = now (start c .args .t)
 
-used : (c : tie.Else1) → let a = begun c .args in Zero (now (a .t)) (irqPlace (a .s .0)) (irqPlace (a .s .0) + irqSize) → ⊥
-used c = c .before .zero .ensures .fails (c .if1 .left)
+abbrev seat : tie.After-zero → ℕ
+seat c = start c .args .s .0
 
-level-byte : (c : tie.After-byte2) → let a = begun (read c) .args in let b = now (a .t) in
-    c .byte2 .result ≡ byte b (levelPlace (byte b (irqPlace (a .s .0) + irqLevelAt)))
-level-byte c = rw (c .before .before .byte .ensures .0) at (c .byte2 .ensures .0)
+place : (c : tie.After-zero) → c .before .irq-place .result ≡ irqPlace (seat c)
+place c = c .before .irq-place .ensures .0
+
+-- where the record had been found used, and its level, that it is managed, and its manner had passed
+abbrev found : tie.Else1 → tie.After-zero
+found c = c .before
+
+abbrev levelled : tie.Else2 → tie.Else1
+levelled c = c .before .before
+
+abbrev managed : tie.Else3 → tie.Else2
+managed c = c .before .before
+
+abbrev mannered : tie.Else4 → tie.Else3
+mannered c = c .before .before
+
+used : (c : tie.Else1) → let at = irqPlace (seat (found c)) in Zero (table (found c)) at (at + irqSize) → ⊥
+used c = rw (place (found c)) at (c .before .zero .ensures .fails (c .if1 .left))
+
+level-byte : (c : tie.After-byte2)
+    → let k = found (levelled (c .before)) in c .byte2 .result ≡ byte (table k) (levelPlace (byte (table k) (irqPlace (seat k) + irqLevelAt)))
+level-byte c = let read = c .before .before in rw (read .byte .ensures .0, place (found (read .before))) at (c .byte2 .ensures .0)
 
 returns : tie.Need-returns
-returns c = says-true (inl (c .before .zero .ensures .holds (c .if1 .taken)))
+returns c = says-true (inl (rw (place (c .before)) at (c .before .zero .ensures .holds (c .if1 .taken))))
 
 returns-2 : tie.Need-returns-2
-returns-2 c = place-false (used (c .before .before)) (λ g. omega arith)
+returns-2 c =
+    let read = c .before in
+    place-false (used (read .before)) (λ g. omega (arith, c .if2 .taken, rw (place (found (read .before))) at (read .byte .ensures .0), g .level))
 
 returns-3 : tie.Need-returns-3
-returns-3 c = place-false (used (read (c .before))) (λ g. c .if3 .taken (level-byte (c .before) ∙ g .managed))
+returns-3 c = place-false (used (levelled (c .before .before))) (λ g. c .if3 .taken (level-byte (c .before) ∙ g .managed))
 
 returns-4 : tie.Need-returns-4
-returns-4 c = place-false (used (read (c .before .before .before))) (λ g. omega arith)
+returns-4 c =
+    let begin = levelled (managed (c .before .before)) in
+    place-false (used begin) (λ g. omega (arith, c .if4 .taken, rw (place (found begin)) at (c .before .byte3 .ensures .0), g .manner))
 
 irq-holder-sound-requires : tie.Need-irq-holder-sound-requires
 irq-holder-sound-requires c κs =
-    let pre = begun (read (c .before .before .before)) .pre in
-    ((pre .0 .0, omega arith, pre .0 .2 .clients-most), (pre .0 .1, pre .1))
+    let pre = start (found (levelled (managed (mannered (c .before))))) .pre in
+    (pre .0 .0, pre .0 .2 .clients-most, pre .0 .1, pre .1)
 
 returns-5 : tie.Need-returns-5
 returns-5 c =
-    let managed = c .before .before .before in
-    let begin = read (managed .before) in
-    let levelled = managed .before .before in
+    let read = c .before in
+    let last = read .before in
+    let tested = mannered last in
+    let below = managed tested in
+    let begin = levelled below in
+    let k = found begin in
+    let client = read .handle .ensures ∙ ap (word (table k)) (place k) in
     place-says (used begin) (c .irq-holder-sound .ensures)
-    (λ h. (
-      live-used (now (begun begin .args .t)) (begun begin .pre .0 .3) (h .client),
+    (λ h. let live = subst (LiveIn (table k)) client (h .live) in (
+      live-used (table k) (start k .pre .0 .3) live,
       record {
-        client = h .client;
+        client = live;
         socket = h .socket;
-        level = rw (levelled .before .byte .ensures .0) at (levelled .if2 .left);
-        managed = sym (level-byte (managed .before)) ∙ managed .if3 .left;
-        manner = rw (c .before .before .byte3 .ensures .0) at (c .before .if4 .left);
+        level = omega (arith, below .if2 .left, below .before .byte .ensures .0 ∙ ap (λ (p : ℕ). byte (table k) (p + irqLevelAt)) (place k));
+        managed = sym (level-byte (tested .before)) ∙ tested .if3 .left;
+        manner = omega (arith, last .if4 .left, last .before .byte3 .ensures .0 ∙ ap (λ (p : ℕ). byte (table k) (p + irqMannerAt)) (place k));
       },
     ))
-    (λ g. record { client = g .client; socket = g .socket })
+    (λ g. record { live = subst (LiveIn (table k)) (sym client) (g .client); socket = g .socket })
 
 pub irq-place-sound-spec : {M : Type 1} → Rattle.table_grants.proofs.irqs.irq_place_sound.Statement.statement M
 irq-place-sound-spec =
     tie.close
-    (tie.spec (λ c. search needs) (λ c. search needs) (λ c. search needs) (λ c κs. search needs) returns (λ c. search needs) (λ c κs. search needs)
-    returns-2 (λ c. search needs) (λ c. search needs) (λ c κs. search needs) returns-3 (λ c. search needs) (λ c κs. search needs) returns-4
-    irq-holder-sound-requires returns-5)
+    (tie.spec (λ c κs. search needs) (λ c. search needs) (λ c κs. search needs) returns (λ c. search needs) (λ c κs. search needs) returns-2
+    (λ c. search needs) (λ c. search needs) (λ c κs. search needs) returns-3 (λ c. search needs) (λ c κs. search needs) returns-4
+    (λ c κs. search needs) irq-holder-sound-requires returns-5)
