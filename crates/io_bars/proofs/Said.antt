@@ -1,5 +1,6 @@
 -- The rows that were filled bar just the bases at which ports meet a live grant, or a gap. Assumes nothing.
-use Rattle.facts.proofs.Words.{_≡_, refl, ap, sym, _∙_, subst, List, some, none, Option·some-injective, Option·none-ne-some, ℕ, _+_, _-_, _^_, _≤_, _<_, arith, Ports}
+use Rattle.facts.proofs.Words.{_≡_, refl, ap, sym, _∙_, subst, List, some, none, Option·some-injective, Option·none-ne-some, ℕ, _+_, _-_, _^_, _≤_, _<_, arith}
+use Rattle.facts.proofs.Words.{length, getD, replicate, length-replicate, Ports}
 use Rattle.facts.specs.{MeetsHeld, Facts, HeldPorts, Held, Meet, mostSeats, mostLines, mostSockets, allPorts}
 use Rattle.layout.specs.{Accepted}
 use Rattle.seats.specs.{HeldIs, range, ioAt}
@@ -7,6 +8,7 @@ use Rattle.seats.specs.declared.IoSeat.{IoSeat}
 use Rattle.seats.specs.declared.IoSeat.the-variants as io
 use Rattle.seats.proofs.{io-held}
 use Rattle.io_answering.specs.{rowAt, GapsAre, portsFrom}
+use Rattle.io_answering.proofs.{none-yet}
 use Rattle.io_obstacles.specs.{Stretch, grantPlaces, gapPlaces}
 use Rattle.io_bars.specs.{StretchIs, seatPorts, PortsFit, SeatFits, GrantBars, GrantBarsOf, GapBars, mostPorts}
 use Rattle.io_bars.proofs.Entering.{Entered, entered-fit, lies-entered, entered-lies}
@@ -65,26 +67,38 @@ module _ (b : List ℕ) (count lines : ℕ) (rows : List ℕ) where
               met-held (q .0) x (q .1) (q .3 .read) (q .3 .held) (q .3 .is .only x (q .4));
         }
 
-  -- a card that decodes all lines has no bars of gaps
-  pub no-gaps : lines ≡ mostLines → GapBars b count lines rows 0
-  no-gaps e =
+  -- rows of zeros have no base, as is right for a card that decodes all lines
+  pub no-gaps : lines ≡ mostLines → rows ≡ replicate 120 0 → GapBars b count lines rows
+  no-gaps e zeros =
       record {
-        fits = record { size = omega arith; each = λ i l. absurd (omega arith) };
-        few = omega arith;
+        fits = record {
+          size = omega (arith, long);
+          each = λ i l.
+              record {
+                start = omega (arith, none i (omega arith));
+                period = record { lines = 0; most = omega arith; is = omega (arith, none (gapPlaces + i) (omega arith)) };
+                width = omega (arith, none (gapPlaces + gapPlaces + i) (omega arith));
+              };
+        };
         has = λ l. absurd (omega arith);
-        only = λ x l. absurd (omega (arith, l .below));
+        only = λ l. absurd (omega arith);
       }
+    where
+      long : length rows ≡ 120
+      long = ap length zeros ∙ length-replicate {A = ℕ} 120 0
+
+      none : (i : ℕ) → i < 120 → getD rows i 0 ≡ 0
+      none i l = none-yet 120 rows zeros (omega arith) .empty i (omega (arith, long))
 
   module _ (gaps : List ℕ) (are : GapsAre b lines gaps) (few : lines < mostLines) (so : Entered (OfGap gaps count lines) gapPlaces gapPlaces rows) where
-    pub gaps-are : GapBars b count lines rows gapPlaces
+    pub gaps-are : GapBars b count lines rows
     gaps-are =
         record {
           fits = entered-fit _ _ 0 rows so (λ i s q. q .fits);
-          few = omega arith;
           has = λ _ x m.
               let met = are .are few .has (portsFrom count lines x) few m in
               entered-lies _ _ _ rows so x (met .0) (met .1) (λ s q. (q .short, q .has x (met .2)));
-          only = λ x l.
+          only = λ _ x l.
               let q = lies-entered _ _ _ rows so x l in
               are .are few .only (portsFrom count lines x) few (q .0, q .1, q .3 .only x (q .4));
         }

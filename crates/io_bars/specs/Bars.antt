@@ -61,9 +61,8 @@ pub record GrantBars (F : Facts) (count lines : ℕ) (rows : List ℕ) : Type 0 
 abbrev pub GrantBarsOf : List ℕ → ℕ → ℕ → List ℕ → Type 0
 GrantBarsOf b count lines rows = (a : Accepted b) → GrantBars (a .facts) count lines rows
 
--- the rows, in so many places, bar just the bases at which a card that doesn't decode all lines answers in a gap; one that does answers in none
-pub record GapBars (b : List ℕ) (count lines : ℕ) (rows : List ℕ) (places : ℕ) : Type 0 where
-  pub fits : RowsFit rows places
-  pub few : places ≤ gapPlaces
-  pub has : lines < Table.mostLines → (x : ℕ) → MeetsGap b (portsFrom count lines x) → LiesInRows rows places (2 ^ lines - 1) x
-  pub only : (x : ℕ) → LiesInRows rows places (2 ^ lines - 1) x → MeetsGap b (portsFrom count lines x)
+-- the rows bar just the bases at which a card that doesn't decode all lines answers in a gap
+pub record GapBars (b : List ℕ) (count lines : ℕ) (rows : List ℕ) : Type 0 where
+  pub fits : RowsFit rows gapPlaces
+  pub has : lines < Table.mostLines → (x : ℕ) → MeetsGap b (portsFrom count lines x) → LiesInRows rows gapPlaces (2 ^ lines - 1) x
+  pub only : lines < Table.mostLines → (x : ℕ) → LiesInRows rows gapPlaces (2 ^ lines - 1) x → MeetsGap b (portsFrom count lines x)

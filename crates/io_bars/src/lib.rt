@@ -78,14 +78,14 @@ pub fn grant_bars(t: &[u8], count: usize, lines: usize, rows: &mut [u16])
     }
 }
 
-// The bars of the gaps, and in how many places they stand: in none, for a card that decodes all lines, which answers at its own ports alone.
-// Each bar takes the place of its gap.
-pub fn gap_bars(t: &[u8], count: usize, lines: usize, rows: &mut [u16]) -> usize
+// The bars of the gaps, each in the place of its gap; none, for a card that decodes all lines, which answers at its own ports alone. A card that decodes
+// 10 lines and asks for four ports answers in a gap of 16 ports from 6F0H on at the bases 6EDH to 6FFH, and so at 2EDH to 2FFH: a bar of 4 + 16 - 1 bases.
+pub fn gap_bars(t: &[u8], count: usize, lines: usize, rows: &mut [u16])
     requires { ⌜ Accepted (now t) × (1 ≤ count) × (count < 256) × (lines ≤ Table.mostLines) × (now rows ≡ replicate 120 0) ⌝ }
-    ensures { λ r. ⌜ GapBars (now (t .entry)) count lines (now (rows .exit)) r ⌝ }
+    ensures { λ _. ⌜ GapBars (now (t .entry)) count lines (now (rows .exit)) ⌝ }
 {
     if lines == MOST_LINES {
-        return 0;
+        return;
     }
     io_answering::gap_rows(t, lines, rows);
     for i in 0..GAP_PLACES {
@@ -94,5 +94,4 @@ pub fn gap_bars(t: &[u8], count: usize, lines: usize, rows: &mut [u16]) -> usize
         let bar = bar_of(base, ports, MOST_LINES, count, lines);
         enter(rows, GAP_PLACES, i, bar);
     }
-    GAP_PLACES
 }

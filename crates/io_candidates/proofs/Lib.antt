@@ -9,4 +9,4 @@ pub use Runs.{Run, run-start, run-more, reach-stopped, reach-wanted}
 pub use Said.{BarsOnly, BarsAll, first-by, none-marked}
 pub use Searching.{open-found, open-none, NoneIn, lowest-in, lowest-of, none-of}
 pub use Steps.{smallest-power, smallest-power-lines}
-pub use Wanting.{search-fits, pass-fits, barred-taken, Gapped, found-taken}
+pub use Wanting.{search-fits, barred-taken, found-taken}

@@ -13,7 +13,8 @@ use Rattle.layout.specs.Reading.{rangesIn, rangePlace}
 use Rattle.layout.specs.Sound.{Accepted, rangeBase, rangeCount}
 use Rattle.layout.specs.Layout.{rangeReservedAt}
 use Rattle.io_obstacles.specs.declared.Wanted.{Wanted}
-use Rattle.io_obstacles.specs.Bars.{Power, Multiple, Barring}
+use Rattle.io_obstacles.specs.Bars.{Multiple, Barring}
+use Rattle.io_obstacles.specs.Search.{GapsFor, WantedFits}
 use Rattle.io_bars.specs.Bars.{GrantBarsOf}
 use Rattle.io_candidates.specs.declared.TakenBase.{TakenBase}
 use Rattle.io_candidates.specs.declared.TakenBase.the-variants.{Base, Nothing}
@@ -94,12 +95,10 @@ pub record Wants (b : List ℕ) (q : IoAsked) (grants : List ℕ) (w : Wanted) :
   pub count-is : w .count ≡ q .count
   pub limit-is : w .limit + 1 ≡ 2 ^ q .lines
   pub align : SmallestPower (q .count) (w .step)
+  pub gaps-count : GapsFor (q .lines) (w .gaps)
   pub grant-bars : GrantBarsOf b (q .count) (q .lines) grants
-  pub port : 1 ≤ q .count
-  pub ports : q .count < 256
   pub lines : q .lines ≤ Table.mostLines
-  pub short : Power (w .few + 1)
-  pub shorter : w .few ≤ w .limit
+  pub numbers : WantedFits w
 
 -- the candidate that is taken, or there is none
 abbrev pub TakenIs : List ℕ → IoAsked → TakenBase → Type 0

@@ -203,21 +203,13 @@ fn past_bars(t: &[u8], asked: IoAsked, grants: &[u16], wanted: Wanted) -> TakenB
     if io_obstacles::everywhere(known) {
         return TakenBase::Nothing;
     }
-    let count = wanted.count;
-    let mut rows: [u16; GAP_ROWS] = [0; GAP_ROWS];
-    let gaps = io_bars::gap_bars(t, count, asked.lines, &mut rows);
-    let gapped = Wanted {
-        count,
-        step: wanted.step,
-        limit: wanted.limit,
-        few: wanted.few,
-        gaps,
-    };
-    let swept = io_obstacles::swept(grants, &rows, gapped, known);
+    let mut gaps: [u16; GAP_ROWS] = [0; GAP_ROWS];
+    io_bars::gap_bars(t, wanted.count, asked.lines, &mut gaps);
+    let swept = io_obstacles::swept(grants, &gaps, wanted, known);
     if io_obstacles::everywhere(swept) {
         return TakenBase::Nothing;
     }
-    first(t, grants, &rows, gapped, swept)
+    first(t, grants, &gaps, wanted, swept)
 }
 
 // The base that is taken, of those that a request without a base can have.
@@ -237,7 +229,7 @@ pub fn choose(t: &[u8], asked: IoAsked) -> TakenBase
         step,
         limit,
         few,
-        gaps: 0,
+        gaps: io_obstacles::gaps_for(lines),
     };
     past_bars(t, asked, &grants, wanted)
 }

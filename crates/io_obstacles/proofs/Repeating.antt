@@ -4,7 +4,7 @@ use Rattle.facts.proofs.Words.{pow-mono, pow-lt}
 use Rattle.facts.specs.{allPorts}
 use Rattle.io_ranges.proofs.{all-ports-mod, mod-fewer}
 use Rattle.io_obstacles.specs.{Stretch, around, Power, Multiple, Lies, StretchFits, barAt, RowsFit, LiesInRows, Barring, Repeats, Period}
-use Rattle.io_obstacles.specs.{StretchBetween, LearntIs, grantPlaces, BarredBy}
+use Rattle.io_obstacles.specs.{StretchBetween, LearntIs, grantPlaces, gapPlaces, Gaps, Counted, Ignored, BarredBy}
 use Rattle.io_obstacles.proofs.Searching.{AllBarred}
 use Rattle.io_obstacles.proofs.Steps.{multiple-mod, mod-multiple}
 
@@ -78,18 +78,15 @@ rows-repeat rows places limit step period fit p x y e l =
           omega (arith, fewer, p .decides)) x y e (l .lies);
     }
 
-pub bars-repeat : (grants gaps : List ℕ) (places limit step period : ℕ) → RowsFit grants grantPlaces → RowsFit gaps places → Period limit step period
-    → Repeats (BarredBy grants gaps places limit) period
-bars-repeat grants gaps places limit step period fit fit′ p x y e (inl l) = inl (rows-repeat grants grantPlaces limit step period fit p x y e l)
-bars-repeat grants gaps places limit step period fit fit′ p x y e (inr l) = inr (rows-repeat gaps places limit step period fit′ p x y e l)
+pub bars-repeat : (grants gaps : List ℕ) (counted : Gaps) (limit step period : ℕ) → RowsFit grants grantPlaces → RowsFit gaps gapPlaces
+    → Period limit step period → Repeats (BarredBy grants gaps counted limit) period
+bars-repeat grants gaps counted limit step period fit fit′ p x y e (inl l) = inl (rows-repeat grants grantPlaces limit step period fit p x y e l)
+bars-repeat grants gaps Counted limit step period fit fit′ p x y e (inr l) = inr (rows-repeat gaps gapPlaces limit step period fit′ p x y e l)
+bars-repeat grants gaps Ignored limit step period fit fit′ p x y e (inr l) = absurd l
 
 -- bars with short periods are among those with longer ones
 pub rows-more : (rows : List ℕ) (places few limit : ℕ) → few ≤ limit → (x : ℕ) → LiesInRows rows places few x → LiesInRows rows places limit x
 rows-more rows places few limit h x l = record { place = l .place; below = l .below; short = omega (arith, l .short); lies = l .lies }
-
-pub bars-more : (grants gaps : List ℕ) (places few limit : ℕ) → few ≤ limit → (x : ℕ) → BarredBy grants gaps places few x → BarredBy grants gaps places limit x
-bars-more grants gaps places few limit h x (inl l) = inl (rows-more grants grantPlaces few limit h x l)
-bars-more grants gaps places few limit h x (inr l) = inr (rows-more gaps places few limit h x l)
 
 -- a multiple between two bases that is equal to x modulo the period
 record Moved (step from to period x : ℕ) : Type 0 where

@@ -1,6 +1,6 @@
 -- A search from one multiple of the step to the next that may be free, whatever bars a base. Assumes nothing.
 use Rattle.facts.proofs.Words.{_≡_, subst, inl, inr, ⊎-elim, List, ℕ, _+_, _-_, _≤_, _<_, decLt, arith}
-use Rattle.io_obstacles.specs.{around, Multiple, FirstMultiple, Leaps, LiesInRows, Opened, grantPlaces, BarredBy}
+use Rattle.io_obstacles.specs.{around, Multiple, FirstMultiple, Leaps, LiesInRows, Opened, grantPlaces, Gaps, BarredByGap, BarredBy}
 
 -- every multiple from one base on and before another is barred
 abbrev pub AllBarred : (ℕ → Type 0) → ℕ → ℕ → ℕ → Type 0
@@ -63,10 +63,9 @@ pub gone-as : {Bar Bar′ : ℕ → Type 0} (step from base : ℕ) → ((x : ℕ
 gone-as step from base so g = record { multiple = g .multiple; past = g .past; near = g .near; barred = λ y m f l. so y (g .barred y m f l) }
 
 -- the farthest of the grants' bars, or else of the gaps'
-module _ (grants gaps : List ℕ) (places limit x : ℕ) where
-  pub leap-grants : (d : ℕ) → (d ≡ 0 → ⊥) → Leaps (LiesInRows grants grantPlaces limit) x d → Leaps (BarredBy grants gaps places limit) x d
-  leap-grants d n l = record { none = λ z. absurd (n z); each = λ e h. inl (l .each e h); most = l .most }
+module _ {grants : List ℕ} (gaps : List ℕ) (counted : Gaps) {limit x d : ℕ} (l : Leaps (LiesInRows grants grantPlaces limit) x d) where
+  pub leap-grants : (d ≡ 0 → ⊥) → Leaps (BarredBy grants gaps counted limit) x d
+  leap-grants n = record { none = λ z. absurd (n z); each = λ e h. inl (l .each e h); most = l .most }
 
-  pub leap-gaps : (d r : ℕ) → d ≡ 0 → Leaps (LiesInRows grants grantPlaces limit) x d → Leaps (LiesInRows gaps places limit) x r
-      → Leaps (BarredBy grants gaps places limit) x r
-  leap-gaps d r z l m = record { none = λ q. ⊎-elim (l .none z) (m .none q); each = λ e h. inr (m .each e h); most = m .most }
+  pub leap-gaps : {r : ℕ} → d ≡ 0 → Leaps (BarredByGap counted gaps limit) x r → Leaps (BarredBy grants gaps counted limit) x r
+  leap-gaps z m = record { none = λ q. ⊎-elim (l .none z) (m .none q); each = λ e h. inr (m .each e h); most = m .most }

@@ -5,4 +5,6 @@ pub use declared.Stretch.{Stretch}
 pub use declared.Wanted.{Wanted}
 pub use Bars.{around, Power, Multiple, FirstMultiple, Lies, StretchFits, barAt, RowsFit, LiesInFirst, LiesInRows, Leaps, LiesShort, Opened, Barring}
 pub use Bars.{Repeats, Period, StretchBetween, LearntIs, Everywhere}
-pub use Search.{grantPlaces, gapPlaces, BarredBy, BarredFor, SearchFits, PassFits, OpenedIs}
+pub use declared.Gaps.{Gaps}
+pub use declared.Gaps.the-variants.{Counted, Ignored}
+pub use Search.{grantPlaces, gapPlaces, GapsFor, BarredByGap, BarredBy, BarredFor, WantedFits, SearchFits, OpenedIs}

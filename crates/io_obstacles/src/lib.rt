@@ -7,7 +7,7 @@ ghost use Prim.Native.Nat.{_+_, _^_, _≤_, _<_};
 ghost use Rattle.facts.specs.Table;
 ghost use Rattle.io_obstacles.specs.Bars.{around, Power, Multiple, FirstMultiple, StretchFits, RowsFit, LiesShort, LiesInRows, Leaps, Opened};
 ghost use Rattle.io_obstacles.specs.Bars.{Barring, Period, LearntIs, Everywhere};
-ghost use Rattle.io_obstacles.specs.Search.{grantPlaces, gapPlaces, BarredFor, SearchFits, PassFits, OpenedIs};
+ghost use Rattle.io_obstacles.specs.Search.{grantPlaces, gapPlaces, GapsFor, WantedFits, BarredFor, SearchFits, OpenedIs};
 
 // Twice all ports: a multiple of every period, from which a start is taken away.
 const AROUND: u32 = 131072;
@@ -30,7 +30,8 @@ fn nowhere() -> Stretch
     }
 }
 
-// How far the end of the stretch lies ahead of a base in it; 0 where the base isn't.
+// How far the end of the stretch lies ahead of a base in it; 0 where the base isn't. Of 10 bases from 2FD on, again after each 400H, the base 700H lies 3
+// past the start: 700H + 20000H - 2FDH is 20403H, and its low ten bits are 3. So the end lies 10 - 3 bases ahead, at 707H.
 fn ahead(s: Stretch, base: usize) -> usize
     requires { ⌜ StretchFits s × (base ≤ Table.allPorts) ⌝ }
     ensures { λ r. ⌜ Leaps (LiesShort (s .ones) s) base r ⌝ }
@@ -43,7 +44,8 @@ fn ahead(s: Stretch, base: usize) -> usize
     (width - behind) as usize
 }
 
-// The same of a bar in the rows, in 16 bits: a bar whose period is longer than the limit and one bars nothing.
+// The same of a bar in the rows, in 16 bits: a bar whose period is longer than the limit and one bars nothing. A base before the start wraps around at all
+// ports, which every period divides: for the bar above and the base 2, 2H - 2FDH wraps to FD05H, whose low ten bits are 105H, and 10 bases end before that.
 fn past(start: u16, ones: u16, width: u16, limit: u16, base: u16) -> u16
     requires { ⌜ Power (ones + 1) ⌝ }
     ensures { λ r. ⌜ Leaps (LiesShort limit (record { start = start; ones = ones; width = width })) base r ⌝ }
@@ -68,6 +70,9 @@ pub const GAP_PLACES: usize = 40;
 
 pub const GAP_ROWS: usize = GAP_PLACES + GAP_PLACES + GAP_PLACES;
 
+// The period of a place that isn't used.
+const UNUSED: usize = 1;
+
 // How far the farthest end lies ahead, of the bars that have the base and whose periods are no longer than the limit and one. For a base in two bars, one
 // that ends 5 bases ahead and one that ends 9 ahead, it is 9: every base up to there is barred.
 fn leap(rows: &[u16], places: usize, limit: u16, base: usize) -> usize
@@ -91,7 +96,7 @@ fn leap(rows: &[u16], places: usize, limit: u16, base: usize) -> usize
     far as usize
 }
 
-// The first multiple of the step at or past a number.
+// The first multiple of the step at or past a number. For the step 8 and 303H it is 308H: 303H and 7 are 30AH, and its low three bits, 2, are taken away.
 pub fn up(from: usize, step: usize) -> usize
     requires { ⌜ (from ≤ around + around) × Power step ⌝ }
     ensures { λ r. ⌜ FirstMultiple from step r ⌝ }
@@ -140,15 +145,31 @@ pub fn everywhere(s: Stretch) -> bool
     s.ones < s.width
 }
 
-// What a search looks for: so many ports, at multiples of the step; which bars count, those whose periods are no longer than the limit and one; and which
-// of them come again soonest, those whose periods are no longer than `few` and one. Of the gaps' bars it looks at so many places: at none, where no
-// gap counts.
+// Whether gaps bar a base. A card that decodes all lines answers at its own ports alone, and for it they don't count.
+pub enum Gaps {
+    Counted,
+    Ignored,
+}
+
+pub fn gaps_for(lines: usize) -> Gaps
+    requires { ⌜ lines ≤ Table.mostLines ⌝ }
+    ensures { λ r. ⌜ GapsFor lines r ⌝ }
+{
+    if lines < MOST_LINES {
+        Gaps::Counted
+    } else {
+        Gaps::Ignored
+    }
+}
+
+// What a search looks for: so many ports, at multiples of the step; which bars count, those whose periods are no longer than the limit and one; which of
+// them come again soonest, those whose periods are no longer than `few` and one; and whether the gaps' bars count.
 pub struct Wanted {
     pub count: usize,
     pub step: usize,
     pub limit: u16,
     pub few: u16,
-    pub gaps: usize,
+    pub gaps: Gaps,
 }
 
 // The lowest multiple of the step from one on that lies in no grant's bar with a period of the limit and one, or less; or the first whose ports don't
@@ -171,7 +192,7 @@ fn run_end(grants: &[u16], limit: u16, count: usize, step: usize, from: usize, e
 
 // How far a search can leap from a base: to the farthest end of the grants' bars that have it, or else of the gaps'.
 fn leap_all(grants: &[u16], gaps: &[u16], wanted: Wanted, base: usize) -> usize
-    requires { ⌜ RowsFit (now grants) grantPlaces × RowsFit (now gaps) (wanted .gaps) × (wanted .gaps ≤ gapPlaces) × (base < Table.allPorts) ⌝ }
+    requires { ⌜ RowsFit (now grants) grantPlaces × RowsFit (now gaps) gapPlaces × (base < Table.allPorts) ⌝ }
     ensures { λ r. ⌜ Leaps (BarredFor (now (grants .entry)) (now (gaps .entry)) wanted) base r ⌝ }
 {
     let limit = wanted.limit;
@@ -179,8 +200,11 @@ fn leap_all(grants: &[u16], gaps: &[u16], wanted: Wanted, base: usize) -> usize
     if far != 0 {
         return far;
     }
-    let places = wanted.gaps;
-    leap(gaps, places, limit, base)
+    let counted = wanted.gaps;
+    let Gaps::Counted = counted else {
+        return 0;
+    };
+    leap(gaps, GAP_PLACES, limit, base)
 }
 
 // Where a search came to, and the stretch that it knows to be barred.
@@ -247,7 +271,8 @@ pub fn limit_of(lines: usize) -> u16
     (io_ranges::power(lines) - 1) as u16
 }
 
-// The periods of the grants' bars, a bit for each: two to so many lines. A place that isn't used has a period of one.
+// The periods of the grants' bars, a bit for each: two to so many lines. A place that isn't used has a period of one. With bars of 10 and of 16 lines it is
+// 1 + 2^10 + 2^16.
 pub fn periods(grants: &[u16]) -> usize
     requires { ⌜ RowsFit (now grants) grantPlaces ⌝ }
 {
@@ -258,32 +283,34 @@ pub fn periods(grants: &[u16]) -> usize
     some
 }
 
-// The shortest of the periods, less one; the limit, where none is shorter.
+// The shortest of the periods, less one, but for that of places that aren't used; the limit, where none is shorter. Of those above it is 2^10 - 1: the
+// trailing zeros of 2^10 + 2^16 are the ten lines.
 pub fn shortest(periods: usize, limit: u16) -> u16
     requires { ⌜ Power (limit + 1) ⌝ }
     ensures { λ r. ⌜ Power (r + 1) × (r ≤ limit) ⌝ }
 {
-    for lines in 1..MOST_LINES {
-        let ones = limit_of(lines);
-        if limit <= ones {
-            return limit;
-        }
-        if table_read::is_set(periods, lines) {
-            return ones;
-        }
+    let lines = usize::trailing_zeros(periods - periods % 2) as usize;
+    let ones = limit_of(io_ranges::smaller(lines, MOST_LINES));
+    if limit < ones {
+        return limit;
     }
-    limit
+    ones
 }
 
-// The bases from 0 on that the grants bar, the shortest periods first; for longer periods the search goes on where it stands.
+// The bases from 0 on that the grants bar, the shortest periods first; for longer periods the search goes on where it stands. With cards of 8 and of 10
+// lines it goes along the bars of the first one, up to 100H at most, and then along the bars of both, up to 400H at most. Where it gets to such an end,
+// every base is barred. Where no bar has a shorter period than all ports, nothing comes again, and there is nothing to learn.
 pub fn passed(grants: &[u16], wanted: Wanted) -> Stretch
-    requires { ⌜ PassFits (now grants) wanted ⌝ }
+    requires { ⌜ RowsFit (now grants) grantPlaces × WantedFits wanted ⌝ }
     ensures { λ r. ⌜ Barring (LiesInRows (now (grants .entry)) grantPlaces (wanted .limit)) (wanted .step) r ⌝ }
 {
     let count = wanted.count;
     let step = wanted.step;
     let some = periods(grants);
     let mut known = nowhere();
+    if some % ALL_PORTS <= UNUSED {
+        return known;
+    }
     let mut base = 0;
     for most in 1..MOST_LINES {
         if !table_read::is_set(some, most) {
@@ -303,8 +330,8 @@ pub fn passed(grants: &[u16], wanted: Wanted) -> Stretch
     known
 }
 
-// The longest period that is swept: that of eleven lines. Past longer ones the search in the ranges is shorter.
-const MOST_SWEPT: usize = 2048;
+// The longest period that is swept: that of 14 lines. Past longer ones the search in the ranges is shorter.
+const MOST_SWEPT: usize = 16384;
 
 // What is known of a whole period, past grants and gaps, if it is short: for a card that decodes ten lines, that no base from 0 to 3FF is free says that
 // none is, and no range is searched.

@@ -104,7 +104,7 @@ returns-2 c =
 pub gap-bars-spec : {M : Type 1} → Rattle.io_bars.proofs.gap_bars.Statement.statement M
 gap-bars-spec =
     tie.close
-    (tie.spec Inv-loop μ-loop (λ c. no-gaps _ _ _ _ (c .if1 .taken)) gap-rows-requires loop-holds (λ c. omega arith)
+    (tie.spec Inv-loop μ-loop (λ c. no-gaps _ _ _ _ (c .if1 .taken) (called (c .before) .pre .4)) gap-rows-requires loop-holds (λ c. omega arith)
     (λ c. let k = c .before .before in omega (arith, room k)) (λ c. omega (arith, base-low (c .before))) (λ c. omega arith) (λ c. omega arith)
     (λ c. let at = turn c in omega (arith, room (at .before))) (λ c. omega (arith, ports-low (turn c))) bar-of-requires enter-requires
     (λ c. omega arith) (λ c. omega arith) loop-again same-length returns-2)

@@ -52,7 +52,7 @@ Fits c = let a = start c .args in CandidateIn (table c) (Bar c) (c .loop .most) 
 returns : tie.Need-returns Inv-loop μ-loop
 returns c =
     let k = turn-of-mark (c .before) in
-    none-marked _ _ _ _ (k .loop .most) (says-no (c .before .some-marked .ensures) (c .if1 .taken)) (k .loop .inv .0 .each) (start k .pre .0 .1 .port)
+    none-marked _ _ _ _ (k .loop .most) (says-no (c .before .some-marked .ensures) (c .if1 .taken)) (k .loop .inv .0 .each) (start k .pre .0 .1 .numbers .port)
 
 first-of-requires : tie.Need-first-of-requires Inv-loop μ-loop
 first-of-requires c κs = let k = turn-of-mark (c .before) in (start k .pre .0, k .loop .inv .1)

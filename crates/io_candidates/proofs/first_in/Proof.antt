@@ -68,7 +68,7 @@ found : (c : tie.After-lowest)
 found c =
     let k = c .before in
     let s = start (based (gone k)) in
-    lowest-in (table s) (sound s .ranges) (Bar s) (s .args .most) (s .args .wanted .count) (s .args .wanted .step) (s .pre .0 .2 .port) (s .args .i)
+    lowest-in (table s) (sound s .ranges) (Bar s) (s .args .most) (s .args .wanted .count) (s .args .wanted .step) (s .pre .0 .2 .numbers .port) (s .args .i)
     (gone k .up .result) (k .reach .result) (s .pre .0 .1) (first (gone k)) (reached k)
 
 -- where the search came to, which found a base or passed them all
@@ -81,21 +81,21 @@ word-requires c κs = omega (arith, placed (called c), sound (called c) .size)
 add-reach : tie.Need-add-reach
 add-reach c =
     let s = start (based (c .before)) in
-    omega (arith, c .range-end .ensures, range s .within, s .pre .0 .2 .ports)
+    omega (arith, c .range-end .ensures, range s .within, s .pre .0 .2 .numbers .ports)
 
 reach-requires : tie.Need-reach-requires
 reach-requires c κs =
     let up = c .before in
     let s = start (based up) in
-    (s .pre .0 .0, s .pre .0 .1, omega (arith, c .range-end .ensures, s .pre .0 .2 .port))
+    (s .pre .0 .0, s .pre .0 .1, omega (arith, c .range-end .ensures, s .pre .0 .2 .numbers .port))
 
 lowest-requires : tie.Need-lowest-requires
 lowest-requires c κs =
     let s = start (based (gone c)) in
     let up = first (gone c) in
     let f = s .pre .0 .2 in (
-      (f, up .multiple, omega (arith, up .near, range s .within, range s .port, power-most _ (f .step))),
-      (s .pre .1, omega (arith, c .reach .ensures .within, f .port)),
+      (f, up .multiple, omega (arith, up .near, range s .within, range s .port, power-most _ (f .numbers .step))),
+      (s .pre .1, omega (arith, c .reach .ensures .within, f .numbers .port)),
     )
 
 returns : tie.Need-returns
@@ -127,8 +127,8 @@ pub first-in-spec : {M : Type 1} → Rattle.io_candidates.proofs.first_
 first-in-spec =
     tie.close
     (tie.spec (λ c. omega (arith, placed (called c))) (λ c. omega (arith, placed (called c))) word-requires (λ c κs. search needs)
-    (λ c κs. let s = start (c .before) in (omega (arith, c .larger .ensures, c .before .word .ensures .1), s .pre .0 .2 .step))
-    (λ c κs. let s = start (based c) in (sound s .size, placed s)) add-reach (λ c. let s = start (based (c .before)) in omega (arith, s .pre .0 .2 .port))
+    (λ c κs. let s = start (c .before) in (omega (arith, c .larger .ensures, c .before .word .ensures .1), s .pre .0 .2 .numbers .step))
+    (λ c κs. let s = start (based c) in (sound s .size, placed s)) add-reach (λ c. let s = start (based (c .before)) in omega (arith, s .pre .0 .2 .numbers .port))
     reach-requires lowest-requires
-    (λ c. let at = c .before in omega (arith, at .lowest .ensures .opened .near, start (based (gone (at .before))) .pre .0 .2 .ports)) returns
-    (λ c κs. let f = start (based (gone (search-of c .before))) .pre .0 .2 in (f .long, f .step)) (λ c κs. c .period .ensures .power) returns-2)
+    (λ c. let at = c .before in omega (arith, at .lowest .ensures .opened .near, start (based (gone (at .before))) .pre .0 .2 .numbers .ports)) returns
+    (λ c κs. let f = start (based (gone (search-of c .before))) .pre .0 .2 .numbers in (f .long, f .step)) (λ c κs. c .period .ensures .power) returns-2)

@@ -65,7 +65,7 @@ returns c =
     let s = start k .args in
     record {
       lowest =
-          lowest-of (table k) (sound k .ranges) (Bar k) (s .most) (s .wanted .count) (s .wanted .step) (start k .pre .0 .1 .port) (k .loop .i) _
+          lowest-of (table k) (sound k .ranges) (Bar k) (s .most) (s .wanted .count) (s .wanted .step) (start k .pre .0 .1 .numbers .port) (k .loop .i) _
           (listed (found c .before)) (k .loop .inv .0 .each)
           (subst (LowestIs (Starts k)) (c .before .taken .given .1) (found c .first-in .ensures .lowest));
       bars = found c .first-in .ensures .bars;
@@ -88,7 +88,7 @@ returns-2 c =
     let s = start k .args in
     record {
       lowest =
-          none-of (table k) (sound k .ranges) (Bar k) (s .most) (s .wanted .count) (s .wanted .step) (start k .pre .0 .1 .port) (k .loop .i)
+          none-of (table k) (sound k .ranges) (Bar k) (s .most) (s .wanted .count) (s .wanted .step) (start k .pre .0 .1 .numbers .port) (k .loop .i)
           (omega (arith, k .before .byte .ensures .0, c .loop-test .left)) (k .loop .inv .0 .each);
       bars = k .loop .inv .1;
     }

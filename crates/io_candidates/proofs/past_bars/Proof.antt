@@ -1,12 +1,12 @@
 -- `io_candidates::past_bars` meets its contract: where the grants bar every base nothing is taken, and else what comes first past all bars.
 -- Assumes nothing.
-use Rattle.facts.proofs.Words.{refl, subst, inl, List, ℕ, arith, now, needs}
+use Rattle.facts.proofs.Words.{refl, inl, List, ℕ, arith, now, needs}
 use Rattle.io_obstacles.proofs.{barring-as}
 use Rattle.io_obstacles.specs.{SearchFits}
 use Rattle.io_bars.specs.{GapBars}
 use Rattle.io_candidates.specs.declared.TakenBase.the-variants.{Nothing}
 use Rattle.io_candidates.specs.{Wants}
-use Rattle.io_candidates.proofs.{pass-fits, search-fits, barred-taken, found-taken}
+use Rattle.io_candidates.proofs.{search-fits, barred-taken, found-taken}
 use Rattle.io_candidates.proofs.past_bars.Tie as tie
 
 -- where the call began, its table, its rows, and what it wants
@@ -23,7 +23,7 @@ wants : (c : tie.After-passed) → let a = start c .args in Wants (table c) (a .
 wants c = start c .pre .1
 
 -- the gaps' bars
-abbrev passed-of-gaps : tie.After-rows → tie.After-passed
+abbrev passed-of-gaps : tie.After-gaps → tie.After-passed
 passed-of-gaps c = let some-left = c .before in some-left .before .before
 
 abbrev passed-of-bars : tie.After-gap-bars → tie.After-passed
@@ -32,12 +32,11 @@ passed-of-bars c = passed-of-gaps (c .before)
 abbrev rows : tie.After-gap-bars → List ℕ
 rows c = c .gap-bars .last .1 .1 .1 .0
 
-bars : (c : tie.After-gap-bars) → let k = passed-of-bars c in let a = start k .args in
-    GapBars (table k) (a .asked .count) (a .asked .lines) (rows c) (c .gap-bars .result)
-bars c =
-    let k = passed-of-bars c in
-    let a = start k .args in
-    subst (λ (n : ℕ). GapBars (table k) n (a .asked .lines) (rows c) (c .gap-bars .result)) (wants k .count-is) (c .gap-bars .ensures)
+bars : (c : tie.After-gap-bars) → let k = passed-of-bars c in let a = start k .args in GapBars (table k) (a .asked .count) (a .asked .lines) (rows c)
+bars c = rw (wants (passed-of-bars c) .count-is) at (c .gap-bars .ensures)
+
+fits : (c : tie.After-gap-bars) → let a = start (passed-of-bars c) .args in SearchFits (now (a .grants)) (rows c) (a .wanted)
+fits c = let k = passed-of-bars c in search-fits (table k) _ _ _ (wants k) (rows c) (bars c) (start k .pre .0)
 
 returns : tie.Need-returns
 returns c =
@@ -47,17 +46,11 @@ returns c =
 gap-bars-requires : tie.Need-gap-bars-requires
 gap-bars-requires c κs =
     let k = passed-of-gaps c in
-    let w = wants k in
-    (start k .pre .0, omega (arith, w .port, w .count-is), omega (arith, w .ports, w .count-is), w .lines, refl)
-
-fits : (c : tie.After-gap-bars) → let k = passed-of-bars c in
-    let a = start k .args in SearchFits (now (a .grants)) (rows c) (record { count = a .wanted .count; step = a .wanted .step; limit = a .wanted .limit; few = a .wanted .few; gaps = c .gap-bars .result })
-fits c = let k = passed-of-bars c in search-fits (table k) _ _ _ (wants k) (rows c) _ (start k .pre .0) (bars c .fits) (bars c .few)
+    let n = wants k .numbers in
+    (start k .pre .0, n .port, n .ports, wants k .lines, refl)
 
 swept-requires : tie.Need-swept-requires
-swept-requires c κs =
-    let at = c .before .before in
-    (fits at, barring-as _ _ (λ x l. inl l) (passed-of-bars at .passed .ensures))
+swept-requires c κs = let at = c .before .before in (fits at, barring-as _ _ (λ x l. inl l) (passed-of-bars at .passed .ensures))
 
 -- the sweep over a period
 abbrev bars-of-sweep : tie.After-swept → tie.After-gap-bars
@@ -76,7 +69,7 @@ returns-2 c =
     let sweep = looked .before in
     let at = bars-of-sweep sweep in
     let k = passed-of-bars at in
-    found-taken (table k) _ _ _ (wants k) (rows at) _ (bars at) Nothing
+    found-taken (table k) _ _ _ (wants k) (rows at) (bars at) Nothing
     (λ y free. free .free .unbarred (sweep .swept .ensures .barred y (free .free .multiple) (looked .everywhere2 .ensures (c .if2 .taken) y)))
 
 returns-3 : tie.Need-returns-3
@@ -85,10 +78,10 @@ returns-3 c =
     let sweep = some-left .before .before in
     let at = bars-of-sweep sweep in
     let k = passed-of-bars at in
-    found-taken (table k) _ _ _ (wants k) (rows at) _ (bars at) (c .first .result) (c .first .ensures)
+    found-taken (table k) _ _ _ (wants k) (rows at) (bars at) (c .first .result) (c .first .ensures)
 
 pub past-bars-spec : {M : Type 1} → Rattle.io_candidates.proofs.past_bars.Statement.statement M
 past-bars-spec =
     tie.close
-    (tie.spec (λ c κs. let s = called c in pass-fits _ _ _ _ (s .pre .1) (s .pre .0)) (λ c κs. search needs) returns (λ c. search needs)
+    (tie.spec (λ c κs. let s = called c in (s .pre .1 .grant-bars (s .pre .0) .fits, s .pre .1 .numbers)) (λ c κs. search needs) returns (λ c. search needs)
     gap-bars-requires (λ c. search needs) swept-requires (λ c κs. search needs) returns-2 (λ c. search needs) first-requires returns-3)

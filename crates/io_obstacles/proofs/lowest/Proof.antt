@@ -40,7 +40,7 @@ run-barred : (c : tie.After-run-end Inv-loop μ-loop)
     AllBarred (Bar b) (start b .args .wanted .step) (turn-of-run c .before .loop .base) (c .run-end .result)
 run-barred c y m f l =
     let b = begun-of-run c in
-    inl (rows-more _ _ _ _ (fits b .shorter) y (c .run-end .ensures .barred y m f l))
+    inl (rows-more _ _ _ _ (fits b .numbers .shorter) y (c .run-end .ensures .barred y m f l))
 
 -- the search goes on along the run, and learns it
 along : (c : tie.After-run-end Inv-loop μ-loop)
@@ -58,7 +58,7 @@ learns c =
     let k = turn-of-run r .before in
     let a = start b .args in
     learnt-barring {Bar = Bar b} {Run = LiesInRows (now (a .grants)) grantPlaces (a .wanted .few)}
-    (λ x l. inl (rows-more _ _ _ _ (fits b .shorter) x l))
+    (λ x l. inl (rows-more _ _ _ _ (fits b .numbers .shorter) x l))
     (rows-repeat (now (a .grants)) grantPlaces (a .wanted .few) (a .wanted .step) (b .period .result) (fits b .grants-fit) (b .period .ensures))
     (b .period .ensures) (k .loop .barred) (c .learnt .result) (k .loop .base) (r .run-end .result) (k .loop .inv .1) (r .run-end .ensures .barred)
     (c .learnt .ensures)
@@ -74,7 +74,7 @@ run-below : (c : tie.Else2 Inv-loop μ-loop) → let r = c .before .before in le
 run-below c = omega (arith, c .if2 .left)
 
 period-requires : tie.Need-period-requires Inv-loop μ-loop
-period-requires c κs = let f = c .before .before .pre .0 .0 in (f .short, f .step)
+period-requires c κs = let f = c .before .before .pre .0 .0 .numbers in (f .short, f .step)
 
 loop-holds : tie.Need-loop-holds Inv-loop μ-loop
 loop-holds c = let s = start c in (gone-start _ _ _ (s .pre .0 .1) (s .pre .0 .2), s .pre .1 .0)
@@ -88,7 +88,7 @@ up-requires : tie.Need-up-requires Inv-loop μ-loop
 up-requires c κs =
     let at = c .before in
     let b = at .before .before .before in
-    (omega (arith, below (at .before), start b .pre .1 .1, at .ahead .ensures .most), fits b .step)
+    (omega (arith, below (at .before), start b .pre .1 .1, at .ahead .ensures .most), fits b .numbers .step)
 
 loop-less : tie.Need-loop-less Inv-loop μ-loop
 loop-less c =
@@ -103,7 +103,7 @@ loop-again c =
     let known = k .loop .inv .1 in (
       gone-on _ _ _ (k .loop .base) (k .loop .inv .0) (k .loop .base + at .ahead .result) (c .up .result) (omega arith)
           (λ y m f l. known .barred y m (leap-barred _ _ _ (at .ahead .ensures) y m f l .1)) (c .up .ensures)
-          (omega (arith, c .up .ensures .near, below (at .before), start b .pre .1 .1, at .ahead .ensures .most, power-most _ (fits b .step))),
+          (omega (arith, c .up .ensures .near, below (at .before), start b .pre .1 .1, at .ahead .ensures .most, power-most _ (fits b .numbers .step))),
       known,
     )
 
@@ -113,7 +113,7 @@ run-end-requires c κs =
     let b = k .before in
     let f = fits b in
     let g = k .loop .inv .0 in
-    ((f .grants-fit, f .step, f .port, f .ports), (g .multiple, g .near, start b .pre .1 .1))
+    ((f .grants-fit, f .numbers .step, f .numbers .port, f .numbers .ports), (g .multiple, g .near, start b .pre .1 .1))
 
 returns : tie.Need-returns Inv-loop μ-loop
 returns c =
@@ -127,7 +127,7 @@ leap-all-requires : tie.Need-leap-all-requires Inv-loop μ-loop
 leap-all-requires c κs =
     let b = begun-of-run (c .before .before) in
     let f = fits b in
-    (f .grants-fit, f .gaps-fit, f .places, omega (arith, run-below c, start b .pre .1 .1))
+    (f .grants-fit, f .gaps-fit, omega (arith, run-below c, start b .pre .1 .1))
 
 returns-2 : tie.Need-returns-2 Inv-loop μ-loop
 returns-2 c =
@@ -142,7 +142,7 @@ up-requires-2 : tie.Need-up-requires-2 Inv-loop μ-loop
 up-requires-2 c κs =
     let at = c .before in
     let b = begun-of-run (run-of-leap at) in
-    (omega (arith, run-below (at .before), start b .pre .1 .1, at .leap-all .ensures .most), fits b .step)
+    (omega (arith, run-below (at .before), start b .pre .1 .1, at .leap-all .ensures .most), fits b .numbers .step)
 
 loop-less-2 : tie.Need-loop-less-2 Inv-loop μ-loop
 loop-less-2 c =
@@ -156,7 +156,7 @@ loop-again-2 c =
     let b = begun-of-run r in (
       gone-on _ _ _ (r .run-end .result) (along r) (r .run-end .result + at .leap-all .result) (c .up2 .result) (omega arith)
           (leap-barred _ _ _ (at .leap-all .ensures)) (c .up2 .ensures)
-          (omega (arith, c .up2 .ensures .near, run-below (at .before), start b .pre .1 .1, at .leap-all .ensures .most, power-most _ (fits b .step))),
+          (omega (arith, c .up2 .ensures .near, run-below (at .before), start b .pre .1 .1, at .leap-all .ensures .most, power-most _ (fits b .numbers .step))),
       learns (learnt-of-leap at),
     )
 
@@ -168,8 +168,8 @@ returns-3 c =
 pub lowest-spec : {M : Type 1} → Rattle.io_obstacles.proofs.lowest.Statement.statement M
 lowest-spec =
     tie.close
-    (tie.spec Inv-loop μ-loop period-requires loop-holds (λ c. omega (arith, c .loop .inv .0 .near, fits (c .before) .ports)) ahead-requires
+    (tie.spec Inv-loop μ-loop period-requires loop-holds (λ c. omega (arith, c .loop .inv .0 .near, fits (c .before) .numbers .ports)) ahead-requires
     (λ c. omega (arith, c .before .before .before .loop .inv .0 .near, c .before .ahead .ensures .most)) up-requires loop-less loop-again
     run-end-requires (λ c κs. begun-of-run c .period .ensures .power)
-    (λ c. omega (arith, c .before .run-end .ensures .near, fits (begun-of-run (c .before)) .ports)) returns leap-all-requires returns-2
+    (λ c. omega (arith, c .before .run-end .ensures .near, fits (begun-of-run (c .before)) .numbers .ports)) returns leap-all-requires returns-2
     (λ c. omega (arith, run-of-leap (c .before) .run-end .ensures .near, c .before .leap-all .ensures .most)) up-requires-2 loop-less-2 loop-again-2 returns-3)

@@ -3,7 +3,7 @@
 -- Assumes nothing.
 use Rattle.facts.proofs.Words.{_≡_, List, ℕ, _+_, _-_, _^_, _≤_, _<_, arith, now, needs, pow-pos, pow-mono}
 use Rattle.facts.specs.{allPorts, mostLines}
-use Rattle.io_obstacles.specs.{Stretch, Wanted, Power, LiesInRows, Barring, grantPlaces, PassFits}
+use Rattle.io_obstacles.specs.{Stretch, Wanted, Power, LiesInRows, Barring, grantPlaces, WantedFits}
 use Rattle.io_obstacles.proofs.{power-most, Gone, gone-along, gone-as, rows-repeat, rows-more, learnt-barring, nowhere-barring, barring-as}
 use Rattle.io_obstacles.proofs.passed.Tie as tie
 
@@ -36,10 +36,10 @@ abbrev start-of-periods : tie.After-periods Inv-loop μ-loop → tie.Start Inv-l
 start-of-periods c = c .before .before
 
 abbrev start : tie.At-loop Inv-loop μ-loop → tie.Start Inv-loop μ-loop
-start c = start-of-periods (c .before .before)
+start c = let none-short = c .before .before in start-of-periods (none-short .before)
 
-fits : (c : tie.At-loop Inv-loop μ-loop) → let a = start c .args in PassFits (now (a .grants)) (a .wanted)
-fits c = start c .pre
+fits : (c : tie.At-loop Inv-loop μ-loop) → WantedFits (start c .args .wanted)
+fits c = start c .pre .1
 
 -- the turn in which a period was looked at
 abbrev turn-of-set : tie.After-is-set Inv-loop μ-loop → tie.At-loop Inv-loop μ-loop
@@ -59,7 +59,7 @@ limit c = limit-of-long c .limit-of .result
 
 -- the limit is one of those that count, and no shorter than those before it
 counts : (c : tie.After-period Inv-loop μ-loop) → limit c ≤ start (turn c) .args .wanted .limit
-counts c = omega (arith, c .before .if2 .left)
+counts c = omega (arith, c .before .if3 .left)
 
 power : (c : tie.After-limit-of Inv-loop μ-loop) → Power (c .limit-of .result + 1)
 power c = let k = turn-of-limit c in record { lines = k .loop .most; most = k .loop .inv .0; is = c .limit-of .ensures }
@@ -100,7 +100,7 @@ so c =
       gone = gone run;
       bars =
           learnt-barring {Bar = Bar l} {Run = Bar l} (λ x b. b)
-          (rows-repeat (now (a .grants)) grantPlaces (limit l) (a .wanted .step) (l .period .result) (fits k .grants-fit) (l .period .ensures))
+          (rows-repeat (now (a .grants)) grantPlaces (limit l) (a .wanted .step) (l .period .result) (start k .pre .0) (l .period .ensures))
           (l .period .ensures) (k .loop .known) (c .learnt .result) 0 (run .run-end .result) (bars l) (gone run .barred) (c .learnt .ensures);
     }
 
@@ -112,39 +112,40 @@ loop-holds c = (
     within = omega arith;
     short = omega arith;
     gone = record { multiple = record { times = 0; is = omega arith }; past = omega arith; near = omega arith; barred = λ y m f l. absurd (omega arith) };
-    bars = nowhere-barring _ _ (c .nowhere .result) (c .nowhere .ensures);
+    bars = nowhere-barring _ _ (c .before .nowhere .result) (c .before .nowhere .ensures);
   },
 )
 
 loop-again : tie.Need-loop-again Inv-loop μ-loop
 loop-again c = let k = turn-of-set (c .before) in (omega arith, so-on _ _ _ _ _ (k .loop .inv .1))
 
-returns : tie.Need-returns Inv-loop μ-loop
-returns c = let k = turn-of-limit (c .before .before) in so-barring _ _ _ _ _ (k .loop .inv .1)
+returns-2 : tie.Need-returns-2 Inv-loop μ-loop
+returns-2 c = let k = turn-of-limit (c .before .before) in so-barring _ _ _ _ _ (k .loop .inv .1)
 
 run-end-requires : tie.Need-run-end-requires Inv-loop μ-loop
 run-end-requires c κs =
     let k = turn c in
     let f = fits k in
     let g = k .loop .inv .1 .gone in (
-      (f .grants-fit, f .step, f .port, f .ports),
+      (start k .pre .0, f .step, f .port, f .ports),
       (g .multiple, g .near, omega (arith, power-most _ (c .period .ensures .power), f .port)),
     )
 
-returns-2 : tie.Need-returns-2 Inv-loop μ-loop
-returns-2 c = so-barring _ _ _ _ _ (so (c .before .before))
+returns-3 : tie.Need-returns-3 Inv-loop μ-loop
+returns-3 c = so-barring _ _ _ _ _ (so (c .before .before))
 
 loop-again-2 : tie.Need-loop-again-2 Inv-loop μ-loop
 loop-again-2 c = (omega arith, so-on _ _ _ _ _ (so (c .before .before)))
 
-returns-3 : tie.Need-returns-3 Inv-loop μ-loop
-returns-3 c = so-barring _ _ _ _ _ (c .before .loop .inv .1)
+returns-4 : tie.Need-returns-4 Inv-loop μ-loop
+returns-4 c = so-barring _ _ _ _ _ (c .before .loop .inv .1)
 
 pub passed-spec : {M : Type 1} → Rattle.io_obstacles.proofs.passed.Statement.statement M
 passed-spec =
     tie.close
-    (tie.spec Inv-loop μ-loop (λ c κs. c .before .pre .grants-fit) (λ c κs. search needs) loop-holds (λ c κs. omega arith) (λ c. omega arith)
-    (λ c. omega arith) loop-again (λ c κs. omega arith) returns
+    (tie.spec Inv-loop μ-loop (λ c κs. c .before .pre .0) (λ c κs. search needs)
+    (λ c. nowhere-barring _ _ (c .before .nowhere .result) (c .before .nowhere .ensures)) loop-holds (λ c κs. omega arith) (λ c. omega arith)
+    (λ c. omega arith) loop-again (λ c κs. omega arith) returns-2
     (λ c κs. let l = c .before .before in (power l, fits (turn-of-limit l) .step))
     (λ c. omega (arith, power-most _ (c .period .ensures .power), fits (turn c) .ports)) (λ c. omega (arith, fits (turn c) .port)) run-end-requires
-    (λ c κs. c .before .period .ensures .power) (λ c κs. search needs) returns-2 (λ c. omega arith) (λ c. omega arith) loop-again-2 returns-3)
+    (λ c κs. c .before .period .ensures .power) (λ c κs. search needs) returns-3 (λ c. omega arith) (λ c. omega arith) loop-again-2 returns-4)

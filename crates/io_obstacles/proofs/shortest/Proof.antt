@@ -1,27 +1,17 @@
--- `io_obstacles::shortest` meets its contract: two to so many lines, less one, where that is below the limit.
+-- `io_obstacles::shortest` meets its contract: two to so many lines, less one, or the limit, if that is less.
 -- Assumes nothing.
-use Rattle.facts.proofs.Words.{_-_, _≤_, arith, needs}
-use Rattle.facts.specs.{mostLines}
+use lib.Count.{trailing-le}
+use Rattle.facts.proofs.Words.{_-_, _%_, arith, needs}
 use Rattle.io_obstacles.proofs.shortest.Tie as tie
 
-abbrev Inv-loop : tie.InvT-loop
-Inv-loop periods limit lines₀ lines = lines ≤ mostLines
-
-abbrev μ-loop : tie.MeasureT-loop
-μ-loop periods limit lines₀ lines = mostLines - lines
-
--- where the call began
-abbrev begun : tie.At-loop Inv-loop μ-loop → tie.Start Inv-loop μ-loop
-begun c = c .before
-
-returns-2 : tie.Need-returns-2 Inv-loop μ-loop
+returns-2 : tie.Need-returns-2
 returns-2 c =
-    let at = c .before .before .before in
-    let k = at .before .before in
-    (record { lines = k .loop .lines; most = k .loop .inv; is = at .limit-of .ensures }, omega (arith, c .before .before .if1 .left))
+    let at = c .before in
+    let lines = at .before .smaller in
+    (record { lines = lines .result; most = omega (arith, lines .ensures); is = at .limit-of .ensures }, omega (arith, c .if1 .left))
 
 pub shortest-spec : {M : Type 1} → Rattle.io_obstacles.proofs.shortest.Statement.statement M
 shortest-spec =
     tie.close
-    (tie.spec Inv-loop μ-loop (λ c. omega arith) (λ c κs. omega arith) (λ c. (begun (c .before .before .before) .pre, omega arith)) (λ c κs. omega arith) returns-2 (λ c. omega arith)
-    (λ c. omega arith) (λ c. omega arith) (λ c. (begun (c .before) .pre, omega arith)))
+    (tie.spec (λ c. search needs) (λ c. omega (arith, trailing-le 64 (c .args .periods - c .args .periods % 2))) (λ c κs. search needs) (λ c κs. omega (arith, c .smaller .ensures))
+    (λ c. let at = c .before in (at .before .before .pre, omega arith)) returns-2)

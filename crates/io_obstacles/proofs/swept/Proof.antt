@@ -35,7 +35,7 @@ below c = omega (arith, c .loop-test .taken, c .before .before .if1 .left)
 leap-all-requires : tie.Need-leap-all-requires Inv-loop μ-loop
 leap-all-requires c κs =
     let f = start (long (c .before)) .pre .0 in
-    (f .grants-fit, f .gaps-fit, f .places, below c)
+    (f .grants-fit, f .gaps-fit, below c)
 
 -- what is learnt of the bases that were passed
 learns : (c : tie.At-loop Inv-loop μ-loop) (r : Stretch) → let s = start (long c) in
@@ -53,7 +53,7 @@ learns c r is =
 up-requires : tie.Need-up-requires Inv-loop μ-loop
 up-requires c κs =
     let at = c .before in
-    (omega (arith, below (at .before), at .leap-all .ensures .most), start (long (turn at)) .pre .0 .step)
+    (omega (arith, below (at .before), at .leap-all .ensures .most), start (long (turn at)) .pre .0 .numbers .step)
 
 loop-less : tie.Need-loop-less Inv-loop μ-loop
 loop-less c =
@@ -66,12 +66,12 @@ loop-again c =
     let s = start (long (turn at)) in
     gone-on _ _ _ (turn at .loop .base) (turn at .loop .inv) (turn at .loop .base + at .leap-all .result) (c .up .result) (omega arith)
     (leap-barred _ _ _ (at .leap-all .ensures)) (c .up .ensures)
-    (omega (arith, c .up .ensures .near, below (at .before), at .leap-all .ensures .most, power-most _ (s .pre .0 .step)))
+    (omega (arith, c .up .ensures .near, below (at .before), at .leap-all .ensures .most, power-most _ (s .pre .0 .numbers .step)))
 
 pub swept-spec : {M : Type 1} → Rattle.io_obstacles.proofs.swept.Statement.statement M
 swept-spec =
     tie.close
-    (tie.spec Inv-loop μ-loop (λ c κs. let f = called c .pre .0 in (f .long, f .step)) (λ c. start (c .before) .pre .1)
+    (tie.spec Inv-loop μ-loop (λ c κs. let f = called c .pre .0 .numbers in (f .long, f .step)) (λ c. start (c .before) .pre .1)
     (λ c. gone-start _ _ _ (record { times = 0; is = omega arith }) (omega arith)) leap-all-requires
     (λ c κs. long (turn (c .before)) .period .ensures .power) (λ c. learns (turn (c .before .before)) (c .learnt .result) (c .learnt .ensures))
     (λ c. omega (arith, below (c .before .before), c .before .leap-all .ensures .most)) up-requires loop-less loop-again
