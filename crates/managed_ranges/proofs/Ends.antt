@@ -1,5 +1,5 @@
 -- Each way in which an Add or a Remove of a range ends is the rule's; what its writes leave. Assumes nothing.
-use Rattle.facts.proofs.Words.{_≡_, refl, ap, sym, _∙_, subst, _⊎_, inl, inr, _≢_, List, [], _∷_, _++_, Bool, ℕ, _+_, _≤_, _<_, add-zero, ℕ-discrete}
+use Rattle.facts.proofs.Words.{_≡_, refl, ap, sym, _∙_, subst, subst₂, _⊎_, inl, inr, ⊎-elim, _≢_, List, [], _∷_, _++_, Bool, ℕ, _+_, _≤_, _<_, add-zero, ℕ-discrete}
 use Rattle.facts.proofs.Words.{arith, length, getD, set, length-set, Ports}
 use Rattle.layout.proofs.Of
 use Rattle.managed_ranges.specs.declared.PortsNamed.the-variants as named
@@ -7,120 +7,89 @@ use Rattle.facts.specs.{Code, BadAttribute, BadBase, InUse, OutOfResource, Fact
 use Rattle.facts.specs.{Check, _gives_, FirstGiven, rangeChecks, rangeRemoved, withRanges, inserted, JustThat, RangeAnswered, putChecks, takeChecks}
 use Rattle.facts.specs.{allPorts, mostLines, mostRanges, MeetsHeld}
 use Rattle.facts.proofs.{meet-symmetric}
-use Rattle.layout.specs.{image, mark, two, four, rangesIn, rangePlace, rangeIn, Accepted, ManagedIn, rangeBase, TakenOut, PutIn, rangeCountAt}
+use Rattle.layout.specs.{image, mark, two, four, rangesIn, rangePlace, rangeIn, Accepted, rangeBase, TakenOut, PutIn, rangeCountAt}
 use Rattle.layout.specs.{rangeReservedAt, rangeSize, restAt, tableSize, factsIn}
+use Rattle.layout.specs.Served.{Served}
 use Rattle.layout.proofs.{below-at, byte-same, byte-other, word-length, word-low, word-high, word-other, long-length, long-bytes, long-other}
-use Rattle.layout.proofs.{range-put-in, range-taken-out}
+use Rattle.layout.proofs.{range-put-in, range-taken-out, becomes}
 use Rattle.table_write.specs.{RoomMade}
 use Rattle.io_ranges.proofs.{answers-meet, meet-answers}
 use Rattle.managed_changes.specs.declared.Change.{Change}
 use Rattle.managed_changes.specs.declared.Change.the-variants.{Made, Refused}
 use Rattle.managed_changes.specs.{Changes}
-use Rattle.managed_changes.proofs.{refused, made}
+use Rattle.managed_ranges.specs.declared.NewPorts.the-variants.{Taken}
 use Rattle.managed_ranges.specs.declared.RangeFound.the-variants.{Nowhere}
-use Rattle.managed_ranges.specs.{NamesPorts, PortsNamedIs, FreeAt, FoundAt, FoundIs, Entered, TakesRange}
+use Rattle.managed_ranges.specs.{NamesPorts, PortsNamedIs, FreeAt, FreeIs, FoundAt, FoundIs, Entered, TakesRange}
+
+-- what one rule permits, another does
+pub served-as : {R S : Facts → Facts → Type 0} {b b′ : List ℕ} → ((F G : Facts) → R F G → S F G) → Served R b b′ → Served S b b′
+served-as f s = record { accepted = s .accepted; after = s .after; rule = f (s .accepted .facts) (s .after) (s .rule); table = s .table }
 
 -- the checks that Add and Remove share, around those of their own; Bits says that the bits are right
-module _ (Bits : Type 0) (base n lines : ℕ) (own : Facts → List Check) (after : Facts → Facts) (b : List ℕ) where
-  abbrev Bad : Type 0
-  Bad = (Bits → ⊥) ⊎ (lines ≢ mostLines)
+abbrev shared : Type 0 → ℕ → ℕ → ℕ → List Check → List Check
+shared Bits base n lines own = (((Bits → ⊥) ⊎ (lines ≢ mostLines)) gives BadAttribute) ∷ rangeChecks base n own
 
-  abbrev checks : Facts → List Check
-  checks F = (Bad gives BadAttribute) ∷ rangeChecks base n (own F)
+-- ports that are named wrongly give the first code
+pub ports-wrong : {Bits : Type 0} {n lines : ℕ} {k : Code} (base : ℕ) (own : List Check) → Bits → PortsNamedIs base n lines (named.Wrong k)
+    → FirstGiven (shared Bits base n lines own) k
+ports-wrong base own bits (inl x) = inl (inr (x .0), x .1)
+ports-wrong base own bits (inr (l, inl x)) = inr (⊎-elim (λ n. n bits) l, inl x)
+ports-wrong base own bits (inr (l, inr (m, inl x))) = inr (⊎-elim (λ n. n bits) l, inr (m, inl x))
+ports-wrong base own bits (inr (l, inr (m, inr x))) = absurd (x .1)
 
-  module _ (a : Accepted b) where
-    pub bits-wrong : (Bits → ⊥) → Changes checks after b b (Refused BadAttribute)
-    bits-wrong x = refused checks after b a BadAttribute (inl (inl x, refl))
+-- ports that are named rightly leave it to the checks of their own
+module _ {Bits : Type 0} {base n lines x y : ℕ} (own : ℕ → ℕ → Facts → List Check) (after : ℕ → ℕ → Facts → Facts) (b b′ : List ℕ) (bits : Bits)
+    (ports : NamesPorts base n lines x y) where
+  good : (Bits → ⊥) ⊎ (lines ≢ mostLines) → ⊥
+  good = ⊎-elim (λ n. n bits) (λ d. d (ports .lines-are))
 
-    pub ports-wrong : Bits → (k : Code) → PortsNamedIs base n lines (named.Wrong k) → Changes checks after b b (Refused k)
-    ports-wrong bits k w = refused checks after b a k (in-each-case w)
-      where
-        good : (lines ≢ mostLines → ⊥) → Bad → ⊥
-        good l (inl x) = x bits
-        good l (inr x) = l x
+  counted : (n ≡ 0) ⊎ (allPorts < n) → ⊥
+  counted = ⊎-elim (λ e. omega (arith, e, ports .least)) (λ l. omega (arith, ports .most))
 
-        in-each-case : PortsNamedIs base n lines (named.Wrong k) → FirstGiven (checks (a .facts)) k
-        in-each-case (inl x) = inl (inr (x .0), x .1)
-        in-each-case (inr (l, inl x)) = inr (good l, inl x)
-        in-each-case (inr (l, inr (m, inl x))) = inr (good l, inr (m, inl x))
-        in-each-case (inr (l, inr (m, inr (o, x)))) = absurd x
+  pub own-change : (c : Change) → Changes (own x y) (after x y) b b′ c
+      → Changes (λ (F : Facts). shared Bits base n lines (own base n F)) (after base n) b b′ c
+  own-change c s = in-each-case c (subst₂ (λ (x y : ℕ). Changes (own x y) (after x y) b b′ c) (ports .base-is) (ports .count-is) s)
+    where
+      in-each-case : (c : Change) → Changes (own base n) (after base n) b b′ c
+          → Changes (λ (F : Facts). shared Bits base n lines (own base n F)) (after base n) b b′ c
+      in-each-case Made = served-as (λ F G r. ((good, (counted, ((λ l. omega (arith, ports .within)), r .0))), r .1))
+      in-each-case (Refused k) = served-as (λ F G r. (inr (good, inr (counted, inr ((λ l. omega (arith, ports .within)), r .0))), r .1))
 
-  module _ (bits : Bits) (x y : ℕ) (ports : NamesPorts base n lines x y) where
-    good : Bad → ⊥
-    good (inl x) = x bits
-    good (inr x) = x (ports .lines-are)
+-- the ports of a range, all of whose lines count
+abbrev whole : ℕ → ℕ → Ports
+whole base n = record { base = base; count = n; lines = mostLines }
 
-    counted : (n ≡ 0) ⊎ (allPorts < n) → ⊥
-    counted (inl e) = omega (arith, e, ports .least)
-    counted (inr l) = omega (arith, ports .most)
-
-    reaches : allPorts < base + n → ⊥
-    reaches l = omega (arith, ports .within)
-
-    pub own-change : (b′ : List ℕ) (c : Change) → Changes own after b b′ c → Changes checks after b b′ c
-    own-change b′ Made s =
-        record {
-          accepted = s .accepted;
-          after = s .after;
-          rule = ((good, (counted, (reaches, s .rule .0))), s .rule .1);
-          table = s .table;
-        }
-    own-change b′ (Refused k) s =
-        record {
-          accepted = s .accepted;
-          after = s .after;
-          rule = (inr (good, inr (counted, inr (reaches, s .rule .0))), s .rule .1);
-          table = s .table;
-        }
-
-module _ (b : List ℕ) (a : Accepted b) (base n : ℕ) where
+module _ {b : List ℕ} (a : Accepted b) {base n : ℕ} where
   -- ports put in
-  module _ (t : Bool) where
-    abbrev new : Range
-    new = record { base = base; count = n; reserved = t }
+  pub put-taken : FreeIs b base n Taken → FirstGiven (putChecks base n (a .facts)) InUse
+  put-taken x = inl ((x .0, x .1, Of.managed-said b a (x .0) (x .2)), refl)
 
-    abbrev put : Facts → Facts
-    put F = withRanges F (inserted new (F .ranges))
-
-    pub put-taken : (p : ℕ) × Within p base n × ManagedIn b p → Changes (putChecks base n) put b b (Refused InUse)
-    put-taken x = refused (putChecks base n) put b a InUse (inl ((x .0, x .1, Of.managed-said b a (x .0) (x .2)), refl))
-
+  module _ {i : ℕ} (f : FreeAt b base n i) where
     -- none of the ports is managed
-    unmanaged : (i : ℕ) → FreeAt b base n i → (p : ℕ) × Within p base n × Managed (a .facts) p → ⊥
-    unmanaged i f x = f .free (x .0) (x .1) (Of.said-managed b a (x .0) (x .2))
+    unmanaged : (p : ℕ) × Within p base n × Managed (a .facts) p → ⊥
+    unmanaged x = f .free (x .0) (x .1) (Of.said-managed b a (x .0) (x .2))
 
-    pub put-full : (i : ℕ) → FreeAt b base n i → mostRanges ≤ rangesIn b → Changes (putChecks base n) put b b (Refused OutOfResource)
-    put-full i f h =
-        refused (putChecks base n) put b a OutOfResource (inr (unmanaged i f, inl (omega (arith, Of.ranges-in b a), refl)))
+    pub put-full : mostRanges ≤ rangesIn b → FirstGiven (putChecks base n (a .facts)) OutOfResource
+    put-full h = inr (unmanaged, inl (omega (arith, Of.ranges-in b a), refl))
 
-    pub put-made : (b′ : List ℕ) (i m : ℕ) → FreeAt b base n i → 1 ≤ n → rangesIn b < mostRanges → m ≡ mark t → Entered b b′ i base n m
-        → Changes (putChecks base n) put b b′ Made
-    put-made b′ i m f port room e entered =
-        made (putChecks base n) put b a b′ (unmanaged i f, ((λ h. omega (arith, Of.ranges-in b a)), tt))
-        (range-put-in b b′ a new i (f .place .within) (λ j l. omega (arith, f .place .ahead j l)) over
-        (subst (λ (x : ℕ). PutIn b b′ 2 (rangePlace i) restAt (two base ++ four n ++ x ∷ [])) e entered))
+    pub put-made : {b′ : List ℕ} {m : ℕ} {t : Bool} → 1 ≤ n → rangesIn b < mostRanges → m ≡ mark t → Entered b b′ i base n m
+        → let new : Range = record { base = base; count = n; reserved = t } in
+        Changes (putChecks base n) (λ (F : Facts). withRanges F (inserted new (F .ranges))) b b′ Made
+    put-made {b′} port room e entered =
+        becomes _ _ _ a _ ((unmanaged, ((λ h. omega (arith, Of.ranges-in b a)), tt)), refl)
+        (range-put-in b b′ a _ i (f .place .within) (λ j l. omega (arith, f .place .ahead j l)) over (rw e at entered))
       where
         -- a range that starts at the base would have one of the ports
         over : (j : ℕ) → i ≤ j → j < rangesIn b → base < rangeBase b j
         over j l h = same-or-not (ℕ-discrete base (rangeBase b j))
           where
             same-or-not : Dec (base ≡ rangeBase b j) → base < rangeBase b j
-            same-or-not (yes q) =
-                absurd
-                (f .free base (record { from = omega arith; below = omega arith })
-                (j, h, record { from = omega (arith, q); below = omega (arith, q, Of.sound-in b a .ranges j h .port) }))
-            same-or-not (no d) = omega (arith, d, f .place .behind j l h)
+            same-or-not (yes q) = absurd (f .free base (omega arith) (j, h, omega (arith, Of.sound-in b a .ranges j h .port)))
+            same-or-not (no d) = omega (arith, f .place .behind j l h)
 
   -- ports taken out
-  abbrev taken : Facts → Facts
-  taken F = rangeRemoved F base
-
-  -- the range in the place i is the one
-  just : (i : ℕ) → FoundAt b base n i → JustThat (a .facts) base n (rangeIn b i)
-  just i f = (Of.range-listed b a i (f .listed), Of.range-base b a i ∙ f .base-is, Of.range-count b a i ∙ f .count-is)
-
-  pub take-nowhere : FoundIs b base n Nowhere → TakesRange base n b b (Refused BadBase)
-  take-nowhere none = refused (takeChecks base n) taken b a BadBase (inl (nobody, refl))
+  pub take-nowhere : FoundIs b base n Nowhere → FirstGiven (takeChecks base n (a .facts)) BadBase
+  take-nowhere none = inl (nobody, refl)
     where
       nobody : (r : Range) → JustThat (a .facts) base n r → ⊥
       nobody r j =
@@ -128,21 +97,18 @@ module _ (b : List ℕ) (a : Accepted b) (base n : ℕ) where
           none (x .0)
           (record {
             listed = x .1;
-            base-is = sym (ap (λ (y : Range). y .base) (x .2) ∙ Of.range-base b a (x .0)) ∙ j .1;
-            count-is = sym (ap (λ (y : Range). y .count) (x .2) ∙ Of.range-count b a (x .0)) ∙ j .2;
+            base-is = sym (Of.range-base b a (x .0)) ∙ (rw (x .2) at (j .1));
+            count-is = sym (Of.range-count b a (x .0)) ∙ (rw (x .2) at (j .2));
           })
 
-  -- a card that is granted ports answers in the range exactly if they meet those of the range, all of whose lines count
-  abbrev whole : Ports
-  whole = record { base = base; count = n; lines = mostLines }
-
-  met-answered : (i : ℕ) → FoundAt b base n i → MeetsHeld (a .facts) whole → RangeAnswered (a .facts) (rangeIn b i)
-  met-answered i f m =
+  -- a card that is granted ports answers in the range exactly if they meet those of the range
+  met-answered : {i : ℕ} → FoundAt b base n i → MeetsHeld (a .facts) (whole base n) → RangeAnswered (a .facts) (rangeIn b i)
+  met-answered {i} f m =
       let here = Of.sound-in b a .ranges i (f .listed) .within in
       let ports = m .range .ports in
       let x =
       meet-answers ports (a .formed .ios (m .seat) (m .range) (m .held) .lines) base n (omega (arith, here, f .base-is, f .count-is))
-      (meet-symmetric whole ports (m .meets)) in
+      (meet-symmetric (whole base n) ports (m .meets)) in
       record {
         seat = m .seat;
         range = m .range;
@@ -155,61 +121,64 @@ module _ (b : List ℕ) (a : Accepted b) (base n : ℕ) where
         answers = x .2;
       }
 
-  answered-met : (r : Range) → JustThat (a .facts) base n r → RangeAnswered (a .facts) r → MeetsHeld (a .facts) whole
+  answered-met : (r : Range) → JustThat (a .facts) base n r → RangeAnswered (a .facts) r → MeetsHeld (a .facts) (whole base n)
   answered-met r j x =
       let ports = x .range .ports in
       let met =
       answers-meet ports (a .formed .ios (x .seat) (x .range) (x .held) .lines) base n (x .port) (x .answers)
       (record { from = omega (arith, x .has .from, j .1); below = omega (arith, x .has .below, j .1, j .2) }) in
-      record { seat = x .seat; range = x .range; held = x .held; meets = meet-symmetric ports whole met }
+      record { seat = x .seat; range = x .range; held = x .held; meets = meet-symmetric ports (whole base n) met }
 
-  pub take-held : (i : ℕ) → FoundAt b base n i → MeetsHeld (factsIn b) whole → TakesRange base n b b (Refused InUse)
-  take-held i f met =
-      refused (takeChecks base n) taken b a InUse
-      (inr ((λ none. none (rangeIn b i) (just i f)), inl ((rangeIn b i, just i f, met-answered i f (rw (Of.facts-in b a) met)), refl)))
+  module _ {i : ℕ} (f : FoundAt b base n i) where
+    -- the range in the place i is the one
+    just : JustThat (a .facts) base n (rangeIn b i)
+    just = (Of.range-listed b a i (f .listed), Of.range-base b a i ∙ f .base-is, Of.range-count b a i ∙ f .count-is)
 
-  pub take-made : (b′ : List ℕ) (i : ℕ) → FoundAt b base n i → (MeetsHeld (factsIn b) whole → ⊥)
-      → TakenOut b b′ 2 (rangePlace i) rangeSize restAt
-      → TakesRange base n b b′ Made
-  take-made b′ i f silent out =
-      made (takeChecks base n) taken b a b′
-      ((λ none. none (rangeIn b i) (just i f)), ((λ x. silent (subst (λ (F : Facts). MeetsHeld F whole) (Of.facts-in b a) (answered-met (x .0) (x .1) (x .2))), tt)))
-      (subst (λ (x : ℕ). image (rangeRemoved (a .facts) x) ≡ b′) (f .base-is) (range-taken-out b b′ a i (f .listed) out))
+    pub take-held : MeetsHeld (factsIn b) (whole base n) → FirstGiven (takeChecks base n (a .facts)) InUse
+    take-held met = inr ((λ none. none _ just), inl ((_, just, met-answered f (rw (Of.facts-in b a) met)), refl))
+
+    pub take-made : {b′ : List ℕ} → (MeetsHeld (factsIn b) (whole base n) → ⊥) → TakenOut b b′ 2 (rangePlace i) rangeSize restAt
+        → TakesRange base n b b′ Made
+    take-made {b′} silent out =
+        becomes _ _ _ a _
+        (((λ none. none _ just), ((λ x. silent (rw (Of.facts-in b a) at (answered-met (x .0) (x .1) (x .2)))), tt)), refl)
+        (subst (λ (x : ℕ). image (rangeRemoved (a .facts) x) ≡ b′) (f .base-is) (range-taken-out b b′ a i (f .listed) out))
 
 -- the record of a range, written where there is room for it
-module _ (b b₁ b₂ b₃ : List ℕ) (at base n reserved : ℕ) (size : length b ≡ tableSize) (high : 2 < at)
+module _ {b b₁ b₂ b₃ : List ℕ} {at base n : ℕ} (reserved : ℕ) (size : length b ≡ tableSize) (high : 2 < at)
     (low : at + rangeSize ≤ restAt) (bound : base < 65536) (bound4 : n < 4294967296)
     (m : RoomMade b b₁ 2 at rangeSize restAt)
     (e₂ : b₂ ≡ withWord b₁ at base) (e₃ : b₃ ≡ withLong b₂ (at + rangeCountAt) n) where
+  abbrev written : List ℕ
+  written = set b₃ (at + rangeReservedAt) reserved
+
   size₂ : length b₂ ≡ tableSize
   size₂ = ap length e₂ ∙ word-length b₁ at base ∙ m .size ∙ size
 
   size₃ : length b₃ ≡ tableSize
   size₃ = ap length e₃ ∙ long-length b₂ (at + rangeCountAt) n ∙ size₂
 
-  -- the bytes outside of the record are those of the table with room
-  outside : (p : ℕ) → (p < at) ⊎ (at + rangeSize ≤ p) → byte (set b₃ (at + rangeReservedAt) reserved) p ≡ byte b₁ p
-  outside p (inl l) =
-      byte-other b₃ (at + rangeReservedAt) reserved p (λ e. omega (arith, e)) ∙ ap (λ (x : List ℕ). byte x p) e₃ ∙ long-other b₂ (at + rangeCountAt) n p (inl (omega arith))
-      ∙ ap (λ (x : List ℕ). byte x p) e₂ ∙ word-other b₁ at base p (λ e. omega (arith, e)) (λ e. omega (arith, e))
-  outside p (inr l) =
-      byte-other b₃ (at + rangeReservedAt) reserved p (λ e. omega (arith, e)) ∙ ap (λ (x : List ℕ). byte x p) e₃ ∙ long-other b₂ (at + rangeCountAt) n p (inr (omega arith))
-      ∙ ap (λ (x : List ℕ). byte x p) e₂ ∙ word-other b₁ at base p (λ e. omega (arith, e)) (λ e. omega (arith, e))
-
-  -- its first two bytes, and the four after them
-  front : (p : ℕ) → p < at + rangeCountAt → byte (set b₃ (at + rangeReservedAt) reserved) p ≡ byte (withWord b₁ at base) p
-  front p l =
-      byte-other b₃ (at + rangeReservedAt) reserved p (λ e. omega (arith, e)) ∙ ap (λ (x : List ℕ). byte x p) e₃ ∙ long-other b₂ (at + rangeCountAt) n p (inl l)
+  -- the bytes but for the last five are those that the base leaves
+  based : (p : ℕ) → p ≢ at + rangeReservedAt → (p < at + rangeCountAt) ⊎ (at + rangeCountAt + 4 ≤ p)
+      → byte written p ≡ byte (withWord b₁ at base) p
+  based p d o =
+      byte-other b₃ (at + rangeReservedAt) reserved p d ∙ ap (λ (x : List ℕ). byte x p) e₃ ∙ long-other b₂ (at + rangeCountAt) n p o
       ∙ ap (λ (x : List ℕ). byte x p) e₂
 
-  middle : (j : ℕ) → j < 4 → byte (set b₃ (at + rangeReservedAt) reserved) (at + rangeCountAt + j) ≡ getD (four n) j 0
-  middle j l =
-      byte-other b₃ (at + rangeReservedAt) reserved (at + rangeCountAt + j) (λ e. omega (arith, e)) ∙ ap (λ (x : List ℕ). byte x (at + rangeCountAt + j)) e₃
-      ∙ long-bytes b₂ (at + rangeCountAt) n (omega (arith, size₂)) bound4 j l
+  -- those outside of the record are those of the table with room
+  outside : (p : ℕ) → (p < at) ⊎ (at + rangeSize ≤ p) → byte written p ≡ byte b₁ p
+  outside p (inl l) = based p (omega arith) (inl (omega arith)) ∙ word-other b₁ at base p (omega arith) (omega arith)
+  outside p (inr l) = based p (omega arith) (inr (omega arith)) ∙ word-other b₁ at base p (omega arith) (omega arith)
 
-  record-new : (j : ℕ) → j < rangeSize → byte (set b₃ (at + rangeReservedAt) reserved) (at + j) ≡ getD (two base ++ four n ++ reserved ∷ []) j 0
+  -- the four of its count
+  count-new : (j : ℕ) → j < 4 → byte written (at + (2 + j)) ≡ getD (four n) j 0
+  count-new j l =
+      ap (byte written) (omega arith) ∙ byte-other b₃ (at + rangeReservedAt) reserved (at + rangeCountAt + j) (omega arith)
+      ∙ ap (λ (x : List ℕ). byte x (at + rangeCountAt + j)) e₃ ∙ long-bytes b₂ (at + rangeCountAt) n (omega (arith, size₂)) bound4 j l
+
+  record-new : (j : ℕ) → j < rangeSize → byte written (at + j) ≡ getD (two base ++ four n ++ reserved ∷ []) j 0
   record-new =
-      below-at 7 (λ j. byte (set b₃ (at + rangeReservedAt) reserved) (at + j) ≡ getD (two base ++ four n ++ reserved ∷ []) j 0) (
+      below-at 7 (λ j. byte written (at + j) ≡ getD (two base ++ four n ++ reserved ∷ []) j 0) (
         (
           (
             (
@@ -217,38 +186,32 @@ module _ (b b₁ b₂ b₃ : List ℕ) (at base n reserved : ℕ) (size : length
                 (
                   (
                     tt,
-                    front (at + 0) (omega arith) ∙ ap (byte (withWord b₁ at base)) (add-zero at)
+                    based (at + 0) (omega arith) (inl (omega arith)) ∙ ap (byte (withWord b₁ at base)) (add-zero at)
                         ∙ word-low b₁ at base (omega (arith, m .size, size)),
                   ),
-                  front (at + 1) (omega arith) ∙ word-high b₁ at base (omega (arith, m .size, size)) ∙ omega arith,
+                  based (at + 1) (omega arith) (inl (omega arith)) ∙ word-high b₁ at base (omega (arith, m .size, size)) ∙ omega arith,
                 ),
-                shifted 0 (omega arith),
+                count-new 0 (omega arith),
               ),
-              shifted 1 (omega arith),
+              count-new 1 (omega arith),
             ),
-            shifted 2 (omega arith),
+            count-new 2 (omega arith),
           ),
-          shifted 3 (omega arith),
+          count-new 3 (omega arith),
         ),
         byte-same b₃ (at + rangeReservedAt) reserved (omega (arith, size₃)),
       )
-    where
-      shifted : (j : ℕ) → j < 4 → byte (set b₃ (at + rangeReservedAt) reserved) (at + (2 + j)) ≡ getD (four n) j 0
-      shifted j l = ap (byte (set b₃ (at + rangeReservedAt) reserved)) (omega arith) ∙ middle j l
 
-  pub enters-length : length (set b₃ (at + rangeReservedAt) reserved) ≡ length b
-  enters-length = length-set b₃ (at + rangeReservedAt) reserved ∙ size₃ ∙ sym size
-
-  pub enters : PutIn b (set b₃ (at + rangeReservedAt) reserved) 2 at restAt (two base ++ four n ++ reserved ∷ [])
+  pub enters : PutIn b written 2 at restAt (two base ++ four n ++ reserved ∷ [])
   enters =
       record {
-        size = enters-length;
+        size = length-set b₃ (at + rangeReservedAt) reserved ∙ size₃ ∙ sym size;
         more = outside 2 (inl high) ∙ m .more;
         new = record-new;
         moved = λ p l h. outside (p + rangeSize) (inr (omega arith)) ∙ m .moved p l h;
-        other = λ p d o. kept p d o;
+        other = kept;
       }
     where
-      kept : (p : ℕ) → p ≢ 2 → (p < at) ⊎ (restAt ≤ p) → byte (set b₃ (at + rangeReservedAt) reserved) p ≡ byte b p
+      kept : (p : ℕ) → p ≢ 2 → (p < at) ⊎ (restAt ≤ p) → byte written p ≡ byte b p
       kept p d (inl l) = outside p (inl l) ∙ m .other p d (inl (omega arith))
       kept p d (inr l) = outside p (inr (omega arith)) ∙ m .other p d (inr l)

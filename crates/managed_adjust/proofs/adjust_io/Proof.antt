@@ -1,37 +1,24 @@
 -- `managed_adjust::adjust_io` meets its contract: the length is wrong, or the action rules, at the packet's width.
 -- Assumes nothing.
-use Rattle.facts.proofs.Words.{_≡_, sym, _∙_, subst, List, ℕ, arith, needs, length, now}
-use Rattle.facts.specs.{Width, AddRange, RemoveRange, ShowRange, ioRange, ioAdjustLength}
-use Rattle.managed_packets.specs.{FormIs}
-use Rattle.managed_adjust.specs.{Reached, Shows}
-use Rattle.managed_adjust.proofs.{io-length, io-serves, by-add, by-remove, by-show, first-or-next}
+use Rattle.facts.proofs.Words.{_≡_, refl, sym, _∙_, inl, inr, arith, needs, length, now}
+use Rattle.facts.specs.{Width, ioAdjustLength}
+use Rattle.managed_adjust.specs.{Shows}
+use Rattle.managed_adjust.proofs.{wrong-length, io-serves, first-or-next}
 use Rattle.managed_adjust.proofs.adjust_io.Tie as tie
 
--- where the call began, its table and its packet
-abbrev lent : tie.After-width-of → tie.After-slice-known
-lent c = c .before .before .before
-
+-- where the call began
 abbrev start : tie.After-width-of → tie.Start
-start c = lent c .before
-
-abbrev table : tie.After-width-of → List ℕ
-table c = now (start c .args .t)
-
-abbrev packet : tie.After-width-of → List ℕ
-packet c = now (start c .args .p)
-
-reached : (c : tie.After-width-of) → Reached (packet c) (start c .args .action) ioRange
-reached c = start c .pre .1
+start c = let lent = c .before .before .before in lent .before
 
 -- the packet has a width
-abbrev asked : tie.After-known-told → tie.After-width-of
-asked c = c .before .before .before
+abbrev begun : tie.After-known-told → tie.Start
+begun c = start (c .before .before .before)
 
 abbrev width : tie.After-known-told → Width
 width c = c .before .w .given .0 .0
 
-right : (c : tie.After-known-told) → length (packet (asked c)) ≡ ioAdjustLength (width c)
-right c = subst (FormIs (packet (asked c))) (c .before .w .given .1) (asked c .width-of .ensures)
+right : (c : tie.After-known-told) → length (now (begun c .args .p)) ≡ ioAdjustLength (width c)
+right c = rw (c .before .w .given .1) at (c .before .before .before .width-of .ensures)
 
 -- each action, and the width before it
 abbrev removing : tie.After-remove-range-arg2 → tie.At-match2-keys1
@@ -43,69 +30,46 @@ adding c = c .before .before
 abbrev showing : tie.After-show-range-arg2 → tie.At-match2-rest
 showing c = c .before .before
 
-shows : (c : tie.At-match2-rest) → let k = asked (c .before) in Shows (packet k) (start k .args .action)
-shows c =
-    let k = asked (c .before) in
-    record {
-      action-is = reached k .names .action-is;
-      least = omega (arith, c .match2 .rest .0 .1, c .match2 .rest .1);
-      most = reached k .most;
-    }
+shows : (c : tie.At-match2-rest) → let s = begun (c .before) in Shows (now (s .args .p)) (s .args .action)
+shows c = search needs
 
 returns : tie.Need-returns
 returns c =
     let k = c .before .before in
-    let s = start k in
-    io-length (table k) (packet k) (s .pre .0) (s .args .h .0) (s .args .action) (reached k)
-    (subst (FormIs (packet k)) (c .enum-told .given .1) (k .width-of .ensures))
+    let neither = rw (c .enum-told .given .1) at (k .width-of .ensures) in
+    wrong-length (start k .pre .0) (start k .pre .1) (omega arith) (omega arith) (inr (refl, neither .0, neither .1))
 
 remove-range-requires : tie.Need-remove-range-requires
-remove-range-requires c κs = let told = removing c .before in (start (asked told) .pre .0, right told)
+remove-range-requires c κs = let told = removing c .before in (begun told .pre .0, right told)
 
 add-range-requires : tie.Need-add-range-requires
-add-range-requires c κs = let told = adding c .before in (start (asked told) .pre .0, right told)
+add-range-requires c κs = let told = adding c .before in (begun told .pre .0, right told)
 
 show-range-requires : tie.Need-show-range-requires
-show-range-requires c κs = let told = showing c .before in (start (asked told) .pre .0, right told, shows (showing c))
+show-range-requires c κs = let told = showing c .before in (begun told .pre .0, right told, shows (showing c))
 
 returns-2 : tie.Need-returns-2
 returns-2 c =
     let done = c .before .before in
     let arm = removing (done .before) in
-    let k = asked (arm .before) in
-    let w = width (arm .before) in
-    let a = start k .args in
-    let p = packet k in
-    let b′ = done .remove-range .last .0 in
-    io-serves (a .h .0) p p (table k) b′ (done .remove-range .result) (a .action) w (reached k) (right (arm .before))
-    (by-remove (AddRange w) (RemoveRange w) (ShowRange w) (a .h .0) p p (table k) b′ (done .remove-range .result)
-    (sym (reached k .names .action-is) ∙ arm .match2 .keys1) (done .remove-range .ensures))
+    let reached = begun (arm .before) .pre .1 in
+    io-serves (width (arm .before)) reached (right (arm .before))
+    (λ F G x. inr (inl (sym (reached .names .action-is) ∙ arm .match2 .keys1, x))) (done .remove-range .ensures)
 
 returns-3 : tie.Need-returns-3
 returns-3 c =
     let done = c .before .before in
     let arm = adding (done .before) in
-    let k = asked (arm .before) in
-    let w = width (arm .before) in
-    let a = start k .args in
-    let p = packet k in
-    let b′ = done .add-range .last .0 in
-    io-serves (a .h .0) p p (table k) b′ (done .add-range .result) (a .action) w (reached k) (right (arm .before))
-    (by-add (AddRange w) (RemoveRange w) (ShowRange w) (a .h .0) p p (table k) b′ (done .add-range .result)
-    (sym (reached k .names .action-is) ∙ arm .match2 .keys2) (done .add-range .ensures))
+    let reached = begun (arm .before) .pre .1 in
+    io-serves (width (arm .before)) reached (right (arm .before))
+    (λ F G x. inl (sym (reached .names .action-is) ∙ arm .match2 .keys2, x)) (done .add-range .ensures)
 
 returns-4 : tie.Need-returns-4
 returns-4 c =
     let done = c .before .before in
     let arm = showing (done .before) in
-    let k = asked (arm .before) in
-    let w = width (arm .before) in
-    let a = start k .args in
-    let p = packet k in
-    let p′ = done .show-range .last .1 .0 in
-    io-serves (a .h .0) p p′ (table k) (table k) (done .show-range .result) (a .action) w (reached k) (right (arm .before))
-    (by-show (AddRange w) (RemoveRange w) (ShowRange w) (a .h .0) p p′ (table k) (table k) (done .show-range .result)
-    (first-or-next p (a .action) (shows arm)) (done .show-range .ensures))
+    io-serves (width (arm .before)) (begun (arm .before) .pre .1) (right (arm .before))
+    (λ F G x. inr (inr (first-or-next (shows arm), x))) (done .show-range .ensures)
 
 pub adjust-io-spec : {M : Type 1} → Rattle.managed_adjust.proofs.adjust_io.Statement.statement M
 adjust-io-spec =

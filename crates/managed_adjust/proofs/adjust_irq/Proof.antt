@@ -1,31 +1,21 @@
 -- `managed_adjust::adjust_irq` meets its contract: the length is wrong, or the action rules.
 -- Assumes nothing.
-use Rattle.facts.proofs.Words.{_≡_, sym, _∙_, subst, List, ℕ, arith, needs, length, now}
-use Rattle.facts.specs.{AddLevel, RemoveLevel, ShowLevel, irqLevel, irqAdjustLength}
-use Rattle.service_checks.specs.{SizeIs}
-use Rattle.managed_adjust.specs.{Reached, Shows}
-use Rattle.managed_adjust.proofs.{irq-length, irq-serves, by-add, by-remove, by-show, first-or-next}
+use Rattle.facts.proofs.Words.{_≡_, refl, sym, _∙_, inl, inr, arith, needs, length, now}
+use Rattle.facts.specs.{irqAdjustLength}
+use Rattle.managed_adjust.specs.{Shows}
+use Rattle.managed_adjust.proofs.{wrong-length, irq-serves, first-or-next}
 use Rattle.managed_adjust.proofs.adjust_irq.Tie as tie
 
--- where the call began, its table and its packet
-abbrev lent : tie.After-sized → tie.After-slice-known
-lent c = c .before .before .before
-
+-- where the call began
 abbrev start : tie.After-sized → tie.Start
-start c = lent c .before
-
-abbrev table : tie.After-sized → List ℕ
-table c = now (start c .args .t)
-
-abbrev packet : tie.After-sized → List ℕ
-packet c = now (start c .args .p)
-
-reached : (c : tie.After-sized) → Reached (packet c) (start c .args .action) irqLevel
-reached c = start c .pre .1
+start c = let lent = c .before .before .before in lent .before
 
 -- the length is right
-right : (c : tie.After-enum-told) → length (packet (c .before .before)) ≡ irqAdjustLength
-right c = subst (SizeIs (packet (c .before .before)) irqAdjustLength) (c .enum-told .given .1) (c .before .before .sized .ensures)
+abbrev begun : tie.After-enum-told → tie.Start
+begun c = start (c .before .before)
+
+right : (c : tie.After-enum-told) → length (now (begun c .args .p)) ≡ irqAdjustLength
+right c = rw (c .enum-told .given .1) at (c .before .before .sized .ensures)
 
 -- each action, and the length before it
 abbrev removing : tie.After-remove-level-arg2 → tie.At-match2-keys1
@@ -37,69 +27,43 @@ adding c = c .before .before
 abbrev showing : tie.After-show-level-arg2 → tie.At-match2-rest
 showing c = c .before .before
 
-shows : (c : tie.At-match2-rest) → let k = c .before .before .before in Shows (packet k) (start k .args .action)
-shows c =
-    let k = c .before .before .before in
-    record {
-      action-is = reached k .names .action-is;
-      least = omega (arith, c .match2 .rest .0 .1, c .match2 .rest .1);
-      most = reached k .most;
-    }
+shows : (c : tie.At-match2-rest) → let s = begun (c .before) in Shows (now (s .args .p)) (s .args .action)
+shows c = search needs
 
 returns : tie.Need-returns
 returns c =
     let k = c .before .before in
-    let s = start k in
-    irq-length (table k) (packet k) (s .pre .0) (s .args .h .0) (s .args .action) (reached k)
-    (subst (SizeIs (packet k) irqAdjustLength) (c .enum-told2 .given .1) (k .sized .ensures))
+    wrong-length (start k .pre .0) (start k .pre .1) (omega arith) (omega arith)
+    (inl (refl, rw (c .enum-told2 .given .1) at (k .sized .ensures)))
 
 remove-level-requires : tie.Need-remove-level-requires
-remove-level-requires c κs = let told = removing c .before in (start (told .before .before) .pre .0, right told)
+remove-level-requires c κs = let told = removing c .before in (begun told .pre .0, right told)
 
 add-level-requires : tie.Need-add-level-requires
-add-level-requires c κs = let told = adding c .before in (start (told .before .before) .pre .0, right told)
+add-level-requires c κs = let told = adding c .before in (begun told .pre .0, right told)
 
 show-level-requires : tie.Need-show-level-requires
-show-level-requires c κs = let told = showing c .before in (start (told .before .before) .pre .0, right told, shows (showing c))
+show-level-requires c κs = let told = showing c .before in (begun told .pre .0, right told, shows (showing c))
 
 returns-2 : tie.Need-returns-2
 returns-2 c =
     let done = c .before .before in
     let arm = removing (done .before) in
-    let told = arm .before in
-    let k = told .before .before in
-    let a = start k .args in
-    let p = packet k in
-    let b′ = done .remove-level .last .0 in
-    irq-serves (a .h .0) p p (table k) b′ (done .remove-level .result) (a .action) (reached k) (right told)
-    (by-remove AddLevel RemoveLevel ShowLevel (a .h .0) p p (table k) b′ (done .remove-level .result)
-    (sym (reached k .names .action-is) ∙ arm .match2 .keys1) (done .remove-level .ensures))
+    let reached = begun (arm .before) .pre .1 in
+    irq-serves reached (right (arm .before)) (λ F G x. inr (inl (sym (reached .names .action-is) ∙ arm .match2 .keys1, x))) (done .remove-level .ensures)
 
 returns-3 : tie.Need-returns-3
 returns-3 c =
     let done = c .before .before in
     let arm = adding (done .before) in
-    let told = arm .before in
-    let k = told .before .before in
-    let a = start k .args in
-    let p = packet k in
-    let b′ = done .add-level .last .0 in
-    irq-serves (a .h .0) p p (table k) b′ (done .add-level .result) (a .action) (reached k) (right told)
-    (by-add AddLevel RemoveLevel ShowLevel (a .h .0) p p (table k) b′ (done .add-level .result)
-    (sym (reached k .names .action-is) ∙ arm .match2 .keys2) (done .add-level .ensures))
+    let reached = begun (arm .before) .pre .1 in
+    irq-serves reached (right (arm .before)) (λ F G x. inl (sym (reached .names .action-is) ∙ arm .match2 .keys2, x)) (done .add-level .ensures)
 
 returns-4 : tie.Need-returns-4
 returns-4 c =
     let done = c .before .before in
     let arm = showing (done .before) in
-    let told = arm .before in
-    let k = told .before .before in
-    let a = start k .args in
-    let p = packet k in
-    let p′ = done .show-level .last .1 .0 in
-    irq-serves (a .h .0) p p′ (table k) (table k) (done .show-level .result) (a .action) (reached k) (right told)
-    (by-show AddLevel RemoveLevel ShowLevel (a .h .0) p p′ (table k) (table k) (done .show-level .result)
-    (first-or-next p (a .action) (shows arm)) (done .show-level .ensures))
+    irq-serves (begun (arm .before) .pre .1) (right (arm .before)) (λ F G x. inr (inr (first-or-next (shows arm), x))) (done .show-level .ensures)
 
 pub adjust-irq-spec : {M : Type 1} → Rattle.managed_adjust.proofs.adjust_irq.Statement.statement M
 adjust-irq-spec =

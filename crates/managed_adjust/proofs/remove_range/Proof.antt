@@ -1,31 +1,21 @@
 -- `managed_adjust::remove_range` meets its contract at either width: the change is made or refused with what the packet names.
 -- Assumes nothing.
-use Rattle.facts.proofs.Words.{subst, sym, ℕ, needs, now}
-use Rattle.facts.specs.{Facts, removeRangeChecks, rangeRemoved, RemoveRange, baseGiven, countGiven, attributesGiven, linesGiven}
-use Rattle.managed_ranges.specs.{RemovesRange}
-use Rattle.managed_adjust.specs.{ServesBy}
+use Rattle.facts.proofs.Words.{needs, now}
+use Rattle.facts.specs.{Facts, removeRangeChecks, baseGiven, countGiven, attributesGiven, linesGiven}
 use Rattle.managed_adjust.proofs.{changed}
-use Rattle.managed_packets.proofs.{given-at}
 use Rattle.managed_adjust.proofs.remove_range.Tie as tie
-
--- where the packet is read, and where the call began
-abbrev lent : tie.After-asked → tie.After-slice-known
-lent c = c .before .before .before
 
 returns : tie.Need-returns
 returns c =
     let made = c .before .before .before in
     let read = made .before in
-    let a = lent read .before .args in
-    let p = now (a .p) in
-    let w = a .w in
-    let b = now (a .t) in
-    let b′ = made .remove .last .0 in
-    subst (ServesBy (RemoveRange w) (a .h .0) p p b b′) (sym (c .answer .ensures))
-    (changed (λ (F : Facts). removeRangeChecks F (baseGiven w p) (countGiven w p) (attributesGiven w p) (linesGiven w p))
-    (λ (F : Facts). rangeRemoved F (baseGiven w p)) b b′ p (made .remove .result) (a .h)
-    (given-at w p (read .asked .result) (λ (x y k l : ℕ). RemovesRange x y k l b b′ (made .remove .result)) (read .asked .ensures)
-    (made .remove .ensures)))
+    let lent = read .before .before .before in
+    let p = now (lent .before .args .p) in
+    let w = lent .before .args .w in
+    let is = read .asked .ensures in
+    changed (λ (F : Facts). removeRangeChecks F (baseGiven w p) (countGiven w p) (attributesGiven w p) (linesGiven w p)) (made .remove .result) _
+    (c .answer .ensures)
+    (rw (is .base-is, is .count-is, is .attributes-are, is .lines-are) at (made .remove .ensures))
 
 pub remove-range-spec : {M : Type 1} → Rattle.managed_adjust.proofs.remove_range.Statement.statement M
 remove-range-spec =

@@ -1,15 +1,14 @@
 -- `managed_ranges::find` meets its contract: a range with that base would stand at its place.
 -- Assumes nothing.
-use Rattle.facts.proofs.Words.{List, _∙_, ℕ, arith, needs, now}
-use Rattle.managed_ranges.proofs.{found-listed, found-base, found-count}
+use Rattle.facts.proofs.Words.{_∙_, ℕ, arith, needs, now}
+use Rattle.managed_ranges.specs.{FoundAt}
+use Rattle.managed_ranges.proofs.{found-there}
 use Rattle.managed_ranges.proofs.find.Tie as tie
 
--- where the call began, its table, and the place of the base
-abbrev start : tie.After-place → tie.Start
-start c = c .before .before
-
-abbrev table : tie.After-place → List ℕ
-table c = now (start c .args .t)
+-- a range that is found is at the place of the base
+there : (c : tie.After-place) {j : ℕ} → let a = c .before .before .args in FoundAt (now (a .t)) (a .base) (a .count) j
+    → FoundAt (now (a .t)) (a .base) (a .count) (c .place .result)
+there c f = found-there (c .before .before .pre .2) (c .place .ensures) f
 
 -- where the first, and where the second test left it
 abbrev counted : tie.Else1 → tie.After-place
@@ -19,31 +18,13 @@ abbrev compared : tie.Else2 → tie.Else1
 compared c = c .before .before
 
 returns : tie.Need-returns
-returns c =
-    let placed = c .before .before in
-    let s = start placed in
-    λ j f. omega (
-      arith,
-      c .if1 .taken,
-      c .before .byte .ensures .0,
-      found-listed (table placed) (s .pre .2) (s .args .base) (s .args .count) (placed .place .result) j (placed .place .ensures) f,
-    )
+returns c = λ j f. omega (arith, c .if1 .taken, c .before .byte .ensures .0, there (c .before .before) f .listed)
 
 returns-2 : tie.Need-returns-2
-returns-2 c =
-    let placed = counted (c .before .before) in
-    let s = start placed in
-    λ j f. c .if2 .taken
-    (c .before .word .ensures .0
-    ∙ found-base (table placed) (s .pre .2) (s .args .base) (s .args .count) (placed .place .result) j (placed .place .ensures) f)
+returns-2 c = λ j f. c .if2 .taken (c .before .word .ensures .0 ∙ there (counted (c .before .before)) f .base-is)
 
 returns-3 : tie.Need-returns-3
-returns-3 c =
-    let placed = counted (compared (c .before .before)) in
-    let s = start placed in
-    λ j f. c .if3 .taken
-    (c .before .long .ensures .0
-    ∙ found-count (table placed) (s .pre .2) (s .args .base) (s .args .count) (placed .place .result) j (placed .place .ensures) f)
+returns-3 c = λ j f. c .if3 .taken (c .before .long .ensures .0 ∙ there (counted (compared (c .before .before))) f .count-is)
 
 pub find-spec : {M : Type 1} → Rattle.managed_ranges.proofs.find.Statement.statement M
 find-spec =

@@ -1,6 +1,6 @@
 -- `managed_ranges::free` meets its contract: the range before the place, the one after it, or neither has one of the ports.
 -- Assumes nothing.
-use Rattle.facts.proofs.Words.{List, ℕ, arith, needs, now}
+use Rattle.facts.proofs.Words.{arith, needs}
 use Rattle.managed_ranges.proofs.{taken-before, taken-after, untaken}
 use Rattle.managed_ranges.proofs.free.Tie as tie
 
@@ -8,36 +8,25 @@ use Rattle.managed_ranges.proofs.free.Tie as tie
 abbrev begun : tie.After-place → tie.Start
 begun c = c .before .before
 
-abbrev table : tie.After-place → List ℕ
-table c = now (begun c .args .t)
-
--- where the first test left it
-abbrev tested : tie.Else1 → tie.After-place
-tested c = c .before .before
-
 returns : tie.Need-returns
 returns c =
     let placed = c .before .before in
-    let s = begun placed in
-    taken-before (table placed) (s .pre .0 .2) (s .args .base) (s .args .count) (placed .place .result) (placed .place .ensures) (s .pre .1 .0)
-    (omega (arith, c .if1 .taken, c .before .end-before .ensures))
+    let pre = begun placed .pre in
+    taken-before (pre .0 .2) (placed .place .ensures) (pre .1 .0) (omega (arith, c .if1 .taken, c .before .end-before .ensures))
 
 returns-2 : tie.Need-returns-2
 returns-2 c =
-    let placed = tested (c .before .before) in
-    let s = begun placed in
-    taken-after (table placed) (s .pre .0 .2) (s .args .base) (s .args .count) (placed .place .result) (placed .place .ensures)
-    (c .before .start .result)
-    (c .before .start .ensures) (s .pre .1 .1) (omega (arith, c .if2 .taken))
+    let left = c .before .before in
+    let placed = left .before .before in
+    let pre = begun placed .pre in
+    taken-after (pre .0 .2) (placed .place .ensures) (c .before .start .ensures) (pre .1 .1) (omega (arith, c .if2 .taken))
 
 returns-3 : tie.Need-returns-3
 returns-3 c =
     let left = c .before .before in
-    let placed = tested left in
-    let s = begun placed in
-    untaken (table placed) (s .pre .0 .2) (s .args .base) (s .args .count) (placed .place .result) (placed .place .ensures)
-    (omega (arith, left .if1 .left, left .before .end-before .ensures)) (c .before .start .result) (c .before .start .ensures)
-    (omega (arith, c .if2 .left))
+    let placed = left .before .before in
+    untaken (begun placed .pre .0 .2) (placed .place .ensures) (omega (arith, left .if1 .left, left .before .end-before .ensures))
+    (c .before .start .ensures) (omega (arith, c .if2 .left))
 
 pub free-spec : {M : Type 1} → Rattle.managed_ranges.proofs.free.Statement.statement M
 free-spec =
