@@ -1,11 +1,8 @@
--- Records read off the list's bytes, and a place packed with its code. Assumes nothing.
-use Rattle.facts.proofs.Words.{_≡_, refl, ap, ap₂, sym, _∙_, List, [], _∷_, _++_, ℕ, zero, suc, _+_, _*_, _≤_, _<_, add-zero, add-suc, zero-add}
+-- Records read off the list's bytes. Assumes nothing.
+use Rattle.facts.proofs.Words.{_≡_, refl, ap, ap₂, sym, _∙_, List, [], _∷_, _++_, ℕ, zero, suc, _+_, _*_, _≤_, _<_, add-zero, add-one}
 use Rattle.facts.proofs.Words.{add-assoc, suc-mul, add-comm, arith, length, take, drop, set, length-drop, getD-drop, drop-drop, take-suc-set}
-use Rattle.facts.specs.{Code, Record, numberOf, byte, word, long, recordSize, recordOf, recordsIn, recordsOf, endOf, placed}
+use Rattle.facts.specs.{Record, byte, word, long, recordSize, recordOf, recordsIn, recordsOf, endOf}
 use Rattle.facts.proofs.{bytes-laws}
-use Rattle.managed_boot.specs.declared.Booted.{Booted}
-use Rattle.managed_boot.specs.declared.Booted.the-variants.{All, Stopped}
-use Rattle.managed_boot.specs.{placeOf, codeOf}
 
 module _ (b : List ℕ) (at : ℕ) where
   byte-past : (j : ℕ) → byte b (at + j) ≡ byte (drop at b) j
@@ -17,10 +14,10 @@ module _ (b : List ℕ) (at : ℕ) where
   long-past : (j : ℕ) → long b (at + j) ≡ long (drop at b) j
   long-past j = ap₂ (λ (x y : ℕ). x + 65536 * y) (word-past j) (ap (word b) (add-assoc at j 2) ∙ word-past (j + 2))
 
-  pub record-read : (resource attributes base count : ℕ) → resource ≡ byte b at → attributes ≡ byte b (at + 1) → base ≡ long b (at + 2)
+  pub record-read : {resource attributes base count : ℕ} → resource ≡ byte b at → attributes ≡ byte b (at + 1) → base ≡ long b (at + 2)
       → count ≡ long b (at + 6)
       → _≡_ {A = Record} (record { resource = resource; attributes = attributes; base = base; count = count }) (recordOf (drop at b))
-  record-read resource attributes base count e f g h =
+  record-read e f g h =
       λ k. record {
         resource = (e ∙ ap (byte b) (sym (add-zero at)) ∙ byte-past 0) k;
         attributes = (f ∙ byte-past 1) k;
@@ -44,12 +41,7 @@ records-last (suc n) b =
 pub taken-more : (b : List ℕ) (at i : ℕ) (all : List Record) (r : Record) → i < length all → r ≡ recordOf (drop (at + i * recordSize) b)
     → take i all ≡ recordsIn i (drop at b) → take (i + 1) (set all i r) ≡ recordsIn (i + 1) (drop at b)
 taken-more b at i all r l e f =
-    ap (λ (n : ℕ). take n (set all i r)) one ∙ take-suc-set all i r l ∙ ap (λ (rs : List Record). rs ++ (r ∷ [])) f
-    ∙ ap (λ (x : Record). recordsIn i (drop at b) ++ (x ∷ [])) (e ∙ ap recordOf (sym (drop-drop (i * recordSize) at b)))
-    ∙ sym (records-last i (drop at b)) ∙ ap (λ (n : ℕ). recordsIn n (drop at b)) (sym one)
-  where
-    one : i + 1 ≡ suc i
-    one = add-suc i 0 ∙ ap suc (add-zero i)
+    rw add-one (take-suc-set all i r l ∙ rw (f, e, ← drop-drop (i * recordSize) at b) (sym (records-last i (drop at b))))
 
 -- the records of a list's bytes are the next n, and those of the bytes past them
 pub records-past : (n : ℕ) (b : List ℕ) → n * recordSize ≤ length b → recordsOf b ≡ recordsIn n b ++ recordsOf (drop (n * recordSize) b)
@@ -67,13 +59,3 @@ end-past (suc n) b h =
     bytes-laws .more b (omega (arith, suc-mul n recordSize, h)) .1
     ∙ end-past n (drop recordSize b) (omega (arith, length-drop recordSize b, suc-mul n recordSize, h))
     ∙ ap endOf (past-first n b)
-
--- the number that packs a place and a code
-abbrev packs : Booted → ℕ
-packs x = placed (codeOf x) (placeOf x)
-
-pub pack-all : (x : Booted) (n : ℕ) → x ≡ All n → 4294967296 * n ≡ packs x
-pack-all x n e = sym (zero-add (4294967296 * n)) ∙ ap packs (sym e)
-
-pub pack-stopped : (x : Booted) (i : ℕ) (k : Code) (m : ℕ) → x ≡ Stopped i k → m ≡ numberOf k → m + 4294967296 * i ≡ packs x
-pack-stopped x i k m e f = ap (λ (y : ℕ). y + 4294967296 * i) f ∙ ap packs (sym e)

@@ -1,21 +1,22 @@
 -- A walk along a boot list, some records at a time, is the rule's. Assumes nothing.
-use Rattle.facts.proofs.Words.{_≡_, refl, ap, sym, _∙_, subst, _≢_, inl, inr, List, [], _∷_, _++_, Bool, true, false, cond, ℕ, suc, _+_, _*_, _≤_}
-use Rattle.facts.proofs.Words.{_<_, add-zero, add-suc, add-assoc, arith, eqb, length, getD, drop, length-drop, drop-of-length-le, drop-cons}
+use Rattle.facts.proofs.Words.{_≡_, refl, ap, sym, _∙_, subst, _≢_, inr, List, [], _∷_, _++_, Bool, true, false, cond, ℕ, _+_, _*_, _≤_}
+use Rattle.facts.proofs.Words.{_<_, add-zero, add-one, add-assoc, arith, eqb, length, getD, drop, length-drop, drop-of-length-le, drop-cons}
 use Rattle.facts.proofs.Words.{drop-drop, eq-eqb, ne-eqb}
 use Rattle.facts.specs.Boot as rule
-use Rattle.managed_changes.proofs.Changing as changing
-use Rattle.facts.specs.{Code, Success, UnsupportedService, BadArgLength, BadArgs, Record, numberOf, Facts, Check, FirstGiven, Passed, NotBuilt}
+use Rattle.facts.specs.{Code, Success, BadArgLength, Record, numberOf, Facts, Check, FirstGiven, Passed, NotBuilt}
 use Rattle.facts.specs.{ioRange, irqLevel, addLevelChecks, addRangeChecks, levelAdded, rangeAdded, stopped, ended, refused, added, recordSize}
-use Rattle.facts.specs.{recordsIn, recordsOf, endOf, recordChecks, recordAdded, mostLines}
+use Rattle.facts.specs.{recordsIn, recordsOf, endOf, recordChecks, mostLines}
 use Rattle.facts.specs.Boot.{Boot}
 use Rattle.facts.proofs.{is-built, boot-stays, record-no-success, first-not-success, boot-within, boot-success, records-length, bytes-laws}
 use Rattle.layout.specs.{Accepted}
+use Rattle.layout.specs.Served.{Served}
 use Rattle.layout.proofs.{image-length, size-in, one-set}
 use Rattle.managed_changes.specs.declared.Change.{Change}
 use Rattle.managed_changes.specs.declared.Change.the-variants.{Made, Refused}
 use Rattle.managed_changes.specs.{Changes}
 use Rattle.managed_levels.specs.{AddsLevel}
 use Rattle.managed_ranges.specs.{AddsRange}
+use Rattle.managed_ranges.proofs.{served-as}
 use Rattle.managed_boot.specs.declared.Booted.{Booted}
 use Rattle.managed_boot.specs.declared.Booted.the-variants.{All, Stopped}
 use Rattle.managed_boot.specs.{AddsRecord, Refuses, Ends, BootsRecords, Boots, placeOf, codeOf}
@@ -30,94 +31,52 @@ module _ (r : Record) (b b′ : List ℕ) where
   abbrev Added : Bool → Facts → Facts
   Added io F = cond io (rangeAdded F (r .base) (r .count) (r .attributes)) (levelAdded F (r .base) (r .attributes))
 
-  module _ (io : Bool) (is : eqb (r .resource) ioRange ≡ io) (built : NotBuilt (r .resource) → ⊥) (low : 4 < r .resource → ⊥) where
-    own-adds : (c : Change) → Changes (Own io) (Added io) b b′ c → AddsRecord r b b′ c
-    own-adds Made s =
-        record {
-          accepted = s .accepted;
-          after = s .after;
-          rule = (
-            (built, (low, subst (λ (t : Bool). Passed (Own t (s .accepted .facts))) (sym is) (s .rule .0))),
-            s .rule .1 ∙ ap (λ (t : Bool). Added t (s .accepted .facts)) (sym is),
-          );
-          table = s .table;
-        }
-    own-adds (Refused k) s =
-        record {
-          accepted = s .accepted;
-          after = s .after;
-          rule = (
-            inr (built, inr (low, subst (λ (t : Bool). FirstGiven (Own t (s .accepted .facts)) k) (sym is) (s .rule .0))),
-            s .rule .1,
-          );
-          table = s .table;
-        }
+  module _ (io : Bool) (is : eqb (r .resource) ioRange ≡ io) (least : 1 ≤ r .resource) (most : r .resource ≤ 2) where
+    built : NotBuilt (r .resource) → ⊥
+    built = is-built (r .resource) (omega arith) (omega arith) (omega arith)
 
-  built : {n : ℕ} → r .resource ≡ n → 1 ≤ n → n ≤ 2 → NotBuilt (r .resource) → ⊥
-  built e l m = is-built (r .resource) (λ f. omega (arith, e, f)) (λ f. omega (arith, e, f)) (λ f. omega (arith, e, f))
+    own-adds : (c : Change) → Changes (Own io) (Added io) b b′ c → AddsRecord r b b′ c
+    own-adds Made =
+        served-as
+        (λ F G x. ((built, (omega arith, subst (λ (t : Bool). Passed (Own t F)) (sym is) (x .0))), x .1 ∙ ap (λ (t : Bool). Added t F) (sym is)))
+    own-adds (Refused k) =
+        served-as (λ F G x. (inr (built, inr (omega arith, subst (λ (t : Bool). FirstGiven (Own t F) k) (sym is) (x .0))), x .1))
 
   pub range-adds : (c : Change) → r .resource ≡ ioRange → AddsRange (r .base) (r .count) (r .attributes) mostLines b b′ c → AddsRecord r b b′ c
-  range-adds c e = own-adds true (eq-eqb (r .resource) ioRange e) (built e (omega arith) (omega arith)) (λ l. omega (arith, e)) c
+  range-adds c e = own-adds true (eq-eqb (r .resource) ioRange e) (omega (arith, e)) (omega (arith, e)) c
 
   pub level-adds : (c : Change) → r .resource ≡ irqLevel → AddsLevel (r .base) (r .attributes) b b′ c → AddsRecord r b b′ c
-  level-adds c e = own-adds false (ne-eqb (r .resource) ioRange (λ f. omega (arith, e, f))) (built e (omega arith) (omega arith))
-      (λ l. omega (arith, e)) c
-
--- or it is not built, or no resource type
-module _ (r : Record) (b : List ℕ) (a : Accepted b) where
-  refuses : (k : Code) → FirstGiven (recordChecks (a .facts) r) k → AddsRecord r b b (Refused k)
-  refuses k g = changing.refused (λ (F : Facts). recordChecks F r) (λ (F : Facts). recordAdded F r) b a k g
-
-  pub not-built : NotBuilt (r .resource) → AddsRecord r b b (Refused UnsupportedService)
-  not-built n = refuses UnsupportedService (inl (n, refl))
-
-  pub no-resource : 4 < r .resource → AddsRecord r b b (Refused BadArgs)
-  no-resource l =
-      refuses BadArgs
-      (inr (is-built (r .resource) (λ f. omega (arith, f)) (λ f. omega (arith, f)) (λ f. omega (arith, f)), inl (l, refl)))
+  level-adds c e = own-adds false (ne-eqb (r .resource) ioRange (λ f. omega (arith, e, f))) (omega (arith, e)) (omega (arith, e)) c
 
 -- one record, lent as a list of one
-module _ (r : Record) (b b′ : List ℕ) where
+module _ {r : Record} {b b′ : List ℕ} where
   one-made : AddsRecord r b b′ Made → BootsRecords (r ∷ []) b b′ (All 1)
-  one-made s = (
-    record {
-      accepted = s .accepted;
-      after = s .after;
-      rule = added (s .rule .0)
-          (subst (λ (G : Facts). Boot Success (recordAdded (s .accepted .facts) r) [] 1 (stopped 1 Success G)) (sym (s .rule .1)) ended);
-      table = s .table;
-    },
-    tt,
-  )
+  one-made s = (served-as (λ F G x. added (x .0) (rw (x .1) ended)) s, tt)
 
-  one-refused : (k : Code) → AddsRecord r b b′ (Refused k) → BootsRecords (r ∷ []) b b′ (Stopped 0 k)
-  one-refused k s = (
-    record {
-      accepted = s .accepted;
-      after = s .after;
-      rule = subst (λ (G : Facts). Boot Success (s .accepted .facts) (r ∷ []) 0 (stopped 0 k G)) (sym (s .rule .1)) (refused (s .rule .0));
-      table = s .table;
-    },
+  one-refused : {k : Code} → AddsRecord r b b′ (Refused k) → BootsRecords (r ∷ []) b b′ (Stopped 0 k)
+  one-refused {k} s = (
+    served-as (λ F G x. rw (x .1) (refused (x .0))) s,
     first-not-success (recordChecks (s .accepted .facts) r) k (record-no-success (s .accepted .facts) r) (s .rule .0),
   )
 
+later : {e : Code} (d j : ℕ) {F : Facts} {rs : List Record} {o : rule.Booted} → Boot e F rs (d + (j + 1)) o → Boot e F rs ((d + j) + 1) o
+later d j = rw add-assoc (λ x. x)
+
 -- the first records of a list are added, and others follow; or one of the first is refused. What stands first begins at the place j of its own, and
 -- at d places more of the whole
-module _ (e : Code) (left : List Record) (d : ℕ) where
-  later : (j : ℕ) {F : Facts} {rs : List Record} {o : rule.Booted} → Boot e F rs (d + (j + 1)) o → Boot e F rs ((d + j) + 1) o
-  later j {F} {rs} {o} = subst (λ (i : ℕ). Boot e F rs i o) (sym (add-assoc d j 1))
+module _ {e : Code} (left : List Record) (d : ℕ) where
+  goes-past : (j : ℕ) {F : Facts} {xs : List Record} {x o : rule.Booted} → Boot Success F xs j x → x .code ≡ Success
+      → Boot e (x .facts) left (d + x .place) o
+      → Boot e F (xs ++ left) (d + j) o
+  goes-past j ended s r = r
+  goes-past j {F} {x = x} (refused {r = y} f) s r = absurd (first-not-success (recordChecks F y) (x .code) (record-no-success F y) f s)
+  goes-past j (added p q) s r = added p (later d j (goes-past (j + 1) q s r))
 
-  goes-past : (F : Facts) (xs : List Record) (j : ℕ) (x : rule.Booted) → Boot Success F xs j x → x .code ≡ Success → (o : rule.Booted)
-      → Boot e (x .facts) left (d + x .place) o → Boot e F (xs ++ left) (d + j) o
-  goes-past F xs j x ended s o r = r
-  goes-past F xs j x (refused {r = y} f) s o r = absurd (first-not-success (recordChecks F y) (x .code) (record-no-success F y) f s)
-  goes-past F xs j x (added {r = y} {rs = ys} p q) s o r = added p (later j (goes-past (recordAdded F y) ys (j + 1) x q s o r))
-
-  stops-within : (F : Facts) (xs : List Record) (j : ℕ) (x : rule.Booted) → Boot Success F xs j x → x .code ≢ Success
+  stops-within : (j : ℕ) {F : Facts} {xs : List Record} {x : rule.Booted} → Boot Success F xs j x → x .code ≢ Success
       → Boot e F (xs ++ left) (d + j) (stopped (d + x .place) (x .code) (x .facts))
-  stops-within F xs j x ended n = absurd (n refl)
-  stops-within F xs j x (refused f) n = refused f
-  stops-within F xs j x (added {r = y} {rs = ys} p q) n = added p (later j (stops-within (recordAdded F y) ys (j + 1) x q n))
+  stops-within j ended n = absurd (n refl)
+  stops-within j (refused f) n = refused f
+  stops-within j (added p q) n = added p (later d j (stops-within (j + 1) q n))
 
 -- the list rs, where the code e is given at its end, ends so
 abbrev EndsAs : Code → List Record → List ℕ → List ℕ → Booted → Type 0
@@ -130,42 +89,33 @@ pub record Walked (e : Code) (rs : List Record) (b b′ : List ℕ) (place : ℕ
   pub here : Accepted b′
   pub goes-on : (o : rule.Booted) → Boot e (here .facts) left place o → Boot e (first .facts) rs 0 o
 
-pub walked-none : (e : Code) (rs : List Record) (b : List ℕ) → Accepted b → Walked e rs b b 0 rs
-walked-none e rs b a = record { first = a; here = a; goes-on = λ o r. r }
+pub walked-none : {e : Code} {rs : List Record} {b : List ℕ} → Accepted b → Walked e rs b b 0 rs
+walked-none a = record { first = a; here = a; goes-on = λ o r. r }
 
-pub ends-length : (e : Code) (rs : List Record) (b b′ : List ℕ) (r : Booted) → EndsAs e rs b b′ r → length b′ ≡ length b
-ends-length e rs b b′ r s = ap length (sym (s .0 .table)) ∙ image-length (s .0 .after) ∙ sym (size-in b (s .0 .accepted))
+pub ends-length : {R : Facts → Facts → Type 0} {b b′ : List ℕ} → Served R b b′ → length b′ ≡ length b
+ends-length {b = b} s = ap length (sym (s .table)) ∙ image-length (s .after) ∙ sym (size-in b (s .accepted))
 
-module _ (e : Code) (rs : List Record) (b b′ : List ℕ) (place : ℕ) where
-  pub walked-length : (left : List Record) → Walked e rs b b′ place left → length b′ ≡ length b
-  walked-length left w = size-in b′ (w .here) ∙ sym (size-in b (w .first))
+module _ {e : Code} {rs : List Record} {b b′ : List ℕ} {place : ℕ} where
+  pub walked-length : {left : List Record} → Walked e rs b b′ place left → length b′ ≡ length b
+  walked-length w = size-in b′ (w .here) ∙ sym (size-in b (w .first))
 
   -- where none is left, the list ends
   pub walked-all : (r : Booted) → Walked e rs b b′ place [] → placeOf r ≡ place → codeOf r ≡ e → Refuses r → EndsAs e rs b b′ r
   walked-all r w p k n = (
-    record {
-      accepted = w .first;
-      after = w .here .facts;
-      rule = subst (λ (i : ℕ). Boot e (w .first .facts) rs 0 (stopped i (codeOf r) (w .here .facts))) (sym p)
-          (subst (λ (c : Code). Boot e (w .first .facts) rs 0 (stopped place c (w .here .facts))) (sym k)
-          (w .goes-on (stopped place e (w .here .facts)) ended));
-      table = w .here .is;
-    },
+    record { accepted = w .first; after = w .here .facts; rule = rw (p, k) (w .goes-on (stopped place e (w .here .facts)) ended); table = w .here .is },
     n,
   )
 
   -- the next records are added, or one of them is refused
-  module _ (xs left : List Record) (w : Walked e rs b b′ place (xs ++ left)) (b″ : List ℕ) where
+  module _ (xs left : List Record) (w : Walked e rs b b′ place (xs ++ left)) where
     -- the facts of a table are one set
     from : (a : Accepted b′) (o : rule.Booted) → Boot e (a .facts) (xs ++ left) (place + 0) o → Boot e (w .first .facts) rs 0 o
     from a o r =
         w .goes-on o
-        (subst (λ (F : Facts). Boot e F (xs ++ left) place o)
-        (one-set b′ (a .facts) (w .here .facts) (a .formed) (w .here .formed) (a .is) (w .here .is))
-        (subst (λ (i : ℕ). Boot e (a .facts) (xs ++ left) i o) (add-zero place) r))
+        (rw (add-zero, one-set b′ (a .facts) (w .here .facts) (a .formed) (w .here .formed) (a .is) (w .here .is)) at r)
 
-    pub walked-more : (n : ℕ) → BootsRecords xs b′ b″ (All n) → Walked e rs b b″ (place + n) left
-    walked-more n s =
+    pub walked-more : {b″ : List ℕ} {n : ℕ} → BootsRecords xs b′ b″ (All n) → Walked e rs b b″ (place + n) left
+    walked-more {n = n} s =
         let t = s .0 in
         record {
           first = w .first;
@@ -174,61 +124,46 @@ module _ (e : Code) (rs : List Record) (b b′ : List ℕ) (place : ℕ) where
             formed = boot-stays Success (t .accepted .facts) xs 0 (stopped n Success (t .after)) (t .accepted .formed) (t .rule);
             is = t .table;
           };
-          goes-on = λ o r. from (t .accepted) o
-              (goes-past e left place (t .accepted .facts) xs 0 (stopped n Success (t .after)) (t .rule) refl o r);
+          goes-on = λ o r. from (t .accepted) o (goes-past left place 0 (t .rule) refl r);
         }
 
-    pub walked-stopped : (i : ℕ) (k : Code) → BootsRecords xs b′ b″ (Stopped i k) → EndsAs e rs b b″ (Stopped (place + i) k)
-    walked-stopped i k s =
-        let t = s .0 in (
-          record {
-            accepted = w .first;
-            after = t .after;
-            rule = from (t .accepted) (stopped (place + i) k (t .after))
-                (stops-within e left place (t .accepted .facts) xs 0 (stopped i k (t .after)) (t .rule) (s .1));
-            table = t .table;
-          },
-          s .1,
-        )
+    pub walked-stopped : {b″ : List ℕ} {i : ℕ} {k : Code} → BootsRecords xs b′ b″ (Stopped i k) → EndsAs e rs b b″ (Stopped (place + i) k)
+    walked-stopped s =
+        let t = s .0 in
+        (record { accepted = w .first; after = t .after; rule = from (t .accepted) _ (stops-within left place 0 (t .rule) (s .1)); table = t .table }, s .1)
 
 -- a walk record by record: the rest of the list begins at the place
-module _ (rs : List Record) (b b′ : List ℕ) (place : ℕ) where
-  pub walked-through : Walked Success rs b b′ place (drop place rs) → length rs ≤ place → BootsRecords rs b b′ (All place)
-  walked-through w l =
-      walked-all Success rs b b′ place (All place) (subst (Walked Success rs b b′ place) (drop-of-length-le rs l) w) refl refl tt
+module _ {rs : List Record} {b b′ : List ℕ} {place : ℕ} (w : Walked Success rs b b′ place (drop place rs)) where
+  pub walked-through : length rs ≤ place → BootsRecords rs b b′ (All place)
+  walked-through l = walked-all (All place) (rw (drop-of-length-le rs l) at w) refl refl tt
 
-  module _ (d : Record) (w : Walked Success rs b b′ place (drop place rs)) (l : place < length rs) (b″ : List ℕ) where
+  module _ (d : Record) (l : place < length rs) where
     -- the record at the place, and those after it
     at : Walked Success rs b b′ place ((getD rs place d ∷ []) ++ drop (place + 1) rs)
-    at = subst (Walked Success rs b b′ place)
-        (drop-cons rs place d l ∙ ap (λ (n : ℕ). getD rs place d ∷ drop n rs) (sym (add-suc place 0 ∙ ap suc (add-zero place)))) w
+    at = rw add-one (rw (drop-cons rs place d l) at w)
 
-    pub walked-one : AddsRecord (getD rs place d) b′ b″ Made → Walked Success rs b b″ (place + 1) (drop (place + 1) rs)
-    walked-one s = walked-more Success rs b b′ place (getD rs place d ∷ []) (drop (place + 1) rs) at b″ 1 (one-made (getD rs place d) b′ b″ s)
+    pub walked-one : {b″ : List ℕ} → AddsRecord (getD rs place d) b′ b″ Made → Walked Success rs b b″ (place + 1) (drop (place + 1) rs)
+    walked-one s = walked-more (getD rs place d ∷ []) (drop (place + 1) rs) at (one-made s)
 
-    pub walked-refused : (k : Code) → AddsRecord (getD rs place d) b′ b″ (Refused k) → BootsRecords rs b b″ (Stopped place k)
-    walked-refused k s =
-        subst (λ (i : ℕ). EndsAs Success rs b b″ (Stopped i k)) (add-zero place)
-        (walked-stopped Success rs b b′ place (getD rs place d ∷ []) (drop (place + 1) rs) at b″ 0 k (one-refused (getD rs place d) b′ b″ k s))
+    pub walked-refused : {b″ : List ℕ} {k : Code} → AddsRecord (getD rs place d) b′ b″ (Refused k) → BootsRecords rs b b″ (Stopped place k)
+    walked-refused {b″} {k} s = subst (λ (i : ℕ). EndsAs Success rs b b″ (Stopped i k)) (add-zero place) (walked-stopped (getD rs place d ∷ []) (drop (place + 1) rs) at (one-refused s))
 
 -- a walk along a list's bytes, some records at a time: those left begin at the byte `at`
-module _ (bytes b b′ : List ℕ) (place at : ℕ) (w : Walked (endOf bytes) (recordsOf bytes) b b′ place (recordsOf (drop at bytes))) where
+module _ (bytes : List ℕ) {b b′ : List ℕ} {place : ℕ} (at : ℕ) (w : Walked (endOf bytes) (recordsOf bytes) b b′ place (recordsOf (drop at bytes))) where
   pub bytes-all : at ≡ place * recordSize → length bytes ≤ at → at ≤ length bytes → Boots bytes b b′ (All place)
   bytes-all e l m =
-      walked-all (endOf bytes) (recordsOf bytes) b b′ place (All place)
-      (subst (Walked (endOf bytes) (recordsOf bytes) b b′ place) (bytes-laws .same-list (drop at bytes) 0 (omega (arith, length-drop at bytes, l, m)) .0) w) refl
-      (sym (bytes-laws .same-list bytes place (omega (arith, e, l, m)) .1)) tt
+      walked-all (All place) (subst (Walked _ _ b b′ place) (bytes-laws .same-list (drop at bytes) 0 (omega (arith, length-drop at bytes)) .0) w) refl
+      (sym (bytes-laws .same-list bytes place (omega arith) .1)) tt
 
   pub bytes-broken : at ≡ place * recordSize → at < length bytes → length bytes < at + recordSize → Boots bytes b b′ (Stopped place BadArgLength)
   bytes-broken e l m =
-      walked-all (endOf bytes) (recordsOf bytes) b b′ place (Stopped place BadArgLength)
-      (subst (Walked (endOf bytes) (recordsOf bytes) b b′ place) (few .0) w) refl
-      (sym (end-past place bytes (omega (arith, e, l)) ∙ ap (λ (n : ℕ). endOf (drop n bytes)) (sym e) ∙ few .1)) (λ f. omega (arith, ap numberOf f))
+      walked-all (Stopped place BadArgLength) (subst (Walked _ _ b b′ place) (few .0) w) refl
+      (sym (end-past place bytes (omega arith) ∙ ap (λ (n : ℕ). endOf (drop n bytes)) (sym e) ∙ few .1)) (λ f. omega (arith, ap numberOf f))
     where
       few : (recordsOf (drop at bytes) ≡ []) × (endOf (drop at bytes) ≡ BadArgLength)
-      few = bytes-laws .few (drop at bytes) (omega (arith, length-drop at bytes, l)) (omega (arith, length-drop at bytes, m))
+      few = bytes-laws .few (drop at bytes) (omega (arith, length-drop at bytes)) (omega (arith, length-drop at bytes))
 
-  module _ (n : ℕ) (full : at + n * recordSize ≤ length bytes) (b″ : List ℕ) where
+  module _ (n : ℕ) (full : at + n * recordSize ≤ length bytes) where
     -- the next n records, and those after them
     abbrev next : List Record
     next = recordsIn n (drop at bytes)
@@ -238,14 +173,12 @@ module _ (bytes b b′ : List ℕ) (place at : ℕ) (w : Walked (endOf bytes) (r
 
     ahead : Walked (endOf bytes) (recordsOf bytes) b b′ place (next ++ after)
     ahead =
-        subst (Walked (endOf bytes) (recordsOf bytes) b b′ place)
+        subst (Walked _ _ b b′ place)
         (records-past n (drop at bytes) (omega (arith, length-drop at bytes))
         ∙ ap (λ (l : List ℕ). next ++ recordsOf l) (drop-drop (n * recordSize) at bytes)) w
 
-    pub bytes-more : (m : ℕ) → BootsRecords next b′ b″ (All m) → Walked (endOf bytes) (recordsOf bytes) b b″ (place + n) after
-    bytes-more m s =
-        subst (λ (k : ℕ). Walked (endOf bytes) (recordsOf bytes) b b″ (place + k) after) all
-        (walked-more (endOf bytes) (recordsOf bytes) b b′ place next after ahead b″ m s)
+    pub bytes-more : {b″ : List ℕ} {m : ℕ} → BootsRecords next b′ b″ (All m) → Walked (endOf bytes) (recordsOf bytes) b b″ (place + n) after
+    bytes-more {b″} {m} s = subst (λ (k : ℕ). Walked (endOf bytes) (recordsOf bytes) b b″ (place + k) after) all (walked-more next after ahead s)
       where
         all : m ≡ n
         all =
@@ -255,12 +188,12 @@ module _ (bytes b b′ : List ℕ) (place at : ℕ) (w : Walked (endOf bytes) (r
               records-length n (drop at bytes),
             )
 
-    pub bytes-stopped : (i : ℕ) (k : Code) → BootsRecords next b′ b″ (Stopped i k) → (i ≤ n) × Boots bytes b b″ (Stopped (place + i) k)
-    bytes-stopped i k s = (
+    pub bytes-stopped : {b″ : List ℕ} {i : ℕ} {k : Code} → BootsRecords next b′ b″ (Stopped i k) → (i ≤ n) × Boots bytes b b″ (Stopped (place + i) k)
+    bytes-stopped {i = i} {k} s = (
       omega (
         arith,
         boot-within Success (s .0 .accepted .facts) next 0 (stopped i k (s .0 .after)) (s .0 .rule),
         records-length n (drop at bytes),
       ),
-      walked-stopped (endOf bytes) (recordsOf bytes) b b′ place next after ahead b″ i k s,
+      walked-stopped next after ahead s,
     )

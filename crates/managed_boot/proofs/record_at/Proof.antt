@@ -1,19 +1,15 @@
 -- `managed_boot::record_at` meets its contract: each field stands where the record has it.
 -- Assumes nothing.
-use Rattle.facts.proofs.Words.{refl, _+_, needs, getD, now}
+use Rattle.facts.proofs.Words.{refl, needs, now}
 use Rattle.managed_boot.proofs.{record-read}
 use Rattle.managed_boot.proofs.record_at.Tie as tie
 
-abbrev lent : tie.After-long → tie.After-shared-slice-known
-lent c = c .before .before .before
-
 returns : tie.Need-returns
 returns c =
-    let a = lent (c .before) .before .args in
-    let b = now (a .records) in
-    record-read b (a .at) (getD b (a .at) 0) (getD b (a .at + 1) 0) (c .before .long .result) (c .long2 .result) refl refl
-    (c .before .long .ensures .0)
-    (c .long2 .ensures .0)
+    let read = c .before in
+    let lent = read .before .before .before in
+    let a = lent .before .args in
+    record-read (now (a .records)) (a .at) refl refl (read .long .ensures .0) (c .long2 .ensures .0)
 
 pub record-at-spec : {M : Type 1} → Rattle.managed_boot.proofs.record_at.Statement.statement M
 record-at-spec =

@@ -1,6 +1,6 @@
 -- `managed_boot::taken` meets its contract: the first records of the array are those of the bytes.
 -- Assumes nothing.
-use Rattle.facts.proofs.Words.{_≡_, refl, _∙_, subst, ℕ, _+_, _*_, _-_, _≤_, arith, length, take, drop, length-set, now}
+use Rattle.facts.proofs.Words.{_≡_, refl, _∙_, subst, ℕ, _+_, _*_, _-_, _≤_, arith, needs, length, take, drop, length-set, now}
 use Rattle.facts.specs.{recordSize, recordsIn}
 use Rattle.managed_boot.specs.{atOnce}
 use Rattle.managed_boot.proofs.{taken-more}
@@ -24,18 +24,6 @@ within : (c : tie.In-loop Inv-loop μ-loop) → let s = start (c .before) in
     s .args .at + c .before .loop .i * recordSize + recordSize ≤ length (now (s .args .records))
 within c = omega (arith, c .loop-test .taken, start (c .before) .pre .1)
 
-mul-record-at : tie.Need-mul-record-at Inv-loop μ-loop
-mul-record-at c = omega (arith, start (c .before) .pre .0, c .loop-test .taken)
-
-mul-all : tie.Need-mul-all Inv-loop μ-loop
-mul-all c = omega (arith, start (turn c) .pre .0, c .before .loop-test .taken)
-
-array-set-from-all : tie.Need-array-set-from-all Inv-loop μ-loop
-array-set-from-all c = omega (arith, start (turn c) .pre .0, c .before .loop-test .taken)
-
-add-i : tie.Need-add-i Inv-loop μ-loop
-add-i c = omega (arith, start (turn c) .pre .0, c .before .loop-test .taken)
-
 loop-again : tie.Need-loop-again Inv-loop μ-loop
 loop-again c =
     let k = turn c in
@@ -57,5 +45,5 @@ returns c =
 pub taken-spec : {M : Type 1} → Rattle.managed_boot.proofs.taken.Statement.statement M
 taken-spec =
     tie.close
-    (tie.spec Inv-loop μ-loop (λ c. (omega arith, refl, refl)) mul-record-at (λ c. omega (arith, within c)) (λ c κs. within c) mul-all
-    array-set-from-all add-i (λ c. omega (arith, c .before .loop-test .taken)) loop-again returns)
+    (tie.spec Inv-loop μ-loop (λ c. (omega arith, refl, refl)) (λ c. search needs) (λ c. omega (arith, within c)) (λ c κs. within c) (λ c. search needs)
+    (λ c. search needs) (λ c. search needs) (λ c. omega (arith, c .before .loop-test .taken)) loop-again returns)

@@ -230,7 +230,7 @@ module _ {M : Type 1} (𝓤 : URA M) (H : Heap 𝓤) (A : Atoms 𝓤) (W : Given
         (tt, (record { fits = lit< tt }, (record { fits = fits t }, tt))) $
         returns ! (look ! 22 refl) $ forget ! 16 refl $ forget ! 18 refl $ forget ! 20 refl $ forget ! 22 refl $
         ends (t .table) (bootedVal (All (t .at)))
-        (exits (t .table) (t .sized) (All (t .at)) (walked-through rs ys (t .table) (t .at) (t .came) over)
+        (exits (t .table) (t .sized) (All (t .at)) (walked-through (t .came) over)
         (LE.owes Bo.the-type Bo′.the-laws (All (t .at)) ((refl, fits t), tt)))
 
     -- the answer: past the place, or out with the refusal
@@ -253,7 +253,7 @@ module _ {M : Type 1} (𝓤 : URA M) (H : Heap 𝓤) (A : Atoms 𝓤) (W : Given
               at = t .at + 1;
               sized = e;
               within = omega (arith, less);
-              came = walked-one rs ys (t .table) (t .at) nothing-asked (t .came) less zs made;
+              came = walked-one (t .came) nothing-asked less made;
             }
     goes-by t less zs e (Refused k) refused is =
         first ! $ switches-on ! (load ! (from ! (vrt ! refl (fld ! refl (stop !)))) (look-tag ! 14 (whole !))) $
@@ -264,7 +264,7 @@ module _ {M : Type 1} (𝓤 : URA M) (H : Heap 𝓤) (A : Atoms 𝓤) (W : Given
         returns-within ! Post refl (look ! 22 refl) $
         forget ! 12 refl $ forget ! 14 refl $ forget ! 16 refl $ forget ! 18 refl $ forget ! 20 refl $ forget ! 22 refl $
         ends zs (bootedVal (Stopped (t .at) k))
-        (exits zs e (Stopped (t .at) k) (walked-refused rs ys (t .table) (t .at) nothing-asked (t .came) less zs k refused) stops)
+        (exits zs e (Stopped (t .at) k) (walked-refused (t .came) nothing-asked less refused) stops)
       where
         code-is : Is Co.the-row k (codeVal k ∷ [])
         code-is = LE.owed Ch.the-type Ch′.the-laws (Refused k) (changeVal (Refused k) ∷ []) is .0
@@ -379,7 +379,7 @@ module _ {M : Type 1} (𝓤 : URA M) (H : Heap 𝓤) (A : Atoms 𝓤) (W : Given
       move ! (24 ∷ []) $ split ! $ move ! (1 ∷ []) $ split ! $ move ! (27 ∷ []) $ fsplit ! $ move ! (1 ∷ []) $ fsplit ! $
       keep ! (several 6 24 (5 ∷ 3 ∷ 2 ∷ 0 ∷ [])) $
       loops-from 𝓣 known l₀ l₁ l₂ l₃ l₄ l₅ l₆ l₇ l₈ l₉ l₁₀ l₁₁
-      (record { table = ys; at = 0; sized = refl; within = omega arith; came = walked-none Success rs ys accepted })))))))))))))
+      (record { table = ys; at = 0; sized = refl; within = omega arith; came = walked-none accepted })))))))))))))
 
 module _ {M : Type 1} (𝓤 : URA M) (H : Heap 𝓤) (A : Atoms 𝓤) (W : Given 𝓤 H A) (mem : Memory → SProp 𝓤) (run : Routine → Fun 𝓤) (𝓣 : Tables 𝓤 H)
     (known : Triple 𝓤 (𝓣 .C #managed_boot·add) (Add 𝓤 H A mem run)) where
