@@ -1,100 +1,73 @@
 -- `client_services::deregister` meets its contract: each check's answer says which end of the rule it is.
 -- Assumes nothing.
-use Rattle.facts.proofs.Words.{_≡_, List, ℕ, arith, needs, length, now}
+use Rattle.facts.proofs.Words.{_≡_, refl, inl, inr, arith, needs, length, now}
 use Rattle.facts.specs.{deregisterLength}
-use Rattle.layout.proofs.{size-in, clients-in}
+use Rattle.layout.proofs.Of
+use Rattle.layout.proofs.{sound-in}
 use Rattle.client_record.specs.{ListedAt}
-use Rattle.client_services.proofs.{deregister-length, deregister-nobody, deregister-held, deregister-done}
+use Rattle.client_services.proofs.{found-live, holds-all, deregister-refused, deregister-done}
 use Rattle.client_services.proofs.deregister.Tie as tie
 
--- where the call began, its table and its packet
-abbrev start : tie.After-sized → tie.Start
-start c = c .before .before .before
-
-abbrev table : tie.After-sized → List ℕ
-table c = now (start c .args .t)
-
-abbrev packet : tie.After-sized → List ℕ
-packet c = now (start c .args .p)
-
-abbrev handle : tie.After-sized → ℕ
-handle c = start c .args .h .0
-
 -- the packet's length is right
-length-right : (c : tie.After-enum-told) → length (packet (c .before .before)) ≡ deregisterLength
-length-right c = let tried = c .before .before in rw (c .enum-told .given .1) at (tried .sized .ensures)
+abbrev start : tie.After-enum-told → tie.Start
+start c = let call = c .before .before in call .before .before .before
+
+length-right : (c : tie.After-enum-told) → length (now (start c .args .p)) ≡ deregisterLength
+length-right c = rw (c .enum-told .given .1) at (c .before .before .sized .ensures)
 
 -- the client is live: the place that it is listed in
-abbrev call-of-search : tie.After-client-at-arg → tie.After-sized
-call-of-search c = c .before .before .before
+abbrev sized : tie.After-known-told → tie.After-enum-told
+sized c = let search = c .before .before .before in search .before .before
 
-abbrev search-of-client : tie.After-known-told → tie.After-client-at
-search-of-client c = c .before .before .before
-
-abbrev call-of-client : tie.After-known-told → tie.After-sized
-call-of-client c = call-of-search (search-of-client c .before)
-
-abbrev place : tie.After-known-told → ℕ
-place c = c .before .i .given .0 .0
-
-listed : (c : tie.After-known-told) → ListedAt (table (call-of-client c)) (handle (call-of-client c)) (place c)
-listed c = let tried = c .before .before .before in rw (c .before .i .given .1) at (tried .client-at .ensures)
-
-length-with-client : (c : tie.After-known-told) → length (packet (call-of-client c)) ≡ deregisterLength
-length-with-client c = length-right (search-of-client c .before .before)
+listed : (c : tie.After-known-told) → let a = start (sized c) .args in ListedAt (now (a .t)) (a .h .0) (c .before .i .given .0 .0)
+listed c = rw (c .before .i .given .1) at (c .before .before .before .client-at .ensures)
 
 -- what it holds is looked at
-abbrev client-of-look : tie.After-holds → tie.After-known-told
-client-of-look c = c .before .before
+abbrev found : tie.After-holds → tie.After-known-told
+found c = c .before .before
 
 returns : tie.Need-returns
 returns c =
     let call = c .before .before in
-    deregister-length (table call) (packet call) (start call .pre) (handle call) (rw (c .enum-told2 .given .1) at (call .sized .ensures))
+    deregister-refused (call .before .before .before .pre) (inl (rw (c .enum-told2 .given .1) at (call .sized .ensures), refl))
 
 client-at-requires : tie.Need-client-at-requires
-client-at-requires c κs =
-    let b = table (call-of-search c) in
-    let a = start (call-of-search c) .pre in
-    (size-in b a, omega (arith, clients-in b a, a .formed .clients-most))
+client-at-requires c κs = let sound = sound-in _ (start (c .before) .pre) in (sound .size, sound .clients-most)
 
 returns-2 : tie.Need-returns-2
 returns-2 c =
-    let tried = c .before .before in
-    let call = call-of-search (tried .before) in
-    deregister-nobody (table call) (packet call) (start call .pre) (handle call) (length-right (tried .before .before))
-    (rw (c .enum-told3 .given .1) at (tried .client-at .ensures))
+    let search = c .before .before in
+    let a = start (search .before .before) .pre in
+    let nobody = rw (c .enum-told3 .given .1) at (search .client-at .ensures) in
+    deregister-refused a (inr ((λ d. d (length-right (search .before .before))), inl ((λ x. nobody (Of.listed-live _ a _ x)), refl)))
 
 holds-requires : tie.Need-holds-requires
 holds-requires c κs =
-    let k = call-of-client (c .before) in
-    let a = start k .pre in
-    (size-in (table k) a, omega (arith, listed (c .before) .listed, clients-in (table k) a, a .formed .clients-most))
+    let sound = sound-in _ (start (sized (c .before)) .pre) in
+    (sound .size, omega (arith, listed (c .before) .listed, sound .clients-most))
 
 returns-3 : tie.Need-returns-3
 returns-3 c =
     let look = c .before .before in
-    let found = client-of-look look in
-    let k = call-of-client found in
-    deregister-held (table k) (packet k) (start k .pre) (handle k) (place found) (length-with-client found) (listed found)
-    (rw (c .enum-told5 .given .1) at (look .holds .ensures))
+    let k = found look in
+    let a = start (sized k) .pre in
+    let held = holds-all a (listed k) (rw (c .enum-told5 .given .1) at (look .holds .ensures)) in
+    deregister-refused a (inr ((λ d. d (length-right (sized k))), inr ((λ d. d (found-live a (listed k))), inl (held, refl))))
 
 withdraw-requires : tie.Need-withdraw-requires
 withdraw-requires c κs =
-    let found = client-of-look (c .before .before .before) in
-    let k = call-of-client found in
-    let a = start k .pre in
-    (size-in (table k) a, listed found .listed, omega (arith, clients-in (table k) a, a .formed .clients-most))
+    let k = found (c .before .before .before) in
+    let sound = sound-in _ (start (sized k) .pre) in
+    (sound .size, listed k .listed, sound .clients-most)
 
 returns-4 : tie.Need-returns-4
 returns-4 c =
     let withdrawn = c .before .before in
     let told = withdrawn .before .before in
     let look = told .before .before in
-    let found = client-of-look look in
-    let k = call-of-client found in
-    deregister-done (table k) (packet k) (start k .pre) (handle k) (place found) _ (length-with-client found) (listed found)
-    (rw (told .enum-told4 .given .1) at (look .holds .ensures)) (withdrawn .withdraw .ensures)
+    let k = found look in
+    deregister-done (start (sized k) .pre) (length-right (sized k)) (listed k) (rw (told .enum-told4 .given .1) at (look .holds .ensures))
+    (withdrawn .withdraw .ensures)
 
 pub deregister-spec : {M : Type 1} → Rattle.client_services.proofs.deregister.Statement.statement M
 deregister-spec =

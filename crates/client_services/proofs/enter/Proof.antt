@@ -4,37 +4,18 @@ use Rattle.facts.proofs.Words.{needs, now, length-set}
 use Rattle.client_services.proofs.{enters}
 use Rattle.client_services.proofs.enter.Tie as tie
 
--- each write, and where the bytes were lent for it
-abbrev lent2 : tie.After-put-word2 → tie.After-t
-lent2 c = c .before .before .before
-
-abbrev lent3 : tie.After-put-word3 → tie.After-t2
-lent3 c = c .before .before .before
-
-abbrev lent4 : tie.After-put-word4 → tie.After-t3
-lent4 c = c .before .before .before
-
-module _ (c : tie.After-slice-known5) where
-  abbrev fourth : tie.After-put-word4
-  fourth = c .before .before
-
-  abbrev third : tie.After-put-word3
-  third = lent4 fourth .before
-
-  abbrev second : tie.After-put-word2
-  second = lent3 third .before
-
-  abbrev first : tie.After-put-word
-  first = lent2 second .before
-
-  abbrev start : tie.Start
-  start = first .before .before .before
-
 returns : tie.Need-returns
 returns c =
-    let a = start c .args in
-    enters (now (a .t)) _ _ _ _ (a .n) (a .h .0) (a .attributes) (a .events) (first c .put-word .ensures) (second c .put-word2 .ensures)
-    (third c .put-word3 .ensures) (fourth c .put-word4 .ensures)
+    let fourth = c .before .before in
+    let lent4 = fourth .before .before .before in
+    let third = lent4 .before in
+    let lent3 = third .before .before .before in
+    let second = lent3 .before in
+    let lent2 = second .before .before .before in
+    let first = lent2 .before in
+    let a = first .before .before .before .args in
+    enters (now (a .t)) (a .n) (a .h .0) (a .attributes) (a .events) (first .put-word .ensures) (second .put-word2 .ensures) (third .put-word3 .ensures)
+    (fourth .put-word4 .ensures)
 
 pub enter-spec : {M : Type 1} → Rattle.client_services.proofs.enter.Statement.statement M
 enter-spec =
