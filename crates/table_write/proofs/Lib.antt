@@ -1,2 +1,2 @@
 pub mod Writing
-pub use Writing.{cleared-none, cleared-more, moved-none, moved-more, moved-up-none, moved-up-more, takes-length, takes, makes, fresh-image}
+pub use Writing.{filled-none, filled-more, filled-less, takes, makes, fresh-image}

@@ -4,15 +4,11 @@ use Rattle.facts.proofs.Words.{needs}
 use Rattle.table_write.proofs.{fresh-image}
 use Rattle.table_write.proofs.make_fresh.Tie as tie
 
--- where the call began
-abbrev begun : tie.After-clear → tie.Start
-begun c = c .before .before .before
-
 returns : tie.Need-returns
 returns c =
     let cleared = c .before .before in
-    let start = begun cleared in
-    fresh-image (start .args .t .now) (cleared .clear .last .0) (start .args .sockets) (start .pre) (cleared .clear .ensures)
+    let start = cleared .before .before .before in
+    fresh-image (start .args .sockets) (start .pre) (cleared .clear .ensures)
 
 pub make-fresh-spec : {M : Type 1} → Rattle.table_write.proofs.make_fresh.Statement.statement M
 make-fresh-spec = tie.close (tie.spec (λ c κs. search needs) (λ c. search needs) (λ c. search needs) returns)
