@@ -2,7 +2,7 @@
 use Rattle.facts.proofs.Words.{_≡_, refl, sym, ap, _∙_, subst, _⊎_, inl, inr, ⊎-elim, List, ℕ, _+_, _-_, _/_, _%_, _^_, _≤_, _<_, min-eq-left}
 use Rattle.facts.proofs.Words.{min-eq-right, ℕ-discrete, decLt, arith, bitAnd, bitOr, field, Ports}
 use Rattle.facts.specs.{mostAsked, bit, Within}
-use Rattle.layout.specs.{ioIn, IoPairSound}
+use Rattle.layout.specs.{ioIn, IoUsed, IoPairSound}
 use Rattle.io_ranges.proofs.{mod-fewer}
 use Rattle.table_read.specs.{Covers}
 use Rattle.facts.proofs.{one-bit}
@@ -15,30 +15,15 @@ module _ (base count : ℕ) (port : 1 ≤ count) (asked : count ≤ mostAsked) w
   first-or-last : (p : ℕ) → Within p base count → (blockOf base ≡ blockOf p) ⊎ (blockOf (base + count - 1) ≡ blockOf p)
   first-or-last p w = same-or-not (ℕ-discrete (base / 256) (p / 256))
     where
-      from : base ≤ p
-      from = w .from
-
-      below : p < base + count
-      below = w .below
-
       same-or-not : Dec (base / 256 ≡ p / 256) → (blockOf base ≡ blockOf p) ⊎ (blockOf (base + count - 1) ≡ blockOf p)
       same-or-not (yes e) = inl (ap (λ (n : ℕ). n % 64) e)
-      same-or-not (no n) = let e : (base + count - 1) / 256 ≡ p / 256 = omega (arith, n) in inr (ap (λ (m : ℕ). m % 64) e)
+      same-or-not (no n) =
+          let e : (base + count - 1) / 256 ≡ p / 256 = omega (arith, n, w .from, w .below) in inr (ap (λ (m : ℕ). m % 64) e)
 
   pub blocks-within : BlocksWithin (bitOr (2 ^ blockOf base) (2 ^ blockOf (base + count - 1))) base count
-  blocks-within p w = ⊎-elim one other (first-or-last p w)
-    where
-      first : ℕ
-      first = 2 ^ blockOf base
-
-      last : ℕ
-      last = 2 ^ blockOf (base + count - 1)
-
-      one : blockOf base ≡ blockOf p → bit (bitOr first last) (blockOf p) ≡ 1
-      one e = or-left first last (blockOf p) (subst (λ (k : ℕ). bit first k ≡ 1) e (one-bit (blockOf base)))
-
-      other : blockOf (base + count - 1) ≡ blockOf p → bit (bitOr first last) (blockOf p) ≡ 1
-      other e = or-right first last (blockOf p) (subst (λ (k : ℕ). bit last k ≡ 1) e (one-bit (blockOf (base + count - 1))))
+  blocks-within p w =
+      ⊎-elim (λ e. rw (← e) (or-left _ (2 ^ blockOf (base + count - 1)) _ (one-bit (blockOf base)))) (λ e. rw (← e) (or-right (2 ^ blockOf base) _ _ (one-bit (blockOf (base + count - 1)))))
+      (first-or-last p w)
 
 -- ports that are equal modulo two to so many lines are in one block
 same-block : (p q lines : ℕ) → 14 ≤ lines → p % 2 ^ lines ≡ q % 2 ^ lines → blockOf p ≡ blockOf q
@@ -48,45 +33,24 @@ same-block p q lines l e = sym (field p 6 8) ∙ ap (λ (n : ℕ). n / 256) (mod
 pub own-blocks : (b : List ℕ) (s set : ℕ) (p : Ports) → p ≡ ioIn b s .ports → 14 ≤ p .lines → BlocksWithin set (p .base) (p .count)
     → Covers set (AnswersInBlock b s)
 own-blocks b s set p is l w k a =
-    subst (λ (j : ℕ). bit set j ≡ 1) (sym (same-block (a .port) (a .own) (p .lines) l equal) ∙ a .block) (w (a .own) own-in)
-  where
-    own-in : Within (a .own) (p .base) (p .count)
-    own-in = subst (λ (q : Ports). Within (a .own) (q .base) (q .count)) (sym is) (a .own-in)
+    subst (λ (j : ℕ). bit set j ≡ 1) (sym (same-block (a .port) (a .own) (p .lines) l (rw is (a .equal))) ∙ a .block) (w (a .own) (rw is (a .own-in)))
 
-    equal : a .port % 2 ^ p .lines ≡ a .own % 2 ^ p .lines
-    equal = subst (λ (q : Ports). a .port % 2 ^ q .lines ≡ a .own % 2 ^ q .lines) (sym is) (a .equal)
+-- a grant answers in the block of a port that equals one of its own
+answers : {b : List ℕ} {s own : ℕ} (port : ℕ) → IoUsed b s → Within own (ioIn b s .ports .base) (ioIn b s .ports .count)
+    → port % 2 ^ ioIn b s .ports .lines ≡ own % 2 ^ ioIn b s .ports .lines
+    → AnswersInBlock b s (blockOf port)
+answers port u w e = record { used = u; port = port; own = _; own-in = w; equal = e; block = refl }
 
 -- grants that answer in no block in common do not meet
-module _ (b : List ℕ) (s t x y : ℕ) (e : bitAnd x y ≡ 0) (below : Covers x (AnswersInBlock b t)) (own : Covers y (AnswersInBlock b s)) where
-  abbrev a : Ports
-  a = ioIn b s .ports
-
-  abbrev a′ : Ports
-  a′ = ioIn b t .ports
-
-  pub blocks-apart : IoPairSound b s t
-  blocks-apart u u′ m = absurd (below-or-not (decLt (a′ .lines) (a .lines)))
-    where
-      below-or-not : Dec (a′ .lines < a .lines) → ⊥
-      below-or-not (yes l) =
-          none-common x y e below own (blockOf (m .one))
-          (record {
-            used = u′;
-            port = m .one;
-            own = m .other;
-            own-in = m .other-in;
-            equal = subst (λ (n : ℕ). m .one % 2 ^ n ≡ m .other % 2 ^ n) (min-eq-right (omega arith)) (m .equal);
-            block = refl;
-          })
-          (record { used = u; port = m .one; own = m .one; own-in = m .one-in; equal = refl; block = refl })
-      below-or-not (no l) =
-          none-common x y e below own (blockOf (m .other))
-          (record { used = u′; port = m .other; own = m .other; own-in = m .other-in; equal = refl; block = refl })
-          (record {
-            used = u;
-            port = m .other;
-            own = m .one;
-            own-in = m .one-in;
-            equal = sym (subst (λ (n : ℕ). m .one % 2 ^ n ≡ m .other % 2 ^ n) (min-eq-left (omega arith)) (m .equal));
-            block = refl;
-          })
+pub blocks-apart : (b : List ℕ) (s t x y : ℕ) → bitAnd x y ≡ 0 → Covers x (AnswersInBlock b t) → Covers y (AnswersInBlock b s) → IoPairSound b s t
+blocks-apart b s t x y e below own u u′ m = absurd (below-or-not (decLt (ioIn b t .ports .lines) (ioIn b s .ports .lines)))
+  where
+    below-or-not : Dec (ioIn b t .ports .lines < ioIn b s .ports .lines) → ⊥
+    below-or-not (yes l) =
+        let fewer : ioIn b t .ports .lines ≤ ioIn b s .ports .lines = omega arith in
+        none-common x y e below own (blockOf (m .one)) (answers (m .one) u′ (m .other-in) (rw (min-eq-right fewer) at (m .equal)))
+        (answers (m .one) u (m .one-in) refl)
+    below-or-not (no l) =
+        let fewer : ioIn b s .ports .lines ≤ ioIn b t .ports .lines = omega arith in
+        none-common x y e below own (blockOf (m .other)) (answers (m .other) u′ (m .other-in) refl)
+        (answers (m .other) u (m .one-in) (sym (rw (min-eq-left fewer) at (m .equal))))

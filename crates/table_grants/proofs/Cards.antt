@@ -1,36 +1,23 @@
 -- The cards are sound exactly if each mark is one and there is none from the count of sockets on; and marks or-ed together, less their lowest bits, are 0
 -- exactly if each is 0 or 1. Assumes nothing.
-use Rattle.facts.proofs.Words.{_≡_, ap, _∙_, List, ℕ, _+_, _-_, _/_, _≤_, _<_, decLt, arith, bitOr, eqb, Says}
+use Rattle.facts.proofs.Words.{_≡_, List, ℕ, _+_, _-_, _/_, _≤_, ℕ-discrete, decLt, arith, bitOr, eqb, Says}
 use Rattle.facts.specs.{byte}
-use Rattle.facts.proofs.{says-as, says-eq}
+use Rattle.facts.proofs.{told, says-as, says-eq}
 use Rattle.layout.specs.{cardsAt, socketsIn}
 use Rattle.table_read.proofs.{All, all-more, or-says}
 use Rattle.table_grants.specs.{CardsMarked, CardsEnd, CardsSound}
 
 module _ (b : List ℕ) where
-  pub sound-marked : CardsSound b → CardsMarked b
-  sound-marked c s l = c s l .mark
-
   pub sound-end : CardsSound b → CardsEnd b
   sound-end c i f l =
       let s = i - cardsAt in
       let card = c s (omega arith) in
       let here : i ≡ cardsAt + s = omega arith in
-      ap (byte b) here ∙ none s (omega arith) (card .mark) (card .socket)
-    where
-      none : (s : ℕ) → socketsIn b ≤ s → byte b (cardsAt + s) ≤ 1 → (byte b (cardsAt + s) ≡ 1 → s < socketsIn b) → byte b (cardsAt + s) ≡ 0
-      none s h m k = below-or-not (decLt (byte b (cardsAt + s)) 1)
-        where
-          below-or-not : Dec (byte b (cardsAt + s) < 1) → byte b (cardsAt + s) ≡ 0
-          below-or-not (yes n) = omega arith
-          below-or-not (no n) = absurd (omega (arith, k (omega arith)))
+      rw here (told (ℕ-discrete (byte b (cardsAt + s)) 0) (λ n. omega (arith, card .socket (omega (arith, card .mark)))))
 
   pub marked-sound : CardsMarked b → CardsEnd b → CardsSound b
-  marked-sound m e s l = record { mark = m s l; socket = below-or-not (decLt s (socketsIn b)) }
-    where
-      below-or-not : Dec (s < socketsIn b) → byte b (cardsAt + s) ≡ 1 → s < socketsIn b
-      below-or-not (yes h) k = h
-      below-or-not (no h) k = absurd (omega (arith, e (cardsAt + s) (omega arith) (omega arith)))
+  marked-sound m e s l =
+      record { mark = m s l; socket = λ k. told (decLt s (socketsIn b)) (λ n. omega (arith, e (cardsAt + s) (omega arith) (omega arith))) }
 
   -- a mark is 0 or 1 exactly if its half is 0
   abbrev pub Marked : ℕ → Type 0

@@ -10,17 +10,10 @@ use Rattle.table_grants.specs.{CoversBelow}
 -- the set of all below n
 pub all-bits : (n k : ℕ) → k < n → bit (2 ^ n - 1) k ≡ 1
 all-bits n k l =
+    let more = n - k - 1 in
+    let here : n ≡ suc more + k = omega arith in
     ap (λ (m : ℕ). bit (2 ^ m - 1) k) here ∙ ap (λ (m : ℕ). bit m k) (ones-split (suc more) k)
-    ∙ ap (λ (m : ℕ). m % 2) (high (2 ^ suc more - 1) k (ones-lt k)) ∙ odd
-  where
-    more : ℕ
-    more = n - k - 1
-
-    here : n ≡ suc more + k
-    here = omega arith
-
-    odd : (2 ^ suc more - 1) % 2 ≡ 1
-    odd = omega (arith, pow-suc 2 more, pow-pos more)
+    ∙ ap (λ (m : ℕ). m % 2) (high (2 ^ suc more - 1) k (ones-lt k)) ∙ omega (arith, pow-suc 2 more, pow-pos more)
 
 -- a number that is not 0 has a bit
 some-bit : (n : ℕ) → n ≢ 0 → (k : ℕ) × (bit n k ≡ 1)

@@ -5,7 +5,7 @@ pub mod Covering
 pub mod Manners
 pub mod Records
 pub use Blocks.{blocks-within, own-blocks, blocks-apart}
-pub use Cards.{sound-marked, sound-end, marked-sound, Marked, marks-more}
+pub use Cards.{sound-end, marked-sound, Marked, marks-more}
 pub use Covering.{all-bits, covers-none, covers-more}
 pub use Manners.{own-held, apart-against, held-says}
 pub use Records.{long-zero, zero-long, zero-sound, lines-held, ports-say, HeldFits, held-fits, held-port, held-lines}

@@ -1,11 +1,10 @@
 -- Four bytes are zero where the number that they say is; records that are all zero are sound and keep company; and what is held
 -- at a seat is what its record says. Assumes nothing.
-use Rattle.facts.proofs.Words.{_≡_, ap, sym, subst, _∙_, _⊎_, inl, _≢_, List, ℕ, _+_, _-_, _≤_, _<_, arith, Ports, Bool, Says}
+use Rattle.facts.proofs.Words.{_≡_, ap, sym, subst, _∙_, _⊎_, inl, _≢_, List, ℕ, _+_, _-_, _≤_, _<_, add-zero, arith, Ports, Bool, Says}
 use Rattle.facts.specs.{mostSeats, byte, word, long, Seat, mostLines, IoGrant, allPorts, mostAsked}
 use Rattle.facts.proofs.{says-as}
-use Rattle.layout.proofs.{ports-are, used-sound}
+use Rattle.layout.proofs.{below-at, ports-are, used-sound}
 use Rattle.layout.specs.{portsIn, Zero, IoPlaceSound, IoSound, ioPlace, ioBaseAt, ioCountAt, ioSize, ioLinesAt, IoUsed}
-use Rattle.table_read.proofs.{All, all-none, all-more}
 use Rattle.seats.specs.declared.HeldPorts.{HeldPorts}
 use Rattle.seats.specs.declared.IoSeat.the-variants.{Held}
 use Rattle.seats.specs.{HeldIs, range}
@@ -13,20 +12,13 @@ use Rattle.table_grants.specs.{PortsSound, SeatSound}
 
 -- four bytes are zero exactly if the number that they say is
 module _ (b : List ℕ) (at to : ℕ) (n : to ≡ at + 4) where
-  abbrev Spare : ℕ → Type 0
-  Spare k = byte b (at + k) ≡ 0
-
-  spare : (k p : ℕ) → byte b p ≡ 0 → at + k ≡ p → Spare k
-  spare k p z s = ap (byte b) s ∙ z
-
   pub long-zero : long b at ≡ 0 → Zero b at to
-  long-zero e i f l = let here : i ≡ at + (i - at) = omega arith in ap (byte b) here ∙ each (i - at) (omega arith)
-    where
-      two : All 2 Spare
-      two = all-more {P = Spare} (all-more {P = Spare} (all-none Spare) (spare 0 at (omega (arith, e)) (omega arith))) (omega (arith, e))
-
-      each : All 4 Spare
-      each = all-more {P = Spare} (all-more {P = Spare} two (omega (arith, e))) (spare 3 (at + 2 + 1) (omega (arith, e)) (omega arith))
+  long-zero e i f l =
+      let here : i ≡ at + (i - at) = omega arith in
+      let last : at + 3 ≡ at + 2 + 1 = omega arith in
+      ap (byte b) here
+      ∙ below-at 4 (λ k. byte b (at + k) ≡ 0)
+      ((((tt, rw (add-zero at) (omega (arith, e))), omega (arith, e)), omega (arith, e)), rw last (omega (arith, e))) (i - at) (omega arith)
 
   pub zero-long : Zero b at to → long b at ≡ 0
   zero-long z =

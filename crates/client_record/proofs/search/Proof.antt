@@ -1,6 +1,6 @@
 -- `client_record::search` meets its contract: none of the clients passed has the handle.
 -- Assumes nothing.
-use Rattle.facts.proofs.Words.{_≡_, sym, _∙_, _-_, arith}
+use Rattle.facts.proofs.Words.{_≡_, _∙_, _-_, arith, needs}
 use Rattle.layout.specs.{handleIn}
 use Rattle.table_read.proofs.{SoFar, so-far-none, so-far-more}
 use Rattle.client_record.proofs.search.Tie as tie
@@ -15,9 +15,6 @@ abbrev μ-loop : tie.MeasureT-loop
 abbrev turn : tie.After-struct-known Inv-loop μ-loop → tie.At-loop Inv-loop μ-loop
 turn c = c .before .before .before
 
-returns : tie.Need-returns Inv-loop μ-loop
-returns c = record { listed = omega arith; handle = sym (c .before .before .handle .ensures) ∙ c .if1 .taken }
-
 loop-again : tie.Need-loop-again Inv-loop μ-loop
 loop-again c = so-far-more (turn (c .before) .loop .inv) (omega arith) (λ e. c .if1 .left (c .before .before .handle .ensures ∙ e))
 
@@ -27,5 +24,5 @@ returns-2 c = λ l. c .before .loop .inv .each (l .0) (omega (arith, l .1)) (l .
 pub search-spec : {M : Type 1} → Rattle.client_record.proofs.search.Statement.statement M
 search-spec =
     tie.close
-    (tie.spec Inv-loop μ-loop (λ c κs. omega arith) (λ c. so-far-none) (λ c. omega arith) (λ c. omega arith) (λ c κs. omega arith) returns
+    (tie.spec Inv-loop μ-loop (λ c κs. omega arith) (λ c. so-far-none) (λ c. omega arith) (λ c. omega arith) (λ c κs. omega arith) (λ c. search needs)
     (λ c. omega arith) (λ c. omega arith) loop-again returns-2)

@@ -23,13 +23,8 @@ returns-2 c =
 
 returns-3 : tie.Need-returns-3
 returns-3 c =
-    let asked = c .before .before in
-    record {
-      attributes-are = asked .before .before .word .ensures .0;
-      events-are = asked .before .word2 .ensures .0;
-      attributes-allowed = says-yes (allowed asked) (c .before .if1 .left);
-      events-allowed = omega (arith, c .if2 .left, asked .before .word2 .ensures .0);
-    }
+    let good = says-yes (allowed (c .before .before)) (c .before .if1 .left) in
+    search needs
 
 pub asks-spec : {M : Type 1} → Rattle.client_services.proofs.asks.Statement.statement M
 asks-spec =

@@ -9,9 +9,6 @@ use Rattle.managed_holders.proofs.joined.Tie as tie
 abbrev first : tie.At-match2-keys1 → tie.After-some
 first c = c .before .before
 
-returns : tie.Need-returns
-returns c = rw (c .enum-told .given .1) refl
-
 returns-2 : tie.Need-returns-2
 returns-2 c = rw (c .enum-told2 .given .1, c .before .before .before .some .given .1) refl
 
@@ -24,5 +21,5 @@ returns-3 c =
 pub joined-spec : {M : Type 1} → Rattle.managed_holders.proofs.joined.Statement.statement M
 joined-spec =
     tie.close
-    (tie.spec (λ c. search needs) (λ c. search needs) returns (λ c. search needs) (λ c. search needs) returns-2 (λ c κs. search needs)
+    (tie.spec (λ c. search needs) (λ c. search needs) (λ c. search needs) (λ c. search needs) (λ c. search needs) returns-2 (λ c κs. search needs)
     (λ c κs. search needs) returns-3)

@@ -29,23 +29,13 @@ returns : tie.Need-returns
 returns c =
     let told = read c .before .before in
     asked-at (lent told .before .args .w) Short (told .enum-told .given .1) (now (lent told .before .args .p))
-    (record {
-      base-is = read c .before .word .ensures .0;
-      count-is = read c .byte .ensures .0;
-      attributes-are = refl;
-      lines-are = refl;
-    })
+    (search needs)
 
 returns-2 : tie.Need-returns-2
 returns-2 c =
     let told = read2 c .before .before in
     asked-at (lent2 told .before .args .w) Wide (told .enum-told2 .given .1) (now (lent2 told .before .args .p))
-    (record {
-      base-is = read2 c .before .long .ensures .0;
-      count-is = read2 c .long2 .ensures .0;
-      attributes-are = refl;
-      lines-are = refl;
-    })
+    (search needs)
 
 pub asked-spec : {M : Type 1} → Rattle.managed_packets.proofs.asked.Statement.statement M
 asked-spec =

@@ -45,14 +45,9 @@ returns-4 c =
     let within = c .before .before in
     let look = within .before .before in
     let is = right (look .before) in
-    record {
-      base-is = refl;
-      count-is = refl;
-      lines-are = lines (lined (look .before));
-      least = is .0;
-      most = is .1;
-      within = rw (within .enum-told5 .given .1) at (look .reaches .ensures);
-    }
+    let all = lines (lined (look .before)) in
+    let reach = rw (within .enum-told5 .given .1) at (look .reaches .ensures) in
+    search needs
 
 pub ports-named-spec : {M : Type 1} → Rattle.managed_ranges.proofs.ports_named.Statement.statement M
 ports-named-spec =

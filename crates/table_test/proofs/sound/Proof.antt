@@ -38,8 +38,7 @@ returns c = says-false (λ s. c .if1 .taken (s .size))
 
 returns-2 : tie.Need-returns-2
 returns-2 c =
-    says-false-by (c .before .counts-sound .ensures) (c .if2 .taken)
-    (λ s. record { sockets-least = s .sockets-least; sockets-most = s .sockets-most; clients-most = s .clients-most; ranges-most = s .ranges-most })
+    says-false-by (c .before .counts-sound .ensures) (c .if2 .taken) (λ s. search needs)
 
 returns-3 : tie.Need-returns-3
 returns-3 c = says-false-by (c .before .levels-sound .ensures) (c .if3 .taken) (λ s. s .levels)
@@ -90,7 +89,7 @@ returns-7 c =
       io-company = λ i j l m. sockets .ios i l .company j m;
       irq-company = λ i j l m. sockets .irqs i l .company j m;
     })
-    (λ s. record { clients-end = s .clients-end; ranges-end = s .ranges-end })
+    (λ s. search needs)
 
 pub sound-spec : {M : Type 1} → Rattle.table_test.proofs.sound.Statement.statement M
 sound-spec =

@@ -23,11 +23,6 @@ counted c = c .before
 abbrev start : tie.After-byte Inv-loop μ-loop → tie.Start Inv-loop μ-loop
 start c = c .before .before
 
-lines-at-requires : tie.Need-lines-at-requires Inv-loop μ-loop
-lines-at-requires c κs =
-    let k = counted (c .before) in
-    let pre = start k .pre in (pre .0, omega (arith, c .loop-test .taken, k .byte .ensures .0, pre .1 .sockets-most))
-
 loop-again : tie.Need-loop-again Inv-loop μ-loop
 loop-again c =
     let k = turn c in
@@ -39,5 +34,5 @@ returns c = λ s l u. let k = c .before in k .loop .inv s (omega (arith, counted
 pub fewest-lines-spec : {M : Type 1} → Rattle.table_grants.proofs.ios.fewest_lines.Statement.statement M
 fewest-lines-spec =
     tie.close
-    (tie.spec Inv-loop μ-loop (λ c κs. omega (arith, c .before .pre .0)) (λ c. all-none _) lines-at-requires (λ c κs. search needs)
+    (tie.spec Inv-loop μ-loop (λ c κs. omega (arith, c .before .pre .0)) (λ c. all-none _) (λ c κs. search needs) (λ c κs. search needs)
     (λ c. omega arith) (λ c. omega arith) loop-again returns)

@@ -1,6 +1,6 @@
 -- `table_grants::ios::io_place_sound` meets its contract: a record without a client is zero, and one with a client is a grant if each test passes.
 -- Assumes nothing.
-use Rattle.facts.proofs.Words.{_≡_, sym, ap, _∙_, subst, inl, ⊎-elim, List, ℕ, _+_, arith, needs, now}
+use Rattle.facts.proofs.Words.{_≡_, sym, ap, _∙_, subst, inl, ⊎-elim, List, ℕ, _+_, _≤_, arith, needs, now}
 use Rattle.facts.specs.{byte, word, long}
 use Rattle.facts.proofs.{says-as, says-yes, says-no}
 use Rattle.layout.specs.{ioSize, ioPlace, ioSharedAt, ioSpareAt, Zero, IoUsed, LiveIn}
@@ -74,9 +74,6 @@ returns-3 c =
     let begin = spared (c .before .before) in
     place-false (used begin) (λ g. omega (arith, c .if3 .taken, rw (place (looked begin)) at (c .before .byte .ensures .0), g .mark))
 
-holder-sound-requires : tie.Need-holder-sound-requires
-holder-sound-requires c κs = let pre = start (looked (asked c)) .pre .0 in (pre .0, pre .2 .clients-most)
-
 returns-4 : tie.Need-returns-4
 returns-4 c =
     let read = c .before .before in
@@ -99,38 +96,15 @@ returns-5 c =
     let free = marked test in
     let k = looked (spared free) in
     let at = ioPlace (seat k) in
-    place-says (used (spared free)) (c .ports-sound .ensures)
-    (λ p. (
-      p .0,
-      record {
-        client = h .live;
-        socket = h .socket;
-        base = p .1 .base;
-        port = p .1 .port;
-        line = p .1 .line;
-        lines = p .1 .lines;
-        decoded = p .1 .decoded;
-        managed = p .1 .managed .own;
-        answers = p .1 .managed .answers;
-        mark = omega (arith, test .if3 .left, test .before .byte .ensures .0 ∙ ap (λ (p : ℕ). byte (table k) (p + ioSharedAt)) (place k));
-        spare = long-zero (table k) (at + ioSpareAt) (at + ioSize) (omega arith) (sym (free .before .long .ensures .0 ∙ ap (λ (p : ℕ). long (table k) (p + ioSpareAt)) (place k)) ∙ free .if2 .left);
-      },
-    ))
-    (λ g. (
-      there (spared free),
-      record {
-        base = g .base;
-        port = g .port;
-        line = g .line;
-        lines = g .lines;
-        decoded = g .decoded;
-        managed = record { own = g .managed; answers = g .answers };
-      },
-    ))
+    let b = table k in
+    let mark : byte b (at + ioSharedAt) ≤ 1 = omega (arith, test .if3 .left, test .before .byte .ensures .0 ∙ ap (λ (p : ℕ). byte b (p + ioSharedAt)) (place k)) in
+    let none = sym (free .before .long .ensures .0 ∙ ap (λ (p : ℕ). long b (p + ioSpareAt)) (place k)) ∙ free .if2 .left in
+    let spare = long-zero b (at + ioSpareAt) (at + ioSize) (omega arith) none in
+    place-says (used (spared free)) (c .ports-sound .ensures) (λ p. (p .0, search needs)) (λ g. (there (spared free), search needs))
 
 pub io-place-sound-spec : {M : Type 1} → Rattle.table_grants.proofs.ios.io_place_sound.Statement.statement M
 io-place-sound-spec =
     tie.close
     (tie.spec (λ c κs. search needs) (λ c κs. search needs) (λ c. search needs) (λ c κs. search needs) returns (λ c. search needs)
-    (λ c κs. search needs) returns-2 (λ c. search needs) (λ c κs. search needs) returns-3 (λ c κs. search needs) holder-sound-requires returns-4
+    (λ c κs. search needs) returns-2 (λ c. search needs) (λ c κs. search needs) returns-3 (λ c κs. search needs) (λ c κs. search needs) returns-4
     ports-sound-requires returns-5)

@@ -42,17 +42,8 @@ managed-requires c κs =
 returns-7 : tie.Need-returns-7
 returns-7 c =
     let power = c .before .before in
-    ports-say _ _ _ (there (lined (within power)))
-    (says-as (c .managed .ensures)
-    (λ m. record {
-      base = omega arith;
-      port = omega arith;
-      line = omega arith;
-      lines = power .before .if4 .left;
-      decoded = rw (power .power .ensures) at (c .before .if5 .left);
-      managed = m;
-    })
-    (λ p. p .managed))
+    let decoded = rw (power .power .ensures) at (c .before .if5 .left) in
+    ports-say _ _ _ (there (lined (within power))) (says-as (c .managed .ensures) (λ m. search needs) (λ p. p .managed))
 
 pub ports-sound-spec : {M : Type 1} → Rattle.table_grants.proofs.ios.ports_sound.Statement.statement M
 ports-sound-spec =

@@ -56,11 +56,6 @@ returns-4 c =
     let begin = levelled (managed (c .before .before)) in
     place-false (used begin) (λ g. omega (arith, c .if4 .taken, rw (place (found begin)) at (c .before .byte3 .ensures .0), g .manner))
 
-irq-holder-sound-requires : tie.Need-irq-holder-sound-requires
-irq-holder-sound-requires c κs =
-    let pre = start (found (levelled (managed (mannered (c .before))))) .pre in
-    (pre .0 .0, pre .0 .2 .clients-most, pre .0 .1, pre .1)
-
 returns-5 : tie.Need-returns-5
 returns-5 c =
     let read = c .before in
@@ -88,4 +83,4 @@ irq-place-sound-spec =
     tie.close
     (tie.spec (λ c κs. search needs) (λ c. search needs) (λ c κs. search needs) returns (λ c. search needs) (λ c κs. search needs) returns-2
     (λ c. search needs) (λ c. search needs) (λ c κs. search needs) returns-3 (λ c. search needs) (λ c κs. search needs) returns-4
-    (λ c κs. search needs) irq-holder-sound-requires returns-5)
+    (λ c κs. search needs) (λ c κs. search needs) returns-5)

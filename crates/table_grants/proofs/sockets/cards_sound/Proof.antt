@@ -2,13 +2,11 @@
 -- Assumes nothing.
 use Rattle.facts.proofs.Words.{needs, now}
 use Rattle.facts.proofs.{says-as, says-yes, says-false-by}
-use Rattle.table_grants.proofs.{sound-marked, sound-end, marked-sound}
+use Rattle.table_grants.proofs.{sound-end, marked-sound}
 use Rattle.table_grants.proofs.sockets.cards_sound.Tie as tie
 
 returns : tie.Need-returns
-returns c =
-    let tested = c .before in
-    says-false-by (tested .cards-marked .ensures) (c .if1 .taken) (sound-marked (now (tested .before .before .args .t)))
+returns c = says-false-by (c .before .cards-marked .ensures) (c .if1 .taken) (λ p s l. p s l .mark)
 
 returns-2 : tie.Need-returns-2
 returns-2 c =
