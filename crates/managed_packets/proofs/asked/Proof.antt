@@ -1,22 +1,15 @@
 -- `managed_packets::asked` meets its contract at either width: each field stands where the packet has it.
 -- Assumes nothing.
-use Rattle.facts.proofs.Words.{_≡_, refl, ap, _∙_, arith, needs, length, now}
+use Rattle.facts.proofs.Words.{_≡_, arith, needs, length, now}
 use Rattle.facts.specs.{Short, Wide, ioAdjustLength}
-use Rattle.managed_packets.proofs.{asked-at}
 use Rattle.managed_packets.proofs.asked.Tie as tie
 
 -- the packet is short, or wide
-abbrev lent : tie.After-enum-told → tie.After-shared-slice-known
-lent c = c .before .before
+short : (c : tie.After-enum-told) → length (now (c .before .before .before .args .p)) ≡ ioAdjustLength Short
+short c = rw (c .enum-told .given .1) at (c .before .before .before .pre)
 
-short : (c : tie.After-enum-told) → length (now (lent c .before .args .p)) ≡ ioAdjustLength Short
-short c = lent c .before .pre ∙ ap ioAdjustLength (c .enum-told .given .1)
-
-abbrev lent2 : tie.After-enum-told2 → tie.After-shared-slice-known
-lent2 c = c .before .before
-
-wide : (c : tie.After-enum-told2) → length (now (lent2 c .before .args .p)) ≡ ioAdjustLength Wide
-wide c = lent2 c .before .pre ∙ ap ioAdjustLength (c .enum-told2 .given .1)
+wide : (c : tie.After-enum-told2) → length (now (c .before .before .before .args .p)) ≡ ioAdjustLength Wide
+wide c = rw (c .enum-told2 .given .1) at (c .before .before .before .pre)
 
 -- where its numbers are read
 abbrev read : tie.After-shared-slice-known3 → tie.After-byte
@@ -26,16 +19,10 @@ abbrev read2 : tie.After-shared-slice-known5 → tie.After-long2
 read2 c = c .before .before
 
 returns : tie.Need-returns
-returns c =
-    let told = read c .before .before in
-    asked-at (lent told .before .args .w) Short (told .enum-told .given .1) (now (lent told .before .args .p))
-    (search needs)
+returns c = let told = read c .before .before in rw (told .enum-told .given .1) (search needs)
 
 returns-2 : tie.Need-returns-2
-returns-2 c =
-    let told = read2 c .before .before in
-    asked-at (lent2 told .before .args .w) Wide (told .enum-told2 .given .1) (now (lent2 told .before .args .p))
-    (search needs)
+returns-2 c = let told = read2 c .before .before in rw (told .enum-told2 .given .1) (search needs)
 
 pub asked-spec : {M : Type 1} → Rattle.managed_packets.proofs.asked.Statement.statement M
 asked-spec =
