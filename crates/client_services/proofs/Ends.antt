@@ -9,7 +9,8 @@ use Rattle.layout.proofs.{entered-image, withdrawn-image, mask-socket, mask-sai
 use Rattle.client_record.specs.{ListedAt}
 use Rattle.client_services.specs.declared.ClientAsked.the-variants.{Bad}
 use Rattle.client_services.specs.declared.Room.the-variants.{Full}
-use Rattle.client_services.specs.{Asks, AsksFor, NextIs, RoomIs, HeldBy, MaskHeldIn, HoldsSome, Withdrawn}
+use Rattle.seats.specs.{HeldBy}
+use Rattle.client_services.specs.{Asks, AsksFor, NextIs, RoomIs, MaskHeldIn, HoldsSome, Withdrawn}
 
 -- the rules, of a packet
 abbrev Registers : List ℕ → Facts → Outcome → Type 0

@@ -2,18 +2,18 @@
 use mathlib.Core.Path.{_≡_}
 use mathlib.Core.Logic.{_⊎_}
 use mathlib.Core.List.{List}
-use mathlib.Core.Option.{Option, none, some}
 use Prim.Native.Nat.{ℕ, _+_, _≤_, _<_}
 use Rattle.facts.specs.Table
-use Rattle.facts.specs.Table.{Facts, Seat, IoGrant, IrqGrant}
+use Rattle.facts.specs.Table.{Facts, Seat}
 use Rattle.facts.specs.Packets.{word}
 use Rattle.facts.specs.WellFormed.{AttributesAllowed, EventsAllowed}
 use Rattle.facts.specs.Clients.{Register, Deregister}
 use Rattle.layout.specs.Layout
-use Rattle.layout.specs.Reading.{clientsIn, issuedIn, clientPlace, factsIn}
+use Rattle.layout.specs.Reading.{clientsIn, issuedIn, clientPlace}
 use Rattle.layout.specs.Sound.{MaskUsed}
 use Rattle.layout.specs.Changed.{TakenOut}
 use Rattle.layout.specs.Served.{ServedBy}
+use Rattle.seats.specs.Seats.{IoHeldBy, IrqHeldBy}
 use Rattle.service_answers.specs.declared.Answer.{Answer}
 use Rattle.service_answers.specs.Answers.{codeOf, handleOf}
 use Rattle.client_services.specs.declared.ClientAsked.{ClientAsked}
@@ -45,18 +45,13 @@ abbrev pub RoomIs : List ℕ → Room → Type 0
 RoomIs b (Next n h) = NextIs b n (h .0)
 RoomIs b Full = (Table.mostClients ≤ clientsIn b) ⊎ (Table.mostIssued ≤ issuedIn b)
 
--- there is a grant, and its client is h
-abbrev pub HeldBy : {G : Type 0} → (G → ℕ) → ℕ → Option G → Type 0
-HeldBy client h none = ⊥
-HeldBy client h (some g) = client g ≡ h
-
--- the client h holds a grant at the seat s
-abbrev pub GrantAt : Facts → ℕ → Seat → Type 0
-GrantAt F h s = HeldBy (λ (g : IoGrant). g .client) h (F .io s) ⊎ HeldBy (λ (g : IrqGrant). g .client) h (F .irq s)
+-- the bytes say that the client h holds a grant at the seat s
+abbrev pub GrantAt : List ℕ → ℕ → Seat → Type 0
+GrantAt b h s = IoHeldBy b h s ⊎ IrqHeldBy b h s
 
 -- it does at some seat
-abbrev pub GrantHeld : Facts → ℕ → Type 0
-GrantHeld F h = (s : Seat) × (s < Table.mostSeats) × GrantAt F h s
+abbrev pub GrantHeld : List ℕ → ℕ → Type 0
+GrantHeld b h = (s : Seat) × (s < Table.mostSeats) × GrantAt b h s
 
 -- the client listed in the place i has a mask
 abbrev pub MaskHeldIn : List ℕ → ℕ → Type 0
@@ -64,7 +59,7 @@ MaskHeldIn b i = (s : Seat) × (s < Table.mostSeats) × MaskUsed b i s
 
 -- the client listed in the place i, whose handle is h, holds something
 abbrev pub HoldsSome : List ℕ → ℕ → ℕ → Type 0
-HoldsSome b i h = GrantHeld (factsIn b) h ⊎ MaskHeldIn b i
+HoldsSome b i h = GrantHeld b h ⊎ MaskHeldIn b i
 
 abbrev pub HeldIs : List ℕ → ℕ → ℕ → Held → Type 0
 HeldIs b i h Something = HoldsSome b i h

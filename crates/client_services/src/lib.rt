@@ -14,8 +14,6 @@ use layout::MOST_CLIENTS;
 use layout::MOST_ISSUED;
 use layout::MOST_SEATS;
 use layout::RANGES_AT;
-use seats::IoSeat;
-use seats::IrqSeat;
 use service_answers::Answer;
 use service_checks::Size;
 ghost use mathlib.Core.Path.{_≡_};
@@ -25,7 +23,7 @@ ghost use Rattle.facts.specs.Table;
 ghost use Rattle.facts.specs.Says.{Says};
 ghost use Rattle.facts.specs.Clients.{registerLength};
 ghost use Rattle.layout.specs.Layout.{tableSize};
-ghost use Rattle.layout.specs.Reading.{clientsIn, factsIn};
+ghost use Rattle.layout.specs.Reading.{clientsIn};
 ghost use Rattle.layout.specs.Sound.{Accepted};
 ghost use Rattle.layout.specs.Changed.{entered};
 ghost use Rattle.client_services.specs.Clients.{AsksFor, RoomIs, GrantAt, GrantHeld, MaskHeldIn, HeldIs, Withdrawn, RegisterServed};
@@ -117,24 +115,17 @@ pub fn register(t: &mut [u8], p: &[u8]) -> Answer
 // Whether the client holds a grant at the seat.
 fn grant_on(t: &[u8], s: Seat, h: Handle) -> bool
     requires { ⌜ (length (now t) ≡ tableSize) × (s .0 < Table.mostSeats) ⌝ }
-    ensures { λ r. ⌜ Says r (GrantAt (factsIn (now (t .entry))) (h .0) (s .0)) ⌝ }
+    ensures { λ r. ⌜ Says r (GrantAt (now (t .entry)) (h .0) (s .0)) ⌝ }
 {
-    if let IoSeat::Held(x) = seats::held(t, s) {
-        let holder = x.client;
-        if holder.0 == h.0 {
-            return true;
-        }
+    if seats::io_held_by(t, s, h) {
+        return true;
     }
-    let IrqSeat::Held(x) = seats::level_held(t, s) else {
-        return false;
-    };
-    let holder = x.client;
-    holder.0 == h.0
+    seats::irq_held_by(t, s, h)
 }
 
 fn grant_held(t: &[u8], h: Handle) -> bool
     requires { ⌜ length (now t) ≡ tableSize ⌝ }
-    ensures { λ r. ⌜ Says r (GrantHeld (factsIn (now (t .entry))) (h .0)) ⌝ }
+    ensures { λ r. ⌜ Says r (GrantHeld (now (t .entry)) (h .0)) ⌝ }
 {
     for s in 0..MOST_SEATS {
         if grant_on(t, Seat(s), h) {

@@ -5,7 +5,7 @@ use mathlib.Core.Option.{Option, none, some}
 use Prim.Native.Nat.{ℕ}
 use Rattle.facts.specs.Table
 use Rattle.facts.specs.Table.{Seat, IrqGrant}
-use Rattle.layout.specs.Reading.{ioIn, irqIn}
+use Rattle.layout.specs.Reading.{ioIn, irqIn, factsIn}
 use Rattle.layout.specs.Sound.{IoUsed, IrqUsed}
 use Rattle.seats.specs.declared.HeldPorts.{HeldPorts}
 use Rattle.seats.specs.declared.HeldLevel.{HeldLevel}
@@ -38,3 +38,15 @@ ioAt io.Free = none
 abbrev pub irqAt : IrqSeat → Option IrqGrant
 irqAt (irq.Held x) = some (grant x)
 irqAt irq.Free = none
+
+-- there is a grant, and its client is h
+abbrev pub HeldBy : {G : Type 0} → (G → ℕ) → ℕ → Option G → Type 0
+HeldBy client h none = ⊥
+HeldBy client h (some g) = client g ≡ h
+
+-- the bytes say that the client h holds the I/O grant at the seat, or its IRQ grant
+abbrev pub IoHeldBy : List ℕ → ℕ → Seat → Type 0
+IoHeldBy b h s = HeldBy (λ (g : Table.IoGrant). g .client) h (factsIn b .io s)
+
+abbrev pub IrqHeldBy : List ℕ → ℕ → Seat → Type 0
+IrqHeldBy b h s = HeldBy (λ (g : IrqGrant). g .client) h (factsIn b .irq s)

@@ -17,9 +17,10 @@ ghost use mathlib.Core.Path.{_≡_};
 ghost use Prim.Native.Nat.{_+_, _<_, _≤_};
 ghost use lib.ListN.{length};
 ghost use Rattle.facts.specs.Table;
+ghost use Rattle.facts.specs.Says.{Says};
 ghost use Rattle.layout.specs.Layout.{tableSize, ioSize, irqSize};
 ghost use Rattle.layout.specs.Reading.{ioPlace, irqPlace};
-ghost use Rattle.seats.specs.Seats.{HeldIs, LevelHeldIs};
+ghost use Rattle.seats.specs.Seats.{HeldIs, LevelHeldIs, IoHeldBy, IrqHeldBy};
 
 // Where the record of a seat's I/O grant begins, and that of its IRQ grant.
 pub fn io_place(s: Seat) -> usize
@@ -78,6 +79,18 @@ pub fn held(t: &[u8], s: Seat) -> IoSeat
     })
 }
 
+// Whether the client holds the seat's I/O grant. Nobody's handle holds none.
+pub fn io_held_by(t: &[u8], s: Seat, client: Handle) -> bool
+    requires { ⌜ (length (now t) ≡ tableSize) × (s .0 < Table.mostSeats) ⌝ }
+    ensures { λ r. ⌜ Says r (IoHeldBy (now (t .entry)) (client .0) (s .0)) ⌝ }
+{
+    if client.0 == NOBODY {
+        return false;
+    }
+    let holder = table_read::handle(t, io_place(s));
+    holder.0 == client.0
+}
+
 // A level that is held: by this client, in this manner.
 pub struct HeldLevel {
     pub client: Handle,
@@ -107,4 +120,16 @@ pub fn level_held(t: &[u8], s: Seat) -> IrqSeat
         level,
         manner,
     })
+}
+
+// Whether the client holds the seat's IRQ grant.
+pub fn irq_held_by(t: &[u8], s: Seat, client: Handle) -> bool
+    requires { ⌜ (length (now t) ≡ tableSize) × (s .0 < Table.mostSeats) ⌝ }
+    ensures { λ r. ⌜ Says r (IrqHeldBy (now (t .entry)) (client .0) (s .0)) ⌝ }
+{
+    if client.0 == NOBODY {
+        return false;
+    }
+    let holder = table_read::handle(t, irq_place(s));
+    holder.0 == client.0
 }

@@ -1,14 +1,13 @@
 -- Four bytes are zero where the number that they say is; records that are all zero are sound and keep company; and what is held
 -- at a seat is what its record says. Assumes nothing.
-use Rattle.facts.proofs.Words.{_≡_, ap, sym, subst, _∙_, _⊎_, inl, _≢_, List, ℕ, _+_, _-_, _≤_, _<_, add-zero, arith, Ports, Bool, Says}
+use Rattle.facts.proofs.Words.{_≡_, ap, _∙_, _⊎_, inl, _≢_, List, ℕ, _+_, _-_, _≤_, _<_, add-zero, arith, Ports}
 use Rattle.facts.specs.{mostSeats, byte, word, long, Seat, mostLines, IoGrant, allPorts, mostAsked}
-use Rattle.facts.proofs.{says-as}
 use Rattle.layout.proofs.{below-at, ports-are, used-sound}
-use Rattle.layout.specs.{portsIn, Zero, IoPlaceSound, IoSound, ioPlace, ioBaseAt, ioCountAt, ioSize, ioLinesAt, IoUsed}
+use Rattle.layout.specs.{portsIn, Zero, IoPlaceSound, IoSound, ioPlace, ioBaseAt, ioCountAt, ioSize, ioLinesAt, ioIn}
 use Rattle.seats.specs.declared.HeldPorts.{HeldPorts}
 use Rattle.seats.specs.declared.IoSeat.the-variants.{Held}
 use Rattle.seats.specs.{HeldIs, range}
-use Rattle.table_grants.specs.{PortsSound, SeatSound}
+use Rattle.table_grants.specs.{SeatSound}
 
 -- four bytes are zero exactly if the number that they say is
 module _ (b : List ℕ) (at to : ℕ) (n : to ≡ at + 4) where
@@ -60,8 +59,9 @@ module _ (b : List ℕ) (s : Seat) (x : HeldPorts) (h : HeldIs b s (Held x)) whe
   pub lines-held : x .lines ≡ byte b (ioPlace s + ioLinesAt)
   lines-held = ap (λ (p : Ports). p .lines) ports-held
 
-  pub ports-say : {r : Bool} → Says r (PortsSound b (range x .ports)) → Says r (IoUsed b s × PortsSound b (portsIn b (ioPlace s)))
-  ports-say p = says-as p (λ p. (h .0, subst (PortsSound b) ports-held p)) (λ q. subst (PortsSound b) (sym ports-held) (q .1))
+  pub client-held : x .client .0 ≡ word b (ioPlace s)
+  unfolding ioIn
+  client-held = ap (λ (y : IoGrant). y .client) (h .1)
 
   pub held-fits : ((i : ℕ) → byte b i ≤ 255) → HeldFits x
   held-fits known =

@@ -2,4 +2,4 @@
 pub mod Company
 pub mod Parts
 pub use Company.{CoversBelow, blockOf, BlocksWithin, AnswersInBlock, heldAs, HoldsAs, HeldBelow, Against}
-pub use Parts.{HolderSound, IoHolder, PortsSound, IosMeet, RowsServe, CardsMarked, CardsEnd, CardsSound, PlacesSound, CompanySound, SeatSound, IosSound}
+pub use Parts.{HolderSound, PortsSound, IosMeet, RowsServe, CardsMarked, CardsEnd, CardsSound, PlacesSound, CompanySound, SeatSound, IosSound}

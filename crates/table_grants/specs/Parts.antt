@@ -17,11 +17,6 @@ pub record HolderSound (b : List ℕ) (client : ℕ) (s : Seat) : Type 0 where
   pub live : LiveIn b client
   pub socket : socketAt s < socketsIn b
 
--- the client holds the I/O grant at the seat s
-pub record IoHolder (b : List ℕ) (s : Seat) (client : ℕ) : Type 0 where
-  pub used : IoUsed b s
-  pub is : word b (ioPlace s) ≡ client
-
 -- "granted .. ports are managed; an I/O grant has base 1 or more, lines 1 to 16 and a count RequestIO allows"; K2: wherever its card answers is managed
 pub record PortsSound (b : List ℕ) (a : Ports) : Type 0 where
   pub base : 1 ≤ a .base

@@ -26,7 +26,8 @@ ghost use Rattle.table_read.specs.Sets.{Covers};
 ghost use Rattle.table_grants.specs.Parts.{PortsSound, IosMeet, PlacesSound, CompanySound, SeatSound, IosSound, LinesAt, FewestLines, RowsServe};
 ghost use Rattle.table_grants.specs.Company.{blockOf, BlocksWithin, AnswersInBlock, CoversBelow};
 
-// Ports stand in blocks, which are counted modulo `BLOCKS`, so that a set of blocks has a bit for each.
+// Ports stand in blocks, which are counted modulo `BLOCKS`, so that a set of blocks has a bit for each: the ports from 2F8H on stand in block 2, and so do
+// those from 42F8H on. Grants with no block in common don't meet, and are not compared.
 const BLOCK: usize = 256;
 
 const BLOCKS: usize = 64;
@@ -37,17 +38,11 @@ const ALL_BLOCKS: u64 = 18446744073709551615;
 const BLOCK_LINES: usize = 14;
 
 // "granted .. ports are managed; an I/O grant has base 1 or more, lines 1 to 16 and a count RequestIO allows"; and wherever its card answers is managed (K2)
-fn ports_sound(t: &[u8], rows: &[u16; ROWS], s: Seat) -> bool
-    requires { ⌜ (length (now t) ≡ tableSize) × (s .0 < Table.mostSeats) × (rangesIn (now t) ≤ Table.mostRanges) × RangesSound (now t) ⌝ }
-    requires { ⌜ GapsAre (now t) (portsIn (now t) (ioPlace (s .0)) .lines) (now rows) ⌝ }
-    ensures { λ r. ⌜ Says r (IoUsed (now (t .entry)) (s .0) × PortsSound (now (t .entry)) (portsIn (now (t .entry)) (ioPlace (s .0)))) ⌝ }
+fn ports_sound(t: &[u8], rows: &[u16; ROWS], base: usize, count: usize, lines: usize) -> bool
+    requires { ⌜ (length (now t) ≡ tableSize) × (rangesIn (now t) ≤ Table.mostRanges) × RangesSound (now t) × GapsAre (now t) lines (now rows) ⌝ }
+    requires { ⌜ (base < Table.allPorts) × (count ≤ Table.mostAsked) ⌝ }
+    ensures { λ r. ⌜ Says r (PortsSound (now (t .entry)) (record { base = base; count = count; lines = lines })) ⌝ }
 {
-    let IoSeat::Held(held) = seats::held(t, s) else {
-        return false;
-    };
-    let base = held.base;
-    let count = held.count;
-    let lines = held.lines;
     if base == 0 {
         return false;
     }
@@ -73,19 +68,19 @@ fn io_place_sound(t: &[u8], rows: &[u16; ROWS], s: Seat) -> bool
     ensures { λ r. ⌜ Says r (IoPlaceSound (now (t .entry)) (s .0)) ⌝ }
 {
     let at = seats::io_place(s);
-    if table_read::word(t, at) == 0 {
+    let IoSeat::Held(held) = seats::held(t, s) else {
         return table_read::zero(t, at, at + IO_SIZE);
-    }
+    };
     if table_read::long(t, at + IO_SPARE_AT) != 0 {
         return false;
     }
     if MARKED < table_read::byte(t, at + IO_SHARED_AT) {
         return false;
     }
-    if !holder_sound(t, table_read::handle(t, at), s) {
+    if !holder_sound(t, held.client, s) {
         return false;
     }
-    ports_sound(t, rows, s)
+    ports_sound(t, rows, held.base, held.count, held.lines)
 }
 
 // Whether the records at two seats are both marked as shared.
@@ -116,13 +111,13 @@ fn ios_meet(t: &[u8], s: Seat, u: Seat) -> bool
     io_ranges::meets(a.base, a.count, a.lines, b.base, b.count, b.lines)
 }
 
-// "grants meet only as demand 3 allows". The mark at `u` is looked at first: with that at `s` first, the loop over the seats below is compiled twice.
+// "grants meet only as demand 3 allows"
 fn io_pair_sound(t: &[u8], s: Seat, u: Seat) -> bool
     requires { ⌜ (length (now t) ≡ tableSize) × (s .0 < Table.mostSeats) × (u .0 < Table.mostSeats) ⌝ }
     requires { ⌜ IoPlaceSound (now t) (s .0) × IoPlaceSound (now t) (u .0) ⌝ }
     ensures { λ r. ⌜ Says r (IoPairSound (now (t .entry)) (s .0) (u .0)) ⌝ }
 {
-    if both_shared(t, u, s) {
+    if both_shared(t, s, u) {
         return true;
     }
     !ios_meet(t, s, u)
@@ -157,13 +152,14 @@ fn io_blocks(t: &[u8], s: Seat) -> u64
     blocks_within(held.base, held.count)
 }
 
-// The I/O grant at the seat `s`, held against that at each seat below it where they answer in a block in common.
-fn io_company_sound(t: &[u8], s: Seat, blocks: u64) -> bool
+// The I/O grant at the seat `s`, held against that at each seat below it where they answer in a block in common: `own` are its blocks, and `blocks` those of
+// the seats below it.
+fn io_company_sound(t: &[u8], s: Seat, own: u64, blocks: u64) -> bool
     requires { ⌜ (length (now t) ≡ tableSize) × (s .0 < Table.mostSeats) × PlacesSound (IoPlaceSound (now t)) (s .0 + 1) ⌝ }
-    requires { ⌜ CoversBelow blocks (s .0) (AnswersInBlock (now t)) ⌝ }
+    requires { ⌜ Covers own (AnswersInBlock (now t) (s .0)) × CoversBelow blocks (s .0) (AnswersInBlock (now t)) ⌝ }
     ensures { λ r. ⌜ Says r (CompanySound (IoPairSound (now (t .entry))) (s .0)) ⌝ }
 {
-    if blocks & io_blocks(t, s) == 0 {
+    if blocks & own == 0 {
         return true;
     }
     let number = s.0;
@@ -173,18 +169,6 @@ fn io_company_sound(t: &[u8], s: Seat, blocks: u64) -> bool
         }
     }
     true
-}
-
-// The I/O record of the seat `s`, and the company that its grant keeps with those below it.
-fn io_seat_sound(t: &[u8], rows: &[u16; ROWS], s: Seat, blocks: u64) -> bool
-    requires { ⌜ (length (now t) ≡ tableSize) × (s .0 < Table.mostSeats) × CountsSound (now t) × ClientsSound (now t) × RangesSound (now t) ⌝ }
-    requires { ⌜ RowsServe (now t) (now rows) × PlacesSound (IoPlaceSound (now t)) (s .0) × CoversBelow blocks (s .0) (AnswersInBlock (now t)) ⌝ }
-    ensures { λ r. ⌜ Says r (SeatSound (IoPlaceSound (now (t .entry))) (IoPairSound (now (t .entry))) (s .0)) ⌝ }
-{
-    if !io_place_sound(t, rows, s) {
-        return false;
-    }
-    io_company_sound(t, s, blocks)
 }
 
 // The lines that the card of the seat's I/O grant decodes; all, where there is no grant.
@@ -223,10 +207,14 @@ pub fn ios_sound(t: &[u8]) -> bool
     io_answering::gap_rows(t, fewest_lines(t), &mut rows);
     let mut blocks: u64 = 0;
     for s in 0..MOST_SEATS {
-        if !io_seat_sound(t, &rows, Seat(s), blocks) {
+        if !io_place_sound(t, &rows, Seat(s)) {
             return false;
         }
-        blocks = blocks | io_blocks(t, Seat(s));
+        let own = io_blocks(t, Seat(s));
+        if !io_company_sound(t, Seat(s), own, blocks) {
+            return false;
+        }
+        blocks = blocks | own;
     }
     true
 }

@@ -21,7 +21,7 @@ ghost use Rattle.layout.specs.Layout.{tableSize};
 ghost use Rattle.layout.specs.Reading.{clientsIn};
 ghost use Rattle.layout.specs.Sound.{IoPlaceSound, IrqPlaceSound, IrqPairSound, CountsSound, ClientsSound};
 ghost use Rattle.table_read.specs.Sets.{HasJust};
-ghost use Rattle.table_grants.specs.Parts.{IoHolder, HolderSound, PlacesSound, CompanySound, SeatSound, IosSound, IrqsSound};
+ghost use Rattle.table_grants.specs.Parts.{HolderSound, PlacesSound, CompanySound, SeatSound, IosSound, IrqsSound};
 ghost use Rattle.table_grants.specs.Company.{HeldBelow, HoldingIs};
 
 // The manners are 0 to 3.
@@ -30,24 +30,12 @@ const LAST_MANNER: usize = 3;
 // A level and a manner are one number: the level's manners stand side by side, so that a set of them has a bit for each.
 const ALL_MANNERS: usize = LAST_MANNER + 1;
 
-// Whether the client holds the I/O grant at the seat `s`.
-fn holds_io(t: &[u8], client: Handle, s: Seat) -> bool
-    requires { ⌜ (length (now t) ≡ tableSize) × (s .0 < Table.mostSeats) ⌝ }
-    ensures { λ r. ⌜ Says r (IoHolder (now (t .entry)) (s .0) (client .0)) ⌝ }
-{
-    if client.0 == 0 {
-        return false;
-    }
-    let holder = table_read::handle(t, seats::io_place(s));
-    holder.0 == client.0
-}
-
 // The client of the IRQ grant at the seat `s`, and the seat's socket: sound where the client holds the seat's I/O grant too, as most often.
 fn irq_holder_sound(t: &[u8], client: Handle, s: Seat) -> bool
     requires { ⌜ (length (now t) ≡ tableSize) × (clientsIn (now t) ≤ Table.mostClients) × (s .0 < Table.mostSeats) × IoPlaceSound (now t) (s .0) ⌝ }
     ensures { λ r. ⌜ Says r (HolderSound (now (t .entry)) (client .0) (s .0)) ⌝ }
 {
-    if holds_io(t, client, s) {
+    if seats::io_held_by(t, s, client) {
         return true;
     }
     holder_sound(t, client, s)
@@ -76,7 +64,8 @@ fn irq_place_sound(t: &[u8], s: Seat) -> bool
     irq_holder_sound(t, table_read::handle(t, at), s)
 }
 
-// The level that a grant holds: in its own manner, and in each manner that doesn't go with it.
+// The level that a grant holds: in its own manner, and in each manner that doesn't go with it. For level 5 held as dynamic level, whose number is 2, these
+// are the number 5 * 4 + 2, and 20, 21 and 23.
 pub struct Holding {
     pub own: u64,
     pub against: u64,
@@ -98,29 +87,8 @@ fn irq_holding(t: &[u8], s: Seat) -> Holding
     Holding { own, against }
 }
 
-// "grants meet only as demand 3 allows": whether no grant at a seat below `s` holds its level in a manner that doesn't go with its own.
-fn irq_company_sound(t: &[u8], s: Seat, held: u64) -> bool
-    requires { ⌜ (length (now t) ≡ tableSize) × (s .0 < Table.mostSeats) × PlacesSound (IrqPlaceSound (now t)) (s .0 + 1) ⌝ }
-    requires { ⌜ HasJust held (HeldBelow (now t) (s .0)) ⌝ }
-    ensures { λ r. ⌜ Says r (CompanySound (IrqPairSound (now (t .entry))) (s .0)) ⌝ }
-{
-    let holding = irq_holding(t, s);
-    held & holding.against == 0
-}
-
-// The IRQ record of the seat `s`, and the company that its grant keeps with those below it.
-fn irq_seat_sound(t: &[u8], s: Seat, held: u64) -> bool
-    requires { ⌜ (length (now t) ≡ tableSize) × (s .0 < Table.mostSeats) × CountsSound (now t) × ClientsSound (now t) ⌝ }
-    requires { ⌜ IoPlaceSound (now t) (s .0) × PlacesSound (IrqPlaceSound (now t)) (s .0) × HasJust held (HeldBelow (now t) (s .0)) ⌝ }
-    ensures { λ r. ⌜ Says r (SeatSound (IrqPlaceSound (now (t .entry))) (IrqPairSound (now (t .entry))) (s .0)) ⌝ }
-{
-    if !irq_place_sound(t, s) {
-        return false;
-    }
-    irq_company_sound(t, s, held)
-}
-
-// The IRQ grants at all seats: `held` are the levels that the grants passed hold, in their manners.
+// The IRQ grants at all seats: `held` are the levels that the grants passed hold, in their manners. "grants meet only as demand 3 allows": none of them
+// holds the level of the next one in a manner that doesn't go with its own.
 pub fn irqs_sound(t: &[u8]) -> bool
     requires { ⌜ (length (now t) ≡ tableSize) × CountsSound (now t) × ClientsSound (now t) × IosSound (now t) ⌝ }
     ensures { λ r. ⌜ Says r (IrqsSound (now (t .entry))) ⌝ }
@@ -130,10 +98,13 @@ pub fn irqs_sound(t: &[u8]) -> bool
     }
     let mut held: u64 = 0;
     for s in 0..MOST_SEATS {
-        if !irq_seat_sound(t, Seat(s), held) {
+        if !irq_place_sound(t, Seat(s)) {
             return false;
         }
         let holding = irq_holding(t, Seat(s));
+        if held & holding.against != 0 {
+            return false;
+        }
         held = held | holding.own;
     }
     true

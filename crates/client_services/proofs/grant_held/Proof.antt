@@ -2,13 +2,12 @@
 -- Assumes nothing.
 use Rattle.facts.proofs.Words.{_-_, arith}
 use Rattle.facts.specs.{mostSeats}
-use Rattle.layout.specs.{factsIn}
 use Rattle.table_read.proofs.{so-far-none, NoneYet, none-next, some-found, none-found}
 use Rattle.client_services.specs.{GrantAt}
 use Rattle.client_services.proofs.grant_held.Tie as tie
 
 abbrev Inv-loop : tie.InvT-loop
-Inv-loop t h s₀ s = NoneYet mostSeats (GrantAt (factsIn t) (h .0)) s
+Inv-loop t h s₀ s = NoneYet mostSeats (GrantAt t (h .0)) s
 
 abbrev μ-loop : tie.MeasureT-loop
 μ-loop t h s₀ s = mostSeats - s

@@ -8,29 +8,21 @@ use Rattle.table_grants.proofs.{blocks-apart}
 use Rattle.table_grants.proofs.ios.io_company_sound.Tie as tie
 
 abbrev Inv-loop : tie.InvT-loop
-Inv-loop t s blocks number u₀ u = SoFar number (IoPairSound t (s .0)) u
+Inv-loop t s own blocks number u₀ u = SoFar number (IoPairSound t (s .0)) u
 
 abbrev μ-loop : tie.MeasureT-loop
-μ-loop t s blocks number u₀ u = number - u
-
--- where the call began
-abbrev begun : tie.After-io-blocks Inv-loop μ-loop → tie.Start Inv-loop μ-loop
-begun c = c .before .before
-
-io-blocks-requires : tie.Need-io-blocks-requires Inv-loop μ-loop
-io-blocks-requires c κs =
-    let pre = c .before .pre .0 in
-    (pre .0, pre .1, pre .2 _ (omega arith))
+μ-loop t s own blocks number u₀ u = number - u
 
 returns : tie.Need-returns Inv-loop μ-loop
 returns c =
-    let start = begun (c .before) in
+    let start = c .before .before in
     let a = start .args in
-    says-true (λ u l. blocks-apart (now (a .t)) (a .s .0) u (a .blocks) _ (c .if1 .taken) (start .pre .1 u l) (c .before .io-blocks .ensures))
+    says-true (λ u l. blocks-apart (now (a .t)) (a .s .0) u (a .blocks) _ (c .if1 .taken) (start .pre .1 .1 u l) (start .pre .1 .0))
 
 io-pair-sound-requires : tie.Need-io-pair-sound-requires Inv-loop μ-loop
 io-pair-sound-requires c κs =
-    let pre = begun (c .before .before .before) .pre .0 in
+    let looked = c .before .before in
+    let pre = looked .before .before .pre .0 in
     ((pre .0, pre .1, omega arith), (pre .2 _ (omega arith), pre .2 _ (omega arith)))
 
 returns-2 : tie.Need-returns-2 Inv-loop μ-loop
@@ -47,5 +39,5 @@ returns-3 c = so-far-end (c .before .loop .inv) (c .loop-test .left)
 pub io-company-sound-spec : {M : Type 1} → Rattle.table_grants.proofs.ios.io_company_sound.Statement.statement M
 io-company-sound-spec =
     tie.close
-    (tie.spec Inv-loop μ-loop io-blocks-requires returns (λ c. so-far-none) io-pair-sound-requires returns-2 (λ c. omega arith) (λ c. omega arith)
+    (tie.spec Inv-loop μ-loop returns (λ c. so-far-none) io-pair-sound-requires returns-2 (λ c. omega arith) (λ c. omega arith)
     loop-again returns-3)
