@@ -2,6 +2,7 @@
 -- Assumes nothing.
 use Rattle.facts.proofs.Words.{_≡_, arith, needs, length, now}
 use Rattle.facts.specs.{Short, Wide, ioAdjustLength}
+use Rattle.managed_packets.proofs.{asked-at}
 use Rattle.managed_packets.proofs.asked.Tie as tie
 
 -- the packet is short, or wide
@@ -19,10 +20,10 @@ abbrev read2 : tie.After-shared-slice-known5 → tie.After-long2
 read2 c = c .before .before
 
 returns : tie.Need-returns
-returns c = let told = read c .before .before in rw (told .enum-told .given .1) (search needs)
+returns c = let told = read c .before .before in asked-at (told .enum-told .given .1) (search needs)
 
 returns-2 : tie.Need-returns-2
-returns-2 c = let told = read2 c .before .before in rw (told .enum-told2 .given .1) (search needs)
+returns-2 c = let told = read2 c .before .before in asked-at (told .enum-told2 .given .1) (search needs)
 
 pub asked-spec : {M : Type 1} → Rattle.managed_packets.proofs.asked.Statement.statement M
 asked-spec =

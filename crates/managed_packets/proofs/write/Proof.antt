@@ -1,8 +1,8 @@
 -- `managed_packets::write` meets its contract at either width: the fields are written one after the other.
 -- Assumes nothing.
-use Rattle.facts.proofs.Words.{_≡_, sym, _∙_, _≤_, decLe, arith, needs, length, length-set, now}
+use Rattle.facts.proofs.Words.{_≡_, sym, _∙_, _≤_, arith, needs, length, length-set, now}
 use Rattle.facts.specs.{Short, Wide, ioAdjustLength, mostShown}
-use Rattle.facts.proofs.{told}
+use Rattle.managed_packets.proofs.{few-at}
 use Rattle.managed_packets.proofs.write.Tie as tie
 
 -- the packet is short, and so is the count
@@ -10,7 +10,7 @@ short : (c : tie.After-enum-told) → length (now (c .before .before .before .ar
 short c = rw (c .enum-told .given .1) at (c .before .before .before .pre .0)
 
 few : (c : tie.After-enum-told) → c .before .before .before .args .count ≤ mostShown
-few c = let s = c .before .before .before in told (decLe (s .args .count) mostShown) (λ n. s .pre .1 (rw (c .enum-told .given .1) (omega (arith, n))))
+few c = few-at (c .enum-told .given .1) (c .before .before .before .pre .1)
 
 -- the base is written
 abbrev one : tie.After-slice-known2 → tie.After-enum-told
