@@ -1,6 +1,6 @@
 -- `socket_masks::release` meets its contract: each check's answer says which end of the rule it is.
 -- Assumes nothing.
-use Rattle.facts.proofs.Words.{ℕ, needs, now}
+use Rattle.facts.proofs.Words.{needs, now}
 use Rattle.facts.specs.{releaseMaskLength}
 use Rattle.service_checks.specs.{BegunAt}
 use Rattle.service_checks.specs.declared.CardNeed.the-variants.{Ignored}
@@ -9,21 +9,16 @@ use Rattle.socket_masks.proofs.{releasing, in-table, release-nothing, r
 use Rattle.socket_masks.proofs.release.Tie as tie
 
 -- where the call began
-abbrev packet-lent : tie.After-begin → tie.After-shared-slice-known
-packet-lent c = c .before .before
-
 abbrev start : tie.After-begin → tie.Start
-start c = packet-lent c .before .before
+start c = let lent = c .before .before in lent .before .before
 
 -- the service has begun
 abbrev start-of-seat : tie.After-known-told → tie.Start
 start-of-seat c = start (c .before .before .before)
 
-abbrev seat : tie.After-known-told → ℕ
-seat c = c .before .begun .given .0 .1 .0 .0
-
-begun : (c : tie.After-known-told) → let s = start-of-seat c in
-    BegunAt (now (s .args .t)) (now (s .args .p)) releaseMaskLength (s .args .h .0) Ignored (c .before .begun .given .0 .0) (seat c)
+begun : (c : tie.After-known-told)
+    → let a = start-of-seat c .args in
+    let at = c .before .begun .given .0 in BegunAt (now (a .t)) (now (a .p)) releaseMaskLength (a .h .0) Ignored (at .0) (at .1 .0 .0)
 begun c = let tried = c .before .before .before in rw (c .before .begun .given .1) at (tried .begin .ensures)
 
 -- the mask is looked at

@@ -9,21 +9,16 @@ use Rattle.socket_masks.proofs.{requesting, in-table, request-bad, requ
 use Rattle.socket_masks.proofs.request.Tie as tie
 
 -- where the call began
-abbrev packet-lent : tie.After-begin → tie.After-shared-slice-known
-packet-lent c = c .before .before
-
 abbrev start : tie.After-begin → tie.Start
-start c = packet-lent c .before .before
+start c = let lent = c .before .before in lent .before .before
 
 -- the service has begun
 abbrev start-of-seat : tie.After-known-told → tie.Start
 start-of-seat c = start (c .before .before .before)
 
-abbrev seat : tie.After-known-told → ℕ
-seat c = c .before .begun .given .0 .1 .0 .0
-
-begun : (c : tie.After-known-told) → let s = start-of-seat c in
-    BegunAt (now (s .args .t)) (now (s .args .p)) requestMaskLength (s .args .h .0) Needed (c .before .begun .given .0 .0) (seat c)
+begun : (c : tie.After-known-told)
+    → let a = start-of-seat c .args in
+    let at = c .before .begun .given .0 in BegunAt (now (a .t)) (now (a .p)) requestMaskLength (a .h .0) Needed (at .0) (at .1 .0 .0)
 begun c = let tried = c .before .before .before in rw (c .before .begun .given .1) at (tried .begin .ensures)
 
 -- the event mask is allowed
