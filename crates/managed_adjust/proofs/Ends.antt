@@ -24,7 +24,8 @@ use Rattle.managed_changes.specs.declared.Change.the-variants.{Made, Refused}
 use Rattle.managed_changes.specs.{Changes}
 use Rattle.managed_levels.specs.{NextLevelIs}
 use Rattle.managed_ranges.specs.{NextIs, NextRangeIs}
-use Rattle.managed_ranges.proofs.{served-as}
+use Rattle.table_read.proofs.{so-or-not}
+use Rattle.managed_changes.proofs.{served-as}
 use Rattle.managed_packets.specs.{NamesBoth, FromIs, Written, attributesShown, handleShown, answerOf}
 use Rattle.managed_adjust.specs.{ServesBy, Reached, Shows}
 
@@ -139,11 +140,7 @@ module _ {b : List ℕ} (p : List ℕ) (a : Accepted b) {from : ℕ} where
 
 -- First or Next
 pub first-or-next : {p : List ℕ} {action : ℕ} → Shows p action → (actionOf p ≡ first) ⊎ (actionOf p ≡ next)
-first-or-next {p} {action} s = same-or-not (ℕ-discrete (actionOf p) first)
-  where
-    same-or-not : Dec (actionOf p ≡ first) → (actionOf p ≡ first) ⊎ (actionOf p ≡ next)
-    same-or-not (yes e) = inl e
-    same-or-not (no d) = inr (omega arith)
+first-or-next {p} s = so-or-not (ℕ-discrete (actionOf p) first) inl (λ d. inr (omega arith))
 
 -- refused by the head
 module _ {b p : List ℕ} (a : Accepted b) {h : ℕ} where

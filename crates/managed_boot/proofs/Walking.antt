@@ -16,7 +16,7 @@ use Rattle.managed_changes.specs.declared.Change.the-variants.{Made, Refused}
 use Rattle.managed_changes.specs.{Changes}
 use Rattle.managed_levels.specs.{AddsLevel}
 use Rattle.managed_ranges.specs.{AddsRange}
-use Rattle.managed_ranges.proofs.{served-as}
+use Rattle.managed_changes.proofs.{served-as}
 use Rattle.managed_boot.specs.declared.Booted.{Booted}
 use Rattle.managed_boot.specs.declared.Booted.the-variants.{All, Stopped}
 use Rattle.managed_boot.specs.{AddsRecord, Refuses, Ends, BootsRecords, Boots, placeOf, codeOf}

@@ -1,3 +1,3 @@
--- A change is refused, or made. Assumes nothing.
+-- A call that one rule permits is one that another does. Assumes nothing.
 pub mod Changing
-pub use Changing.{refused, made}
+pub use Changing.{served-as}

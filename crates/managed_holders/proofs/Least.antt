@@ -1,7 +1,8 @@
 -- The lowest of what the numbers below a bound say, and one number more: what a loop over the seats knows of the holders. Assumes nothing.
-use Rattle.facts.proofs.Words.{_≡_, subst, _⊎_, inl, inr, ⊎-elim, ℕ, _+_, _<_, min, eq-or-lt-of-le, decLt, arith}
+use Rattle.facts.proofs.Words.{_≡_, subst, _⊎_, inl, inr, ⊎-elim, ℕ, _+_, _≤_, min, eq-or-lt-of-le, decLt, arith}
 use Rattle.facts.specs.{Lowest}
 use Rattle.table_read.specs.{SomeBelow}
+use Rattle.table_read.proofs.{so-or-not}
 use Rattle.managed_holders.specs.declared.Holders.{Holders}
 use Rattle.managed_holders.specs.declared.Holders.the-variants as holders
 use Rattle.managed_holders.specs.{HereIs, AreBelow, together}
@@ -9,11 +10,8 @@ use Rattle.managed_holders.specs.{HereIs, AreBelow, together}
 module _ (n : ℕ) (Q : ℕ → ℕ → Type 0) where
   -- one that is below n + 1 is below n, or n
   below-or-here : (x : ℕ) → SomeBelow (n + 1) Q x → SomeBelow n Q x ⊎ Q n x
-  below-or-here x (s, l, q) = either-way (eq-or-lt-of-le (omega (arith, l)))
-    where
-      either-way : (s ≡ n) ⊎ (s < n) → SomeBelow n Q x ⊎ Q n x
-      either-way (inl e) = inr (subst (λ (t : ℕ). Q t x) e q)
-      either-way (inr l′) = inl (s, l′, q)
+  below-or-here x (s, l, q) =
+      let k : s ≤ n = omega arith in ⊎-elim (λ e. inr (subst (λ (t : ℕ). Q t x) e q)) (λ m. inl (s, m, q)) (eq-or-lt-of-le k)
 
   wider : {x : ℕ} → SomeBelow n Q x → SomeBelow (n + 1) Q x
   wider (s, l, q) = (s, omega (arith, l), q)
@@ -31,13 +29,10 @@ module _ (n : ℕ) (Q : ℕ → ℕ → Type 0) where
     lowest-more : {w : ℕ} → Lowest (SomeBelow n Q) w → Lowest (SomeBelow (n + 1) Q) (min w x)
     lowest-more {w} low =
         record {
-          fits = below-or-not (decLt x w);
+          fits = so-or-not (decLt x w) (λ l. subst (SomeBelow (n + 1) Q) (omega arith) (n, omega arith, q))
+              (λ l. subst (SomeBelow (n + 1) Q) (omega arith) (wider (low .fits)));
           least = λ y f. ⊎-elim (λ p. omega (arith, low .least y p)) (λ p. omega (arith, only y p)) (below-or-here y f);
         }
-      where
-        below-or-not : Dec (x < w) → SomeBelow (n + 1) Q (min w x)
-        below-or-not (yes l) = subst (SomeBelow (n + 1) Q) (omega arith) (n, omega arith, q)
-        below-or-not (no l) = subst (SomeBelow (n + 1) Q) (omega arith) (wider (low .fits))
 
 -- the holders at the seats below n, and at n
 pub holders-more : (n : ℕ) (P : ℕ → ℕ → ℕ → Type 0) (some more : Holders) → AreBelow n P some → HereIs (P n) more → AreBelow (n + 1) P (together some more)

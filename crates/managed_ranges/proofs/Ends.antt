@@ -1,15 +1,14 @@
 -- Each way in which an Add or a Remove of a range ends is the rule's; what its writes leave. Assumes nothing.
-use Rattle.facts.proofs.Words.{_≡_, refl, ap, sym, _∙_, subst, subst₂, _⊎_, inl, inr, ⊎-elim, _≢_, List, [], _∷_, _++_, Bool, ℕ, _+_, _≤_, _<_, add-zero, ℕ-discrete}
+use Rattle.facts.proofs.Words.{_≡_, refl, ap, sym, _∙_, subst, subst₂, _⊎_, inl, inr, ⊎-elim, _≢_, List, [], _∷_, _++_, Bool, ℕ, _+_, _≤_, _<_, add-zero, decLt}
 use Rattle.facts.proofs.Words.{arith, length, getD, set, length-set, Ports}
 use Rattle.layout.proofs.Of
 use Rattle.managed_ranges.specs.declared.PortsNamed.the-variants as named
 use Rattle.facts.specs.{Code, BadAttribute, BadBase, InUse, OutOfResource, Facts, Range, byte, withWord, withLong, Within, Managed}
 use Rattle.facts.specs.{Check, _gives_, FirstGiven, rangeChecks, rangeRemoved, withRanges, inserted, JustThat, RangeAnswered, putChecks, takeChecks}
 use Rattle.facts.specs.{allPorts, mostLines, mostRanges, MeetsHeld}
-use Rattle.facts.proofs.{meet-symmetric}
+use Rattle.facts.proofs.{told, meet-symmetric}
 use Rattle.layout.specs.{image, mark, two, four, rangesIn, rangePlace, rangeIn, Accepted, rangeBase, TakenOut, PutIn, rangeCountAt}
 use Rattle.layout.specs.{rangeReservedAt, rangeSize, restAt, tableSize, factsIn}
-use Rattle.layout.specs.Served.{Served}
 use Rattle.layout.proofs.{below-at, byte-same, byte-other, word-length, word-low, word-high, word-other, long-length, long-bytes, long-other}
 use Rattle.layout.proofs.{range-put-in, range-taken-out, becomes}
 use Rattle.table_write.specs.{RoomMade}
@@ -17,13 +16,10 @@ use Rattle.io_ranges.proofs.{answers-meet, meet-answers}
 use Rattle.managed_changes.specs.declared.Change.{Change}
 use Rattle.managed_changes.specs.declared.Change.the-variants.{Made, Refused}
 use Rattle.managed_changes.specs.{Changes}
+use Rattle.managed_changes.proofs.{served-as}
 use Rattle.managed_ranges.specs.declared.NewPorts.the-variants.{Taken}
 use Rattle.managed_ranges.specs.declared.RangeFound.the-variants.{Nowhere}
 use Rattle.managed_ranges.specs.{NamesPorts, PortsNamedIs, FreeAt, FreeIs, FoundAt, FoundIs, Entered, TakesRange}
-
--- what one rule permits, another does
-pub served-as : {R S : Facts → Facts → Type 0} {b b′ : List ℕ} → ((F G : Facts) → R F G → S F G) → Served R b b′ → Served S b b′
-served-as f s = record { accepted = s .accepted; after = s .after; rule = f (s .accepted .facts) (s .after) (s .rule); table = s .table }
 
 -- the checks that Add and Remove share, around those of their own; Bits says that the bits are right
 abbrev shared : Type 0 → ℕ → ℕ → ℕ → List Check → List Check
@@ -81,11 +77,9 @@ module _ {b : List ℕ} (a : Accepted b) {base n : ℕ} where
       where
         -- a range that starts at the base would have one of the ports
         over : (j : ℕ) → i ≤ j → j < rangesIn b → base < rangeBase b j
-        over j l h = same-or-not (ℕ-discrete base (rangeBase b j))
-          where
-            same-or-not : Dec (base ≡ rangeBase b j) → base < rangeBase b j
-            same-or-not (yes q) = absurd (f .free base (omega arith) (j, h, omega (arith, Of.sound-in b a .ranges j h .port)))
-            same-or-not (no d) = omega (arith, f .place .behind j l h)
+        over j l h =
+            let from = f .place .behind j l h in
+            told (decLt base (rangeBase b j)) (λ n. f .free base (omega arith) (j, h, omega (arith, Of.sound-in b a .ranges j h .port)))
 
   -- ports taken out
   pub take-nowhere : FoundIs b base n Nowhere → FirstGiven (takeChecks base n (a .facts)) BadBase

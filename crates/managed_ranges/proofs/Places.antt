@@ -1,6 +1,7 @@
 -- Where a base belongs among the ranges; ports that are free, a range that is found, and the one that comes next. Assumes nothing.
-use Rattle.facts.proofs.Words.{_≡_, refl, ap, _∙_, subst, inl, inr, ⊎-elim, _≢_, List, ℕ, _+_, _-_, _≤_, _<_, decLt, arith, eq-or-lt-of-le}
+use Rattle.facts.proofs.Words.{_≡_, refl, ap, _∙_, subst, inl, inr, ⊎-elim, _≢_, List, ℕ, _+_, _-_, _≤_, _<_, decLe, decLt, arith, eq-or-lt-of-le}
 use Rattle.layout.proofs.Of
+use Rattle.facts.proofs.{told}
 use Rattle.managed_ranges.specs.declared.NextRange.the-variants as next
 use Rattle.facts.specs.{Range, _∈_, Within, allPorts}
 use Rattle.layout.specs.{rangesIn, rangeIn, Accepted, RangesSound, ManagedIn, rangeBase, rangeCount, endBefore}
@@ -84,11 +85,8 @@ module _ {b : List ℕ} (s : RangesSound b) where
 module _ {b : List ℕ} {from i : ℕ} (place : PlaceOf b from i) where
   -- a range whose base isn't below the number stands at or past the place
   past : (a : Accepted b) (r : Range) (j : ℕ) → r ≡ rangeIn b j → from ≤ r .base → i ≤ j
-  past a r j e h = below-or-not (decLt j i)
-    where
-      below-or-not : Dec (j < i) → i ≤ j
-      below-or-not (yes m) = absurd (omega (arith, place .ahead j m, ap (λ (x : Range). x .base) e ∙ Of.range-base b a j))
-      below-or-not (no m) = omega arith
+  past a r j e h =
+      told (decLe i j) (λ n. omega (arith, place .ahead j (omega arith), ap (λ (x : Range). x .base) e ∙ Of.range-base b a j))
 
   pub next-none : rangesIn b ≤ i → NextRangeIs b from next.End
   next-none n a r m h = let x = Of.listed-range b a r m in omega (arith, past a r (x .0) (x .2) h, x .1)

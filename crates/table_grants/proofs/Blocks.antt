@@ -6,19 +6,16 @@ use Rattle.layout.specs.{ioIn, IoUsed, IoPairSound}
 use Rattle.io_ranges.proofs.{mod-fewer}
 use Rattle.table_read.specs.{Covers}
 use Rattle.facts.proofs.{one-bit}
-use Rattle.table_read.proofs.{or-left, or-right}
+use Rattle.table_read.proofs.{so-or-not, or-left, or-right}
 use Rattle.table_grants.specs.{blockOf, BlocksWithin, AnswersInBlock}
 use Rattle.table_grants.proofs.Covering.{none-common}
 
 -- of few ports each is in the block of the first or of the last
 module _ (base count : ℕ) (port : 1 ≤ count) (asked : count ≤ mostAsked) where
   first-or-last : (p : ℕ) → Within p base count → (blockOf base ≡ blockOf p) ⊎ (blockOf (base + count - 1) ≡ blockOf p)
-  first-or-last p w = same-or-not (ℕ-discrete (base / 256) (p / 256))
-    where
-      same-or-not : Dec (base / 256 ≡ p / 256) → (blockOf base ≡ blockOf p) ⊎ (blockOf (base + count - 1) ≡ blockOf p)
-      same-or-not (yes e) = inl (ap (λ (n : ℕ). n % 64) e)
-      same-or-not (no n) =
-          let e : (base + count - 1) / 256 ≡ p / 256 = omega (arith, n, w .from, w .below) in inr (ap (λ (m : ℕ). m % 64) e)
+  first-or-last p w =
+      so-or-not (ℕ-discrete (base / 256) (p / 256)) (λ e. inl (ap (λ (n : ℕ). n % 64) e))
+      (λ n. let e : (base + count - 1) / 256 ≡ p / 256 = omega (arith, n, w .from, w .below) in inr (ap (λ (m : ℕ). m % 64) e))
 
   pub blocks-within : BlocksWithin (bitOr (2 ^ blockOf base) (2 ^ blockOf (base + count - 1))) base count
   blocks-within p w =

@@ -2,7 +2,7 @@
 -- holds its level in a manner that doesn't go with its own. Assumes nothing.
 use Rattle.facts.proofs.Words.{_≡_, refl, sym, ap, ap₂, _∙_, subst, _↔_, List, ℕ, _+_, _*_, _^_, _≤_, _<_, arith, bitAnd, eqb, Says}
 use Rattle.facts.specs.{Manner, Exclusive, TimeMultiplexed, DynamicLevel, DynamicPulse, byte, bit, Together}
-use Rattle.facts.proofs.{says-as, says-dec}
+use Rattle.facts.proofs.{told, says-as, says-dec}
 use Rattle.layout.specs.{irqSize, irqPlace, irqIn, mannerOf, IrqUsed, IrqPlaceSound, IrqPairSound, irqLevelAt, irqMannerAt}
 use Rattle.layout.proofs.{below-at, used-sound}
 use Rattle.irq_levels.specs.Apart.{MannersApart}
@@ -53,20 +53,16 @@ module _ (b : List ℕ) (s : ℕ) (places : PlacesSound (IrqPlaceSound b) s) whe
 
   apart-company : ((k : ℕ) → HeldBelow b s k → Against b s k → ⊥) → CompanySound (IrqPairSound b) s
   unfolding irqIn
-  apart-company n t l u u′ same = so-or-not (says-dec _ (rule-says (irqIn b s .manner) (irqIn b t .manner)))
-    where
-      so-or-not : Dec (Together (irqIn b s .manner) (irqIn b t .manner)) → Together (irqIn b s .manner) (irqIn b t .manner)
-      so-or-not (yes g) = g
-      so-or-not (no d) =
-          absurd
-          (n (heldAs (byte b (irqPlace t + irqLevelAt)) (byte b (irqPlace t + irqMannerAt))) (t, l, record { used = u′; number = refl })
-          (record {
-            used = u;
-            manner = byte b (irqPlace t + irqMannerAt);
-            last = manner-last t l u′;
-            apart = d;
-            number = ap (λ (x : ℕ). heldAs x (byte b (irqPlace t + irqMannerAt))) same;
-          }))
+  apart-company n t l u u′ same =
+      told (says-dec _ (rule-says (irqIn b s .manner) (irqIn b t .manner)))
+      (λ d. n (heldAs (byte b (irqPlace t + irqLevelAt)) (byte b (irqPlace t + irqMannerAt))) (t, l, record { used = u′; number = refl })
+      (record {
+        used = u;
+        manner = byte b (irqPlace t + irqMannerAt);
+        last = manner-last t l u′;
+        apart = d;
+        number = ap (λ (x : ℕ). heldAs x (byte b (irqPlace t + irqMannerAt))) same;
+      }))
 
   company-apart : CompanySound (IrqPairSound b) s → (k : ℕ) → HeldBelow b s k → Against b s k → ⊥
   unfolding irqIn

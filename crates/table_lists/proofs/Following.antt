@@ -4,7 +4,7 @@ use Rattle.facts.specs.{allPorts, Bytes}
 use Rattle.facts.proofs.{says-as}
 use Rattle.layout.specs.{rangesIn, rangePlace, RangesSound, rangeBase, rangeCount, endBefore}
 use Rattle.layout.proofs.{end-next}
-use Rattle.table_read.proofs.{All, all-none, all-more}
+use Rattle.table_read.proofs.{so-or-not, All, all-none, all-more}
 use Rattle.table_lists.specs.{RangeFollows, RangeMarked}
 use Rattle.table_lists.proofs.Flaws.{Flawless, flawless-none, flawless-more}
 
@@ -57,12 +57,7 @@ module _ (b : List ℕ) where
         (λ s k l. s k (omega arith) .mark)
       where
         ends : (k : ℕ) → k < rangesIn b → rangeBase b k + rangeCount b k ≤ allPorts
-        ends k l = below-or-not (decLt (k + 1) i)
-          where
-            below-or-not : Dec (k + 1 < i) → rangeBase b k + rangeCount b k ≤ allPorts
-            below-or-not (yes n) =
-                omega (arith, end-next b k, p .follow (k + 1) n .from, known (rangePlace (k + 1)), known (rangePlace (k + 1) + 1))
-            below-or-not (no n) =
-                let at : k + 1 ≡ i = omega arith in
-                let here : endBefore b (k + 1) ≡ endBefore b i = ap (endBefore b) at in
-                omega (arith, end-next b k, here, p .last, h)
+        ends k l =
+            so-or-not (decLt (k + 1) i)
+            (λ n. omega (arith, end-next b k, p .follow (k + 1) n .from, known (rangePlace (k + 1)), known (rangePlace (k + 1) + 1)))
+            (λ n. let at : k + 1 ≡ i = omega arith in omega (arith, end-next b k, ap (endBefore b) at, p .last, h))

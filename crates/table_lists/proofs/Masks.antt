@@ -2,7 +2,8 @@
 -- Assumes nothing.
 use Rattle.facts.proofs.Words.{_≡_, ap, subst, _∙_, _⊎_, inl, inr, ⊎-elim, List, ℕ, _+_, _-_, _/_, _≤_, _<_, eq-or-lt-of-le, decLt, arith}
 use Rattle.facts.specs.{mostSockets, byte, word}
-use Rattle.layout.specs.{socketsIn, clientPlace, maskPlace, Zero, MaskSound, clientMasksAt}
+use Rattle.layout.specs.{socketsIn, clientPlace, maskPlace, Zero, clientMasksAt}
+use Rattle.table_read.proofs.{so-or-not}
 use Rattle.table_lists.specs.{MaskFormed, FourFormed, MasksFormed, MasksEnd, MasksSound}
 
 module _ (b : List ℕ) (i : ℕ) where
@@ -14,11 +15,7 @@ module _ (b : List ℕ) (i : ℕ) where
   formed-last m k l = subst (λ (p : ℕ). MaskFormed (word b p)) (omega arith) (m (4 + k) (omega arith))
 
   pub formed-both : FourFormed b (clientPlace i + clientMasksAt) → FourFormed b (maskPlace i 4) → MasksFormed b i
-  formed-both f g s l = below-or-not (decLt s 4)
-    where
-      below-or-not : Dec (s < 4) → MaskFormed (word b (maskPlace i s))
-      below-or-not (yes h) = f s h
-      below-or-not (no h) = subst (λ (p : ℕ). MaskFormed (word b p)) (omega arith) (g (s - 4) (omega arith))
+  formed-both f g s l = so-or-not (decLt s 4) (f s) (λ h. subst (λ (p : ℕ). MaskFormed (word b p)) (omega arith) (g (s - 4) (omega arith)))
 
   pub sound-formed : MasksSound b i → MasksFormed b i
   sound-formed m s l = ⊎-elim inl (λ p. inr (p .0, p .1)) (m s l)
@@ -27,11 +24,8 @@ module _ (b : List ℕ) (i : ℕ) where
   sound-end m s h l = ⊎-elim (λ e. e) (λ p. absurd (omega arith)) (m s l)
 
   pub formed-sound : MasksFormed b i → MasksEnd b i → MasksSound b i
-  formed-sound m e s l = below-or-not (decLt s (socketsIn b)) (m s l)
-    where
-      below-or-not : Dec (s < socketsIn b) → MaskFormed (word b (maskPlace i s)) → MaskSound b i s
-      below-or-not (yes h) = ⊎-elim inl (λ p. inr (p .0, p .1, h))
-      below-or-not (no h) = λ p. inl (e s (omega arith) l)
+  formed-sound m e s l =
+      so-or-not (decLt s (socketsIn b)) (λ h. ⊎-elim inl (λ p. inr (p .0, p .1, h)) (m s l)) (λ h. inl (e s (omega arith) l))
 
   -- the masks from the nth on are 0 exactly if their bytes are
   module _ (n : ℕ) where

@@ -1,6 +1,11 @@
 -- What holds of every number below a bound: how a loop that stops at the first that fails decides it. Assumes nothing.
-use Rattle.facts.proofs.Words.{_≡_, sym, subst, _⊎_, inl, inr, Bool, true, false, not, ℕ, _+_, _≤_, _<_, eq-or-lt-of-le, arith, Says}
+use Rattle.facts.proofs.Words.{_≡_, sym, subst, ⊎-elim, Bool, true, false, not, ℕ, _+_, _≤_, _<_, eq-or-lt-of-le, arith, Says}
 use Rattle.facts.proofs.{says-true, says-yes, says-false-by}
+
+-- what holds in either case of a decision
+pub so-or-not : {A B : Type 0} → Dec A → (A → B) → ((A → ⊥) → B) → B
+so-or-not (yes a) f g = f a
+so-or-not (no n) f g = g n
 
 abbrev pub All : ℕ → (ℕ → Type 0) → Type 0
 All n P = (i : ℕ) → i < n → P i
@@ -9,11 +14,7 @@ pub all-none : (P : ℕ → Type 0) → All 0 P
 all-none P i l = absurd (omega arith)
 
 pub all-more : {P : ℕ → Type 0} {n : ℕ} → All n P → P n → All (n + 1) P
-all-more {P} {n} a p i l = either-way (eq-or-lt-of-le (omega arith))
-  where
-    either-way : (i ≡ n) ⊎ (i < n) → P i
-    either-way (inl e) = subst P (sym e) p
-    either-way (inr l′) = a i l′
+all-more {P} {n} a p i l = let k : i ≤ n = omega arith in ⊎-elim (λ e. subst P (sym e) p) (a i) (eq-or-lt-of-le k)
 
 -- what the loop keeps: it has come to i, which is not past n, and each before i is P
 pub record SoFar (n : ℕ) (P : ℕ → Type 0) (i : ℕ) : Type 0 where

@@ -1,10 +1,10 @@
 -- Sets with a bit for each number: of none, of one, shifted, and what two of them have, together or both. Assumes nothing.
-use Rattle.facts.proofs.Words.{_≡_, sym, ap, _∙_, subst, _⊎_, inl, inr, ⊎-elim, ℕ, suc, _+_, _-_, _*_, _/_, _%_, _^_, _≤_, _<_, min, max, one-mul}
-use Rattle.facts.proofs.Words.{mul-assoc, div-eq-of-lt, eq-or-lt-of-le, ℕ-discrete, decLt, arith, bitAnd, bitOr, and-shr, and-step, or-shr, or-step}
-use Rattle.facts.proofs.Words.{shifted-even, pow-add, pow-mono, shl-exact, shl-shr, shr-shr}
+use Rattle.facts.proofs.Words.{_≡_, sym, ap, _∙_, subst, _⊎_, inl, inr, ⊎-elim, ℕ, _+_, _*_, _/_, _%_, _^_, _<_, min, max, one-mul}
+use Rattle.facts.proofs.Words.{eq-or-lt-of-le, ℕ-discrete, arith, bitAnd, bitOr, and-shr, and-step, or-shr, or-step, shl-exact}
 use Rattle.facts.specs.{bit}
 use Rattle.facts.proofs.{one-bit, one-only}
 use Rattle.table_read.specs.{HasJust, SomeBelow}
+use Rattle.table_read.proofs.Below.{so-or-not}
 use Rattle.table_read.proofs.Bits.{no-bit}
 
 -- the set of one number, which a one that is shifted is
@@ -23,11 +23,7 @@ module _ (x y k : ℕ) where
   or-right e = omega (arith, bit-or)
 
   pub or-either : bit (bitOr x y) k ≡ 1 → (bit x k ≡ 1) ⊎ (bit y k ≡ 1)
-  or-either e = same-or-not (ℕ-discrete (bit x k) 1)
-    where
-      same-or-not : Dec (bit x k ≡ 1) → (bit x k ≡ 1) ⊎ (bit y k ≡ 1)
-      same-or-not (yes f) = inl f
-      same-or-not (no f) = inr (omega (arith, bit-or, f))
+  or-either e = so-or-not (ℕ-discrete (bit x k) 1) inl (λ f. inr (omega (arith, bit-or, f)))
 
 -- the set of no number
 pub exactly-none : {P : ℕ → Type 0} → ((k : ℕ) → P k → ⊥) → HasJust 0 P

@@ -2,46 +2,24 @@
 use Rattle.facts.proofs.Words.{_≡_, _∙_, ap, _⊎_, inr, ⊎-elim, _≢_, List, Bool, false, ℕ, _+_, _≤_, _<_, ℕ-discrete, decLt, arith, eq-eqb, ne-eqb}
 use Rattle.facts.proofs.Words.{bitOr, or-add-and, and-le-l, and-le-r, eqb, Says}
 use Rattle.facts.specs.{byte}
-use Rattle.facts.proofs.{says-true, says-false, says-as, says-eq}
+use Rattle.facts.proofs.{told, says-true, says-false, says-as, says-eq}
 use Rattle.layout.specs.{Zero, LiveIn, ClientsSound}
-
-or-zero-left : (x y : ℕ) → bitOr x y ≡ 0 → x ≡ 0
-or-zero-left x y e = omega (arith, or-add-and x y, and-le-r x y)
-
-or-zero-right : (x y : ℕ) → bitOr x y ≡ 0 → y ≡ 0
-or-zero-right x y e = omega (arith, or-add-and x y, and-le-l x y)
-
-or-zero : (x y : ℕ) → x ≡ 0 → y ≡ 0 → bitOr x y ≡ 0
-or-zero x y p q = omega (arith, or-add-and x y)
+use Rattle.table_read.proofs.Below.{so-or-not}
 
 -- a number is zero where what its being zero says is so
 pub zero-where : (n : ℕ) {P : Type 0} → Says (eqb n 0) P → P → n ≡ 0
-zero-where n s p = same-or-not (ℕ-discrete n 0)
-  where
-    same-or-not : Dec (n ≡ 0) → n ≡ 0
-    same-or-not (yes e) = e
-    same-or-not (no d) = absurd (s .fails (ne-eqb n 0 d) p)
+zero-where n s p = told (ℕ-discrete n 0) (λ d. s .fails (ne-eqb n 0 d) p)
 
 pub or-says : (x y : ℕ) {P Q : Type 0} → Says (eqb x 0) P → Says (eqb y 0) Q → Says (eqb (bitOr x y) 0) (P × Q)
 or-says x y p q =
     says-as (says-eq (bitOr x y) 0)
-    (λ e. (p .holds (eq-eqb x 0 (or-zero-left x y e)), q .holds (eq-eqb y 0 (or-zero-right x y e))))
-    (λ h. or-zero x y (zero-where x p (h .0)) (zero-where y q (h .1)))
+    (λ e. (p .holds (eq-eqb x 0 (omega (arith, or-add-and x y, and-le-r x y))), q .holds (eq-eqb y 0 (omega (arith, or-add-and x y, and-le-l x y)))))
+    (λ h. omega (arith, or-add-and x y, zero-where x p (h .0), zero-where y q (h .1)))
 
 -- a stretch of two parts is zero exactly if both are
 module _ (b : List ℕ) (from mid to : ℕ) (f : from ≤ mid) (l : mid ≤ to) where
   pub zero-joined : Zero b from mid → Zero b mid to → Zero b from to
-  zero-joined z z′ i h m = below-or-not (decLt i mid)
-    where
-      below-or-not : Dec (i < mid) → byte b i ≡ 0
-      below-or-not (yes n) = z i h n
-      below-or-not (no n) = z′ i (omega arith) m
-
-  zero-before : Zero b from to → Zero b from mid
-  zero-before z i h m = z i h (omega arith)
-
-  zero-after : Zero b from to → Zero b mid to
-  zero-after z i h m = z i (omega arith) m
+  zero-joined z z′ i h m = so-or-not (decLt i mid) (z i h) (λ n. z′ i (omega arith) m)
 
 -- the number is zero exactly if the bytes from one place up to another are
 pub record Gathered (b : List ℕ) (from to all : ℕ) : Type 0 where
@@ -55,7 +33,7 @@ pub gathered-joined : (b : List ℕ) (from mid to x y : ℕ) → from ≤ mid �
 gathered-joined b from mid to x y f l g g′ =
     record {
       says = says-as (or-says x y (g .says) (g′ .says)) (λ z. zero-joined b from mid to f l (z .0) (z .1))
-          (λ z. (zero-before b from mid to f l z, zero-after b from mid to f l z));
+          (λ z. (λ i h m. z i h (omega arith), λ i h m. z i (omega arith) m));
     }
 
 pub gathered-more : (b : List ℕ) (from i next all : ℕ) → from ≤ i → next ≡ i + 1 → Gathered b from i all
