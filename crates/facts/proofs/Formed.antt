@@ -79,10 +79,10 @@ pub own-answers : (a : Ports) (p : ℕ) → p < allPorts → Within p (a .base) 
 own-answers a p l h = record { below = l; own = p; own-in = h; equal = refl }
 
 -- the company that two grants keep doesn't depend on their order
-io-turned : (a b : IoGrant) → IoCompany a b → IoCompany b a
+pub io-turned : (a b : IoGrant) → IoCompany a b → IoCompany b a
 io-turned a b c m = let s = c (meet-symmetric (b .ports) (a .ports) m) in (s .1, s .0)
 
-irq-turned : (a b : IrqGrant) → IrqCompany a b → IrqCompany b a
+pub irq-turned : (a b : IrqGrant) → IrqCompany a b → IrqCompany b a
 irq-turned a b c e = together-symmetric (a .manner) (b .manner) (c (sym e))
 
 -- other clients, and so many handles issued

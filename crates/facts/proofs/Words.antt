@@ -15,7 +15,7 @@ pub use lib.Seq.{drop-at, drop-cons, drop-drop, ext-getD, getD-append-add, getD-
 pub use lib.Seq.{length-take-le, take-suc-set}
 pub use mathlib.Core.Bool.{Bool, cond, false, false≢true, not, true, true≢false}
 pub use mathlib.Core.List.{List, [], _++_, _∷_, append-assoc, head-eq-of-cons-eq, map, nil≢cons, tail-eq-of-cons-eq}
-pub use mathlib.Core.Logic.{Iff·rfl, _↔_, _≢_, _⊎_, inl, inr, ⊎-elim}
+pub use mathlib.Core.Logic.{Iff·rfl, _↔_, _≢_, _⊎_, by-cases, inl, inr, ⊎-elim}
 pub use mathlib.Core.Option.{Option, Option·none-ne-some, Option·some-injective, Option·some-ne-none, none, some}
 pub use mathlib.Core.Path.{_∙_, _≡_, ap, ap₂, fun-ext, refl, subst, subst⁻¹, subst₂, sym}
 pub use mir.Val.{boolByte}

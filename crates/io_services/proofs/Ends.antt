@@ -2,11 +2,11 @@
 use Rattle.facts.proofs.Words.{_≡_, refl, ap, sym, _∙_, inl, inr, _≢_, List, [], _∷_, none, some, Option·none-ne-some, ℕ, _+_, _≤_, _<_, decLe}
 use Rattle.facts.proofs.Words.{arith, set, Ports, subst, Option·some-injective}
 use Rattle.layout.proofs.Of
-use Rattle.facts.specs.{Code, Success, BadAttribute, BadBase, BadSize, InUse, Facts, IoGrant, word, withWord, _gives_, FirstGiven, Passed, Leaves}
+use Rattle.facts.specs.{Code, Success, BadAttribute, BadBase, BadSize, InUse, Facts, withWord, _gives_, FirstGiven, Passed, Leaves}
 use Rattle.facts.specs.{socketOf, requestIoLength, releaseIoLength, baseAsked, countAsked, linesAsked, secondCount, withIo, ioGrant, GrantsIo, IoHeld}
 use Rattle.facts.specs.{IoAttributesBad, IoSizeBad, BaseTaken, ownIoChecks, baseChecks, RequestIo, ReleaseIo, mostLines, ioAsked, IoAsked, HeldPorts}
 use Rattle.layout.specs.{ioPlace, ioIn, Accepted, IoUsed, ServedBy, ioEntered, ioBaseAt, ioCountAt, ioLinesAt, ioSharedAt, factsIn}
-use Rattle.layout.proofs.{client-is, ports-are, granted-image, released-image, left}
+use Rattle.layout.proofs.{granted-image, released-image, left}
 use Rattle.service_checks.specs.{BegunAt}
 use Rattle.service_checks.specs.declared.CardNeed.{CardNeed}
 use Rattle.service_checks.specs.declared.CardNeed.the-variants.{Needed, Ignored}
@@ -75,9 +75,7 @@ module _ (F : Facts) (h s base count : ℕ) where
 -- the service has begun: the seat's grant
 module _ {b p : List ℕ} {n h i s : ℕ} {need : CardNeed} (a : Accepted b) (begun : BegunAt b p n h need i s) where
   free : (IoUsed b s → ⊥) → a .facts .io (socketOf p) ≡ none
-  free d =
-      rw (← seat-named a begun)
-      (Of.none-said (λ (g : IoGrant). g .client) (a .facts .io s) (word b (ioPlace s)) (Of.io-of b a s (in-seats a begun)) d)
+  free d = rw (← seat-named a begun) (Of.no-io-said b a s (in-seats a begun) d)
 
   grant-is : IoUsed b s → a .facts .io (socketOf p) ≡ some (ioIn b s)
   grant-is u = rw (← seat-named a begun) (Of.io-said b a s (in-seats a begun) u)

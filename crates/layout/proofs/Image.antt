@@ -1,26 +1,23 @@
--- Where the parts of an image stand, and what its bytes are. Assumes nothing.
-use Rattle.facts.proofs.Words.{_≡_, refl, ap, ap₂, sym, _∙_, subst⁻¹, List, [], _∷_, _++_, Option, none, some, ℕ, suc, _+_, _*_, _-_, _≤_, _<_}
-use Rattle.facts.proofs.Words.{add-zero, add-assoc, add-one, arith, length, getD, drop, getElem?, length-append, length-replicate, getD-replicate}
-use Rattle.facts.proofs.Words.{List·getD-append, drop-at, drop-drop, getD-drop}
-use Rattle.facts.specs.{Facts, Client, Range, IoGrant, IrqGrant, byte, word, allLevels, mostClients, mostRanges, mostSockets}
-use Rattle.layout.specs.{each, mark, maskBytes, clientBytes, levelBytes, rangeBytes, ioBytes, irqBytes, head, cards, levels, ios, irqs}
-use Rattle.layout.specs.{clients, ranges, rest, image, cardSize, cardsAt, clientSize, clientsAt, ioSize, iosAt, irqSize, irqsAt, levelSize}
-use Rattle.layout.specs.{levelsAt, maskSize, rangeSize, rangesAt, restAt, tableSize}
-use Rattle.layout.proofs.Parts.{each-length, each-at, record-below}
+-- The parts of an image, whose records stand one after the other, and what its bytes are. Assumes nothing.
+use Rattle.facts.proofs.Words.{_≡_, refl, ap, ap₂, sym, _∙_, subst⁻¹, List, [], _∷_, _++_, Option, none, some, ℕ, suc, _+_, _*_, _-_, _<_, add-zero}
+use Rattle.facts.proofs.Words.{add-assoc, add-one, arith, length, getD, drop, getElem?, length-append, length-replicate, List·getD-append, drop-at}
+use Rattle.facts.proofs.Words.{drop-drop, getD-drop}
+use Rattle.facts.specs.{Facts, Client, Range, IoGrant, IrqGrant, byte, word, allLevels, mostClients, mostRanges, mostSockets, mostSeats}
+use Rattle.layout.specs.{each, mark, maskBytes, clientBytes, levelBytes, rangeBytes, ioBytes, irqBytes, head, cards, levels, ios, irqs, clients}
+use Rattle.layout.specs.{ranges, rest, image, cardSize, cardsAt, clientSize, ioSize, irqSize, levelSize, maskSize, rangeSize, restAt, tableSize}
+use Rattle.layout.specs.{Zero}
+use Rattle.layout.proofs.Parts.{each-length, each-at, record-below, zeros}
 
 -- the size of each record
-pub mask-size : (m : Option ℕ) → length (maskBytes m) ≡ 2
+pub mask-size : (m : Option ℕ) → length (maskBytes m) ≡ maskSize
 mask-size none = refl
 mask-size (some m) = refl
 
-masks-size : (c : Client) → length (each mostSockets (λ s. maskBytes (c .mask s))) ≡ mostSockets * maskSize
-masks-size c = each-length maskSize (λ s. maskBytes (c .mask s)) (λ s. mask-size (c .mask s)) mostSockets
-
 pub client-size : (c : Option Client) → length (clientBytes c) ≡ clientSize
 client-size none = refl
-client-size (some c) = omega (arith, masks-size c)
+client-size (some c) = omega (arith, each-length maskSize (λ s. maskBytes (c .mask s)) (λ s. mask-size (c .mask s)) mostSeats)
 
-pub range-size : (r : Option Range) → length (rangeBytes r) ≡ rangeSize
+range-size : (r : Option Range) → length (rangeBytes r) ≡ rangeSize
 range-size none = refl
 range-size (some r) = refl
 
@@ -32,83 +29,107 @@ pub irq-size : (g : Option IrqGrant) → length (irqBytes g) ≡ irqSize
 irq-size none = refl
 irq-size (some g) = refl
 
--- past a part of n bytes
-past : (l A B : List ℕ) (m n : ℕ) → drop m l ≡ A ++ B → length A ≡ n → drop (m + n) l ≡ B
-past l A B m n e h = sym (drop-drop n m l) ∙ ap (drop n) e ∙ drop-at A B n h
+-- a part: so many records of so many bytes
+pub record Part : Type 0 where
+  pub count : ℕ
+  pub size : ℕ
+  pub bytes : ℕ → List ℕ
+
+abbrev pub part : ℕ → ℕ → (ℕ → List ℕ) → Part
+part n k f = record { count = n; size = k; bytes = f }
+
+-- the parts of an image, in their order
+abbrev pub parts : Facts → List Part
+parts F =
+    part mostSockets cardSize (λ s. mark (F .card s) ∷ []) ∷ part allLevels levelSize (λ l. levelBytes (F .level l))
+    ∷ part mostSeats ioSize (λ s. ioBytes (F .io s))
+    ∷ part mostSeats irqSize (λ s. irqBytes (F .irq s))
+    ∷ part mostClients clientSize (λ i. clientBytes (getElem? (F .clients) i))
+    ∷ part mostRanges rangeSize (λ i. rangeBytes (getElem? (F .ranges) i))
+    ∷ []
+
+-- every record has its size
+abbrev Sized : List Part → Type 0
+Sized [] = Unit {0}
+Sized (p ∷ ps) = ((i : ℕ) → length (p .bytes i) ≡ p .size) × Sized ps
+
+sized : (F : Facts) → Sized (parts F)
+sized F = (
+  (λ s. refl),
+  (
+    (λ l. refl),
+    (
+      (λ s. io-size (F .io s)),
+      (
+        (λ s. irq-size (F .irq s)),
+        ((λ i. client-size (getElem? (F .clients) i)), ((λ i. range-size (getElem? (F .ranges) i)), tt)),
+      ),
+    ),
+  ),
+)
+
+-- the parts one after the other, and what follows them
+abbrev joined : List Part → List ℕ
+joined [] = rest
+joined (p ∷ ps) = each (p .count) (p .bytes) ++ joined ps
+
+-- where a part that begins at a place ends, and where several do
+abbrev pub end : ℕ → Part → ℕ
+end at p = at + p .count * p .size
+
+abbrev ends : ℕ → List Part → ℕ
+ends at [] = at
+ends at (p ∷ ps) = ends (end at p) ps
+
+-- the records of a part that begins at a place
+abbrev pub Stands : List ℕ → ℕ → Part → Type 0
+Stands b at p = (i : ℕ) → i < p .count → (j : ℕ) → j < p .size → byte b (at + i * p .size + j) ≡ getD (p .bytes i) j 0
+
+-- the parts stand from a place on, and zero bytes follow
+abbrev pub Shown : List ℕ → ℕ → List Part → Type 0
+Shown b at [] = Zero b at tableSize
+Shown b at (p ∷ ps) = Stands b at p × Shown b (end at p) ps
+
+joined-length : (at : ℕ) (ps : List Part) → Sized ps → at + length (joined ps) ≡ ends at ps + length rest
+joined-length at [] s = refl
+joined-length at (p ∷ ps) s =
+    omega (
+      arith,
+      length-append (each (p .count) (p .bytes)) (joined ps),
+      each-length (p .size) (p .bytes) (s .0) (p .count),
+      joined-length (end at p) ps (s .1),
+    )
+
+joined-shown : (b : List ℕ) (at : ℕ) (ps : List Part) → Sized ps → drop at b ≡ joined ps → Shown b at ps
+unfolding rest
+joined-shown b at [] s e =
+    λ i l m. let there : i ≡ at + (i - at) = omega arith in
+    ap (byte b) there ∙ sym (getD-drop at b (i - at) 0) ∙ ap (λ (y : List ℕ). getD y (i - at) 0) e ∙ zeros (tableSize - restAt) (i - at)
+joined-shown b at (p ∷ ps) s e = (here, joined-shown b (end at p) ps (s .1) past)
+  where
+    long : length (each (p .count) (p .bytes)) ≡ p .count * p .size
+    long = each-length (p .size) (p .bytes) (s .0) (p .count)
+
+    here : Stands b at p
+    here i l j h =
+        let q = i * p .size + j in
+        ap (byte b) (add-assoc at (i * p .size) j) ∙ sym (getD-drop at b q 0) ∙ ap (λ (y : List ℕ). getD y q 0) e
+        ∙ List·getD-append (each (p .count) (p .bytes)) (joined ps) 0 q (subst⁻¹ (λ (m : ℕ). q < m) long (record-below l h))
+        ∙ each-at (p .size) (p .bytes) (s .0) (p .count) i j l h
+
+    past : drop (end at p) b ≡ joined ps
+    past =
+        sym (drop-drop (p .count * p .size) at b) ∙ ap (drop (p .count * p .size)) e
+        ∙ drop-at (each (p .count) (p .bytes)) (joined ps) (p .count * p .size) long
 
 module _ (F : Facts) where
-  -- the length of each part
-  pub cards-length : length (cards F) ≡ mostSockets * cardSize
-  unfolding cards
-  cards-length = each-length cardSize (λ s. mark (F .card s) ∷ []) (λ s. refl) mostSockets
-
-  pub levels-length : length (levels F) ≡ allLevels * levelSize
-  unfolding levels
-  levels-length = each-length levelSize (λ l. levelBytes (F .level l)) (λ s. refl) allLevels
-
-  pub ios-length : length (ios F) ≡ mostSockets * ioSize
-  unfolding ios
-  ios-length = each-length ioSize (λ s. ioBytes (F .io s)) (λ s. io-size (F .io s)) mostSockets
-
-  pub irqs-length : length (irqs F) ≡ mostSockets * irqSize
-  unfolding irqs
-  irqs-length = each-length irqSize (λ s. irqBytes (F .irq s)) (λ s. irq-size (F .irq s)) mostSockets
-
-  pub clients-length : length (clients F) ≡ mostClients * clientSize
-  unfolding clients
-  clients-length =
-      each-length clientSize (λ i. clientBytes (getElem? (F .clients) i)) (λ i. client-size (getElem? (F .clients) i)) mostClients
-
-  pub ranges-length : length (ranges F) ≡ mostRanges * rangeSize
-  unfolding ranges
-  ranges-length = each-length rangeSize (λ i. rangeBytes (getElem? (F .ranges) i)) (λ i. range-size (getElem? (F .ranges) i)) mostRanges
-
-  pub rest-length : length rest ≡ (tableSize - restAt)
-  unfolding rest
-  rest-length = length-replicate {A = ℕ} (tableSize - restAt) 0
-
-  -- what follows each place
-  pub from-cards : drop cardsAt (image F) ≡ cards F ++ (levels F ++ (ios F ++ (irqs F ++ (clients F ++ (ranges F ++ rest)))))
-  unfolding image head
-  from-cards = refl
-
-  pub from-levels : drop levelsAt (image F) ≡ levels F ++ (ios F ++ (irqs F ++ (clients F ++ (ranges F ++ rest))))
-  from-levels =
-      past (image F) (cards F) (levels F ++ (ios F ++ (irqs F ++ (clients F ++ (ranges F ++ rest))))) cardsAt
-      (mostSockets * cardSize) from-cards cards-length
-
-  pub from-ios : drop iosAt (image F) ≡ ios F ++ (irqs F ++ (clients F ++ (ranges F ++ rest)))
-  from-ios =
-      past (image F) (levels F) (ios F ++ (irqs F ++ (clients F ++ (ranges F ++ rest)))) levelsAt
-      (allLevels * levelSize) from-levels levels-length
-
-  pub from-irqs : drop irqsAt (image F) ≡ irqs F ++ (clients F ++ (ranges F ++ rest))
-  from-irqs =
-      past (image F) (ios F) (irqs F ++ (clients F ++ (ranges F ++ rest))) iosAt (mostSockets * ioSize) from-ios ios-length
-
-  pub from-clients : drop clientsAt (image F) ≡ clients F ++ (ranges F ++ rest)
-  from-clients = past (image F) (irqs F) (clients F ++ (ranges F ++ rest)) irqsAt (mostSockets * irqSize) from-irqs irqs-length
-
-  pub from-ranges : drop rangesAt (image F) ≡ ranges F ++ rest
-  from-ranges = past (image F) (clients F) (ranges F ++ rest) clientsAt (mostClients * clientSize) from-clients clients-length
-
-  pub from-rest : drop restAt (image F) ≡ rest
-  from-rest = past (image F) (ranges F) rest rangesAt (mostRanges * rangeSize) from-ranges ranges-length
-
   pub image-length : length (image F) ≡ tableSize
-  unfolding image head
-  image-length =
-      simp (length-append, cards-length, levels-length, ios-length, irqs-length, clients-length, ranges-length, rest-length)
+  unfolding image head cards levels ios irqs clients ranges rest
+  image-length = omega (arith, joined-length cardsAt (parts F) (sized F), length-replicate {A = ℕ} (tableSize - restAt) 0)
 
--- records of k bytes stand at a place of b, n of them
-module _ (b C : List ℕ) (place k n : ℕ) (f : ℕ → List ℕ) (sized : (i : ℕ) → length (f i) ≡ k) (here : drop place b ≡ each n f ++ C) (i : ℕ)
-    (l : i < n) where
-  -- byte j of record i
-  pub byte-of : (j : ℕ) → j < k → byte b (place + i * k + j) ≡ getD (f i) j 0
-  byte-of j h =
-      ap (byte b) (add-assoc place (i * k) j) ∙ sym (getD-drop place b (i * k + j) 0) ∙ ap (λ (y : List ℕ). getD y (i * k + j) 0) here
-      ∙ List·getD-append (each n f) C 0 (i * k + j) (subst⁻¹ (λ (m : ℕ). i * k + j < m) (each-length k f sized n) (record-below l h))
-      ∙ each-at k f sized n i j l h
+  pub image-shown : Shown (image F) cardsAt (parts F)
+  unfolding image head cards levels ios irqs clients ranges
+  image-shown = joined-shown (image F) cardsAt (parts F) (sized F) refl
 
 -- the bytes of a record x stand at a place of b
 module _ (b : List ℕ) (place k : ℕ) (x : List ℕ) (at : (j : ℕ) → j < k → byte b (place + j) ≡ getD x j 0) where
@@ -123,54 +144,3 @@ module _ (b : List ℕ) (place k : ℕ) (x : List ℕ) (at : (j : ℕ) → j < k
 
   pub first-word : 1 < k → word b place ≡ getD x 0 0 + 256 * getD x 1 0
   first-word h = ap₂ (λ (y z : ℕ). y + 256 * z) (first-byte (omega arith)) (at 1 h)
-
--- the bytes of an image, record by record
-module _ (F : Facts) where
-  pub card-at : (s : ℕ) → s < mostSockets → byte (image F) (cardsAt + s) ≡ mark (F .card s)
-  unfolding cards
-  card-at s l =
-      ap (byte (image F)) (omega arith)
-      ∙ byte-of (image F) (levels F ++ (ios F ++ (irqs F ++ (clients F ++ (ranges F ++ rest))))) cardsAt cardSize mostSockets
-      (λ s. mark (F .card s) ∷ []) (λ s. refl) (from-cards F) s l 0 (omega arith)
-
-  pub level-at : (l : ℕ) → l < allLevels → (j : ℕ) → j < 2
-      → byte (image F) (levelsAt + l * levelSize + j) ≡ getD (levelBytes (F .level l)) j 0
-  unfolding levels
-  level-at =
-      byte-of (image F) (ios F ++ (irqs F ++ (clients F ++ (ranges F ++ rest)))) levelsAt levelSize allLevels
-      (λ l. levelBytes (F .level l)) (λ l. refl) (from-levels F)
-
-  pub io-at : (s : ℕ) → s < mostSockets → (j : ℕ) → j < ioSize
-      → byte (image F) (iosAt + s * ioSize + j) ≡ getD (ioBytes (F .io s)) j 0
-  unfolding ios
-  io-at =
-      byte-of (image F) (irqs F ++ (clients F ++ (ranges F ++ rest))) iosAt ioSize mostSockets (λ s. ioBytes (F .io s))
-      (λ s. io-size (F .io s)) (from-ios F)
-
-  pub irq-at : (s : ℕ) → s < mostSockets → (j : ℕ) → j < irqSize
-      → byte (image F) (irqsAt + s * irqSize + j) ≡ getD (irqBytes (F .irq s)) j 0
-  unfolding irqs
-  irq-at =
-      byte-of (image F) (clients F ++ (ranges F ++ rest)) irqsAt irqSize mostSockets (λ s. irqBytes (F .irq s))
-      (λ s. irq-size (F .irq s)) (from-irqs F)
-
-  pub client-at : (i : ℕ) → i < mostClients → (j : ℕ) → j < clientSize
-      → byte (image F) (clientsAt + i * clientSize + j) ≡ getD (clientBytes (getElem? (F .clients) i)) j 0
-  unfolding clients
-  client-at =
-      byte-of (image F) (ranges F ++ rest) clientsAt clientSize mostClients (λ i. clientBytes (getElem? (F .clients) i))
-      (λ i. client-size (getElem? (F .clients) i)) (from-clients F)
-
-  pub range-at : (i : ℕ) → i < mostRanges → (j : ℕ) → j < rangeSize
-      → byte (image F) (rangesAt + i * rangeSize + j) ≡ getD (rangeBytes (getElem? (F .ranges) i)) j 0
-  unfolding ranges
-  range-at =
-      byte-of (image F) rest rangesAt rangeSize mostRanges (λ i. rangeBytes (getElem? (F .ranges) i))
-      (λ i. range-size (getElem? (F .ranges) i)) (from-ranges F)
-
-  pub rest-at : (i : ℕ) → restAt ≤ i → i < tableSize → byte (image F) i ≡ 0
-  unfolding rest
-  rest-at i h l =
-      ap (byte (image F)) (omega arith) ∙ sym (getD-drop restAt (image F) (i - restAt) 0)
-      ∙ ap (λ (y : List ℕ). getD y (i - restAt) 0) (from-rest F)
-      ∙ getD-replicate (tableSize - restAt) (i - restAt) 0 0 (omega arith)

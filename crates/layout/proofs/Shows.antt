@@ -1,96 +1,144 @@
--- Bytes that show a set of facts, record by record, are its image. Assumes nothing.
-use Rattle.facts.proofs.Words.{_≡_, refl, ap, sym, _∙_, subst, List, [], _∷_, _++_, ℕ, _+_, _*_, _-_, _≤_, _<_, add-assoc, arith, length, getD}
-use Rattle.facts.proofs.Words.{getElem?, take, drop, replicate, getD-replicate, length-drop, length-replicate, ext-getD, getD-take, getD-drop}
-use Rattle.facts.proofs.Words.{drop-drop, length-take-le}
-use Rattle.layout.proofs.Image
-use Rattle.facts.specs.{Facts, byte, allLevels, mostClients, mostRanges, mostSockets}
-use Rattle.layout.specs.{each, mark, clientBytes, levelBytes, rangeBytes, ioBytes, irqBytes, cards, levels, ios, irqs, clients, ranges, head}
-use Rattle.layout.specs.{rest, image, clientPlace, rangePlace, levelPlace, ioPlace, irqPlace, cardSize, cardsAt, clientSize, clientsAt, ioSize}
-use Rattle.layout.specs.{iosAt, irqSize, irqsAt, levelSize, levelsAt, rangeSize, rangesAt, restAt, tableSize}
-use Rattle.layout.proofs.Parts.{below-at, join, each-parts, record-below}
+-- Bytes that show a set of facts, part by part, are its image; and what is shown by bytes that are changed in one part. Assumes nothing.
+use Rattle.facts.proofs.Words.{_≡_, refl, ap, sym, _∙_, subst, _⊎_, inl, inr, ⊎-elim, by-cases, List, [], _∷_, ℕ, zero, suc, _+_, _*_, _/_, _%_, _≤_}
+use Rattle.facts.proofs.Words.{_<_, decLt, arith, length, getD, getElem?, ext-getD}
+use Rattle.facts.specs.{Facts, put, byte, allLevels, mostClients, mostRanges, mostSockets, mostSeats}
+use Rattle.facts.proofs.Sets.{put-all}
+use Rattle.layout.specs.{mark, clientBytes, levelBytes, rangeBytes, ioBytes, irqBytes, head, image, cardsAt, clientSize, clientsAt, ioSize}
+use Rattle.layout.specs.{iosAt, irqSize, irqsAt, levelSize, levelsAt, rangeSize, rangesAt, restAt, tableSize, Zero}
+use Rattle.layout.proofs.Parts.{below-at, located, record-below, record-apart}
+use Rattle.layout.proofs.Image.{Part, part, parts, end, Stands, Shown, image-length, image-shown}
+use Rattle.layout.proofs.Entered.{Wrote}
+
+-- the five bytes of the head
+abbrev pub Heads : Facts → List ℕ → Type 0
+Heads F b =
+    (byte b 0 ≡ F .sockets) × (byte b 1 ≡ length (F .clients)) × (byte b 2 ≡ length (F .ranges)) × (byte b 3 ≡ F .issued % 256)
+    × (byte b 4 ≡ F .issued / 256)
 
 pub record Shows (F : Facts) (b : List ℕ) : Type 0 where
   pub size : length b ≡ tableSize
-  pub head-is : (j : ℕ) → j < 5 → getD (head F) j 0 ≡ byte b j
-  pub cards-are : (s : ℕ) → s < mostSockets → mark (F .card s) ≡ byte b (cardsAt + s)
-  pub levels-are : (l j : ℕ) → l < allLevels → j < levelSize → getD (levelBytes (F .level l)) j 0 ≡ byte b (levelPlace l + j)
-  pub ios-are : (s j : ℕ) → s < mostSockets → j < ioSize → getD (ioBytes (F .io s)) j 0 ≡ byte b (ioPlace s + j)
-  pub irqs-are : (s j : ℕ) → s < mostSockets → j < irqSize → getD (irqBytes (F .irq s)) j 0 ≡ byte b (irqPlace s + j)
-  pub clients-are : (i j : ℕ) → i < mostClients → j < clientSize
-      → getD (clientBytes (getElem? (F .clients) i)) j 0 ≡ byte b (clientPlace i + j)
-  pub ranges-are : (i j : ℕ) → i < mostRanges → j < rangeSize
-      → getD (rangeBytes (getElem? (F .ranges) i)) j 0 ≡ byte b (rangePlace i + j)
-  pub rest-is : (i : ℕ) → restAt ≤ i → i < tableSize → byte b i ≡ 0
-
--- records that are the bytes at a place make that part of the list
-part : (b : List ℕ) (place k n : ℕ) (f : ℕ → List ℕ) → ((i : ℕ) → length (f i) ≡ k) → place + n * k ≤ length b
-    → ((i j : ℕ) → i < n → j < k → getD (f i) j 0 ≡ byte b (place + i * k + j))
-    → each n f ≡ take (n * k) (drop place b)
-part b place k n f sized fits h =
-    each-parts k f sized n (take (n * k) (drop place b)) (length-take-le (n * k) (drop place b) (omega (arith, length-drop place b)))
-    (λ i j l m. h i j l m ∙ ap (byte b) (add-assoc place (i * k) j) ∙ sym (getD-drop place b (i * k + j) 0)
-    ∙ sym (getD-take (n * k) (drop place b) (i * k + j) 0 (record-below l m)))
-
-module _ (F : Facts) (b : List ℕ) (s : Shows F b) where
-  enough : {n : ℕ} → n ≤ tableSize → n ≤ length b
-  enough l = omega (arith, s .size)
-
-  card-bytes : (i j : ℕ) → i < mostSockets → j < 1 → getD (mark (F .card i) ∷ []) j 0 ≡ byte b (cardsAt + i * 1 + j)
-  card-bytes i j l m =
-      below-at 1 (λ j. getD (mark (F .card i) ∷ []) j 0 ≡ byte b (cardsAt + i * 1 + j)) (tt, s .cards-are i l ∙ ap (byte b) (omega arith)) j m
-
-  rest-bytes : rest ≡ drop restAt b
-  unfolding rest
-  rest-bytes =
-      ext-getD 0 (replicate (tableSize - restAt) 0) (drop restAt b)
-      (length-replicate {A = ℕ} (tableSize - restAt) 0
-      ∙ sym (length-drop restAt b ∙ ap (λ (n : ℕ). n - restAt) (s .size)))
-      (λ i l. let m = subst (λ (n : ℕ). i < n) (length-replicate {A = ℕ} (tableSize - restAt) 0) l in
-      getD-replicate (tableSize - restAt) i 0 0 m ∙ sym (s .rest-is (restAt + i) (omega arith) (omega arith))
-      ∙ sym (getD-drop restAt b i 0))
-
-  head-bytes : head F ≡ take 5 b
-  unfolding head
-  head-bytes =
-      ext-getD 0 (head F) (take 5 b) (sym (length-take-le 5 b (enough (omega arith)))) (λ j l. s .head-is j l ∙ sym (getD-take 5 b j 0 l))
-
-  step : (place n : ℕ) {A B : List ℕ} → A ≡ take n (drop place b) → B ≡ drop (place + n) b → A ++ B ≡ drop place b
-  step place n p q = join n p (q ∙ sym (drop-drop n place b))
-
-  pub shows-image : image F ≡ b
-  unfolding image cards levels ios irqs clients ranges
-  shows-image =
-      join 5 head-bytes
-      (step cardsAt (mostSockets * cardSize)
-      (part b cardsAt cardSize mostSockets (λ s. mark (F .card s) ∷ []) (λ i. refl) (enough (omega arith)) card-bytes)
-      (step levelsAt (allLevels * levelSize)
-      (part b levelsAt levelSize allLevels (λ l. levelBytes (F .level l)) (λ i. refl) (enough (omega arith)) (s .levels-are))
-      (step iosAt (mostSockets * ioSize)
-      (part b iosAt ioSize mostSockets (λ s. ioBytes (F .io s)) (λ i. Image.io-size (F .io i)) (enough (omega arith))
-      (s .ios-are))
-      (step irqsAt (mostSockets * irqSize)
-      (part b irqsAt irqSize mostSockets (λ s. irqBytes (F .irq s)) (λ i. Image.irq-size (F .irq i)) (enough (omega arith))
-      (s .irqs-are))
-      (step clientsAt (mostClients * clientSize)
-      (part b clientsAt clientSize mostClients (λ i. clientBytes (getElem? (F .clients) i))
-      (λ i. Image.client-size (getElem? (F .clients) i)) (enough (omega arith)) (s .clients-are))
-      (step rangesAt (mostRanges * rangeSize)
-      (part b rangesAt rangeSize mostRanges (λ i. rangeBytes (getElem? (F .ranges) i))
-      (λ i. Image.range-size (getElem? (F .ranges) i)) (enough (omega arith)) (s .ranges-are))
-      rest-bytes))))))
+  pub heads : Heads F b
+  pub shown : Shown b cardsAt (parts F)
 
 -- the image shows its set
 pub image-shows : (F : Facts) → Shows F (image F)
 unfolding image head
-image-shows F =
-    record {
-      size = Image.image-length F;
-      head-is = below-at 5 (λ j. getD (head F) j 0 ≡ byte (image F) j) (((((tt, refl), refl), refl), refl), refl);
-      cards-are = λ s l. sym (Image.card-at F s l);
-      levels-are = λ l j h m. sym (Image.level-at F l h j m);
-      ios-are = λ s j h m. sym (Image.io-at F s h j m);
-      irqs-are = λ s j h m. sym (Image.irq-at F s h j m);
-      clients-are = λ i j h m. sym (Image.client-at F i h j m);
-      ranges-are = λ i j h m. sym (Image.range-at F i h j m);
-      rest-is = Image.rest-at F;
-    }
+image-shows F = record { size = image-length F; heads = (refl, refl, refl, refl, refl); shown = image-shown F }
+
+-- what each part shows
+module _ {F : Facts} {b : List ℕ} (w : Shows F b) where
+  pub card-at : (s : ℕ) → s < mostSockets → byte b (cardsAt + s) ≡ mark (F .card s)
+  card-at s l = ap (byte b) (omega arith) ∙ w .shown .0 s l 0 (omega arith)
+
+  pub levels-are : Stands b levelsAt (part allLevels levelSize (λ l. levelBytes (F .level l)))
+  levels-are = w .shown .1 .0
+
+  pub ios-are : Stands b iosAt (part mostSeats ioSize (λ s. ioBytes (F .io s)))
+  ios-are = w .shown .1 .1 .0
+
+  pub irqs-are : Stands b irqsAt (part mostSeats irqSize (λ s. irqBytes (F .irq s)))
+  irqs-are = w .shown .1 .1 .1 .0
+
+  pub clients-are : Stands b clientsAt (part mostClients clientSize (λ i. clientBytes (getElem? (F .clients) i)))
+  clients-are = w .shown .1 .1 .1 .1 .0
+
+  pub ranges-are : Stands b rangesAt (part mostRanges rangeSize (λ i. rangeBytes (getElem? (F .ranges) i)))
+  ranges-are = w .shown .1 .1 .1 .1 .1 .0
+
+  pub rest-is : Zero b restAt tableSize
+  rest-is = w .shown .1 .1 .1 .1 .1 .1
+
+-- bytes that show the same parts are the same
+shown-same : (b b′ : List ℕ) (at : ℕ) (ps : List Part) → Shown b at ps → Shown b′ at ps → (q : ℕ) → at ≤ q → q < tableSize → byte b q ≡ byte b′ q
+shown-same b b′ at [] s t q l m = s q l m ∙ sym (t q l m)
+shown-same b b′ at (p ∷ ps) s t q l m =
+    by-cases (decLt q (end at p))
+    (λ h. let r = located at (p .size) (p .count) q l h in
+    subst (λ (o : ℕ). byte b o ≡ byte b′ o) (r .4) (s .0 (r .0) (r .1) (r .2) (r .3) ∙ sym (t .0 (r .0) (r .1) (r .2) (r .3))))
+    (λ h. shown-same b b′ (end at p) ps (s .1) (t .1) q (omega arith) m)
+
+-- so they are the image
+pub shows-image : (F : Facts) (b : List ℕ) → Shows F b → image F ≡ b
+shows-image F b w = ext-getD 0 (image F) b (v .size ∙ sym (w .size)) (λ q l. same q (subst (λ (n : ℕ). q < n) (v .size) l))
+  where
+    v : Shows F (image F)
+    v = image-shows F
+
+    same : (q : ℕ) → q < tableSize → byte (image F) q ≡ byte b q
+    same q l =
+        by-cases (decLt q 5)
+        (below-at 5 (λ q. byte (image F) q ≡ byte b q) (
+          ((((tt, v .heads .0 ∙ sym (w .heads .0)), v .heads .1 ∙ sym (w .heads .1)), v .heads .2 ∙ sym (w .heads .2)), v .heads .3 ∙ sym (w .heads .3)),
+          v .heads .4 ∙ sym (w .heads .4),
+        ) q)
+        (λ h. shown-same (image F) b cardsAt (parts F) (v .shown) (w .shown) q (omega arith) l)
+
+-- where the cth of the parts begins, those with other records in the cth, and that these stand there
+abbrev pub beginning : ℕ → ℕ → List Part → ℕ
+beginning zero at ps = at
+beginning (suc c) at [] = at
+beginning (suc c) at (p ∷ ps) = beginning c (end at p) ps
+
+abbrev pub changing : ℕ → (ℕ → List ℕ) → List Part → List Part
+changing c f [] = []
+changing zero f (p ∷ ps) = part (p .count) (p .size) f ∷ ps
+changing (suc c) f (p ∷ ps) = p ∷ changing c f ps
+
+abbrev pub Changed : List ℕ → ℕ → (ℕ → List ℕ) → ℕ → List Part → Type 0
+Changed b c f at [] = Unit {0}
+Changed b zero f at (p ∷ ps) = Stands b at (part (p .count) (p .size) f)
+Changed b (suc c) f at (p ∷ ps) = Changed b c f (end at p) ps
+
+begins-past : (c at : ℕ) (ps : List Part) → at ≤ beginning c at ps
+begins-past zero at ps = omega arith
+begins-past (suc c) at [] = omega arith
+begins-past (suc c) at (p ∷ ps) = omega (arith, begins-past c (end at p) ps)
+
+module _ (b b′ : List ℕ) where
+  -- parts are shown as before where no byte from their place on is changed
+  shown-kept : (at : ℕ) (ps : List Part) → Shown b at ps → ((q : ℕ) → at ≤ q → byte b′ q ≡ byte b q) → Shown b′ at ps
+  shown-kept at [] s kept = λ q l m. kept q l ∙ s q l m
+  shown-kept at (p ∷ ps) s kept =
+      ((λ i l j m. kept (at + i * p .size + j) (omega arith) ∙ s .0 i l j m), shown-kept (end at p) ps (s .1) (λ q l. kept q (omega arith)))
+
+  -- other records in the cth part, where no byte outside it is changed
+  pub shown-changed : (c : ℕ) (f : ℕ → List ℕ) (at : ℕ) (ps : List Part) → Shown b at ps
+      → ((q : ℕ) → at ≤ q → (q < beginning c at ps) ⊎ (beginning (suc c) at ps ≤ q) → byte b′ q ≡ byte b q)
+      → Changed b′ c f at ps
+      → Shown b′ at (changing c f ps)
+  shown-changed c f at [] s kept new = shown-kept at [] s (λ q l. kept q l (inr l))
+  shown-changed zero f at (p ∷ ps) s kept new = (new, shown-kept (end at p) ps (s .1) (λ q l. kept q (omega arith) (inr l)))
+  shown-changed (suc c) f at (p ∷ ps) s kept new = (
+    λ i l j m. kept (at + i * p .size + j) (omega arith) (inl (omega (arith, record-below l m, begins-past c (end at p) ps))) ∙ s .0 i l j m,
+    shown-changed c f (end at p) ps (s .1) (λ q l. kept q (omega arith)) new,
+  )
+
+-- the bytes of the head, where they are not changed
+pub heads-kept : {F : Facts} {b : List ℕ} → Shows F b → (b′ : List ℕ) → ((q : ℕ) → q < 5 → byte b′ q ≡ byte b q) → Heads F b′
+heads-kept w b′ kept =
+    let h = w .heads in
+    (kept 0 (omega arith) ∙ h .0, kept 1 (omega arith) ∙ h .1, kept 2 (omega arith) ∙ h .2, kept 3 (omega arith) ∙ h .3, kept 4 (omega arith) ∙ h .4)
+
+-- only bytes of the cth part are written, which has other records then: the table is the image of the facts G that have those
+pub wrote-image : {F : Facts} {b b′ : List ℕ} {p : ℕ} {x : List ℕ} (G : Facts) (c : ℕ) (f : ℕ → List ℕ) → Shows F b → Wrote b p x b′
+    → beginning c cardsAt (parts F) ≤ p
+    → p + length x ≤ beginning (suc c) cardsAt (parts F)
+    → Changed b′ c f cardsAt (parts F)
+    → (Heads F b′ → Shown b′ cardsAt (changing c f (parts F)) → Heads G b′ × Shown b′ cardsAt (parts G))
+    → image G ≡ b′
+wrote-image {F} {b} {b′} G c f w wrote from to new so =
+    let heads = heads-kept w b′ (λ q l. wrote .other q (inl (omega (arith, begins-past c cardsAt (parts F))))) in
+    let shown = shown-changed b b′ c f cardsAt (parts F) (w .shown)
+    (λ q l. ⊎-elim (λ m. wrote .other q (inl (omega arith))) (λ m. wrote .other q (inr (omega arith)))) new in
+    let r = so heads shown in
+    shows-image G b′ (record { size = wrote .size ∙ w .size; heads = r .0; shown = r .1 })
+
+-- the record of x is written in the place s: the part has x there
+pub put-stands : {A : Type 0} (bytes : A → List ℕ) (f : ℕ → A) (s : ℕ) (x : A) (at n k : ℕ) {b b′ : List ℕ} → length (bytes x) ≡ k
+    → Stands b at (part n k (λ i. bytes (f i)))
+    → Wrote b (at + s * k) (bytes x) b′
+    → Stands b′ at (part n k (λ i. bytes (put f s x i)))
+put-stands {A} bytes f s x at n k {b} {b′} long stands wrote i l j m =
+    put-all (λ (i : ℕ) (y : A). i < n → byte b′ (at + i * k + j) ≡ getD (bytes y) j 0) f s x (λ _. wrote .bytes j (omega (arith, long)))
+    (λ i d l. wrote .other (at + i * k + j)
+    (⊎-elim (λ h. inl (omega (arith, h))) (λ h. inr (omega (arith, h, long))) (record-apart d m)) ∙ stands i l j m) i l

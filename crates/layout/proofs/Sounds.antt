@@ -1,21 +1,23 @@
--- The image of a well-formed set is sound. Assumes nothing.
-use Rattle.facts.proofs.Words.{_≡_, refl, ap, sym, _∙_, subst, subst₂, inl, inr, Bool, true, false, Option, none, some, ℕ, zero, suc, _+_, _*_, _-_}
-use Rattle.facts.proofs.Words.{_/_, _%_, _^_, _≤_, _<_, decLt, arith, length, getD, getElem?, WellFormed}
+-- Bytes that show the facts read off them are sound where these are well formed. Assumes nothing.
+use Rattle.facts.proofs.Words.{_≡_, refl, ap, sym, _∙_, subst, inl, inr, by-cases, List, Bool, true, false, Option, none, some, ℕ, zero, suc, _+_}
+use Rattle.facts.proofs.Words.{_*_, _-_, _≤_, _<_, decLt, ℕ-discrete, arith, getD, WellFormed}
 use Rattle.layout.proofs.Image
-use Rattle.facts.specs.{Manner, Exclusive, TimeMultiplexed, DynamicLevel, DynamicPulse, Facts, Client, Range, IoGrant, IrqGrant, Managed, Answers}
-use Rattle.facts.specs.{byte, word, AttributesAllowed, Live, IoCompany, IrqCompany, allEvents, allLevels, mostSockets}
+use Rattle.facts.specs.{Manner, Exclusive, TimeMultiplexed, DynamicLevel, DynamicPulse, Client, Range, IoGrant, IrqGrant, byte, word, allEvents}
+use Rattle.facts.specs.{allLevels, mostClients, mostRanges, mostSeats, mostSockets}
 use Rattle.facts.proofs.{rising-over, apart-port}
-use Rattle.layout.specs.{mark, maskBytes, clientBytes, rangeBytes, levelBytes, ioBytes, irqBytes, mannerByte, head, image, socketsIn}
-use Rattle.layout.specs.{clientsIn, rangesIn, issuedIn, maskPlace, clientPlace, rangePlace, levelPlace, ioPlace, irqPlace, handleIn, clientIn}
-use Rattle.layout.specs.{rangeIn, ioIn, irqIn, ioHere, irqHere, Zero, CardSound, LevelSound, ClientSound, RangeSound, MaskSound, LiveIn}
-use Rattle.layout.specs.{ManagedIn, IoUsed, IrqUsed, IoSound, IrqSound, IoPlaceSound, IrqPlaceSound, IoPairSound, IrqPairSound, handleBefore}
-use Rattle.layout.specs.{endBefore, rangeBase, rangeCount, clientSize, clientsAt, ioSize, ioSpareAt, irqSize, levelSize, rangeSize, rangesAt}
-use Rattle.layout.specs.{restAt, tableSize}
+use Rattle.layout.specs.{mark, maskBytes, clientBytes, rangeBytes, levelBytes, ioBytes, irqBytes, mannerByte, clientsIn, rangesIn, maskPlace}
+use Rattle.layout.specs.{clientPlace, rangePlace, levelPlace, ioPlace, handleIn, clientIn, rangeIn, ioIn, irqIn, ioHere, irqHere, factsIn, Zero}
+use Rattle.layout.specs.{CardSound, LevelSound, ClientSound, RangeSound, MaskSound, IoUsed, IrqUsed, IoSound, IrqSound, handleBefore, endBefore}
+use Rattle.layout.specs.{rangeBase, clientSize, clientsAt, ioSize, iosAt, ioSpareAt, irqSize, irqsAt, levelSize, rangeSize, rangesAt, restAt}
+use Rattle.layout.specs.{tableSize, maskOf}
 use Rattle.layout.specs.Sound.{Sound}
-use Rattle.layout.proofs.Parts.{below-at}
-use Rattle.layout.proofs.Lists.{below-in, at-below, at-past, at-in, in-at, rising-next, apart-next}
-use Rattle.layout.proofs.RoundTrip.{two-back, mask-word, client-bytes, client-is, range-is, ios-back, irqs-back}
-use Rattle.layout.proofs.Grants.{zeros, nonzero, none-zero, placed, used}
+use Rattle.layout.proofs.Parts.{below-at, zeros}
+use Rattle.layout.proofs.Lists.{below-in, upTo-in, at-upTo, upTo-length, rising-before, apart-next}
+use Rattle.layout.proofs.Records.{unused}
+use Rattle.layout.proofs.RoundTrip.{two-back, mask-word}
+use Rattle.layout.proofs.Grants.{positive-test, grants-placed}
+use Rattle.layout.proofs.Said.{live-in, managed-in, io-here, irq-here}
+use Rattle.layout.proofs.Shows.{Shows, card-at, levels-are, ios-are, irqs-are, clients-are, ranges-are, rest-is}
 
 mark-most : (t : Bool) → mark t ≤ 1
 mark-most true = omega arith
@@ -35,266 +37,151 @@ manner-most TimeMultiplexed = omega arith
 manner-most DynamicLevel = omega arith
 manner-most DynamicPulse = omega arith
 
-module _ (F : Facts) (w : WellFormed F) where
-  pub sockets-is : socketsIn (image F) ≡ F .sockets
-  unfolding image head
-  sockets-is = refl
+module _ (b : List ℕ) (w : WellFormed (factsIn b)) (v : Shows (factsIn b) b) where
+  card-sound : (t : ℕ) → t < mostSockets → CardSound b t
+  unfolding factsIn
+  card-sound t l =
+      let e = card-at v t l in
+      record { mark = omega (arith, e, mark-most (factsIn b .card t)); socket = λ h. w .cards t (mark-true (factsIn b .card t) (sym e ∙ h)) }
 
-  pub clients-is : clientsIn (image F) ≡ length (F .clients)
-  unfolding image head
-  clients-is = refl
+  managed-byte : (l : ℕ) → l < allLevels → byte b (levelPlace l) ≡ mark (factsIn b .level l .managed)
+  managed-byte l h = Image.first-byte b (levelPlace l) levelSize (levelBytes (factsIn b .level l)) (levels-are v l h) (omega arith)
 
-  pub ranges-is : rangesIn (image F) ≡ length (F .ranges)
-  unfolding image head
-  ranges-is = refl
-
-  pub issued-is : issuedIn (image F) ≡ F .issued
-  unfolding image head
-  issued-is = two-back (F .issued)
-
-  card-sound : (s : ℕ) → s < mostSockets → CardSound (image F) s
-  card-sound s l =
-      let e = Image.card-at F s l in
-      record {
-        mark = subst (λ (n : ℕ). n ≤ 1) (sym e) (mark-most (F .card s));
-        socket = λ h. omega (arith, sockets-is, w .cards s (mark-true (F .card s) (sym e ∙ h)));
-      }
-
-  level-sound : (l : ℕ) → l < allLevels → LevelSound (image F) l
+  level-sound : (l : ℕ) → l < allLevels → LevelSound b l
   level-sound l h =
-      let m = Image.first-byte (image F) (levelPlace l) levelSize (levelBytes (F .level l)) (Image.level-at F l h) (omega arith) in
-      let r = Image.level-at F l h 1 (omega arith) in
+      let level = factsIn b .level l in
+      let m = managed-byte l h in
       record {
-        managed = omega (arith, m, mark-most (F .level l .managed));
-        reserved = omega (arith, m, r, mark-below (F .level l .reserved) (F .level l .managed) (w .reserved l));
+        managed = omega (arith, m, mark-most (level .managed));
+        reserved = omega (arith, m, levels-are v l h 1 (omega arith), mark-below (level .reserved) (level .managed) (w .reserved l));
       }
 
-  pub handle-is : (i : ℕ) (c : Client) → getElem? (F .clients) i ≡ some c → i < length (F .clients) → handleIn (image F) i ≡ c .handle
-  unfolding clientIn
-  handle-is i c e l = ap (λ (x : Client). x .handle) (client-is F w i c e l)
+  -- the ith client
+  client-row : (i : ℕ) → i < clientsIn b → (j : ℕ) → j < clientSize → byte b (clientPlace i + j) ≡ getD (clientBytes (some (clientIn b i))) j 0
+  unfolding factsIn
+  client-row i l j h =
+      clients-are v i (omega (arith, w .clients-most, upTo-length (clientsIn b) (clientIn b))) j h
+      ∙ ap (λ (o : Option Client). getD (clientBytes o) j 0) (at-upTo (clientsIn b) (clientIn b) i l)
 
-  pub mask-sound : (i : ℕ) (c : Client) → getElem? (F .clients) i ≡ some c → i < length (F .clients) → (s : ℕ) → s < mostSockets
-      → MaskSound (image F) i s
-  mask-sound i c e l s h = there-or-not (c .mask s) refl
-    where
-      is : word (image F) (maskPlace i s) ≡ getD (maskBytes (c .mask s)) 0 0 + 256 * getD (maskBytes (c .mask s)) 1 0
-      is = mask-word (image F) i c (client-bytes F w i c e l) s h
+  mask-sound : (i : ℕ) → i < clientsIn b → (t : ℕ) → t < mostSeats → MaskSound b i t
+  unfolding factsIn clientIn
+  mask-sound i l t h =
+      let n = word b (maskPlace i t) in
+      by-cases (ℕ-discrete n 0) inl
+      (λ u. let is = below-in mostSeats none (λ t. maskOf (word b (maskPlace i t))) t h ∙ positive-test n none (some (n - allEvents)) (omega (arith, u)) in
+      let fits = w .clients (clientIn b i) (upTo-in (clientsIn b) (clientIn b) i l) .mask t (n - allEvents) is in
+      let said = mask-word b i (clientIn b i) (client-row i l) t h
+      ∙ ap (λ (o : Option ℕ). getD (maskBytes o) 0 0 + 256 * getD (maskBytes o) 1 0) is
+      ∙ two-back (allEvents + (n - allEvents)) in
+      inr (omega (arith, said), omega (arith, said, fits .1), fits .0))
 
-      there-or-not : (o : Option ℕ) → c .mask s ≡ o → MaskSound (image F) i s
-      there-or-not none q = inl (is ∙ ap (λ (o : Option ℕ). getD (maskBytes o) 0 0 + 256 * getD (maskBytes o) 1 0) q)
-      there-or-not (some m) q =
-          let n = is ∙ ap (λ (o : Option ℕ). getD (maskBytes o) 0 0 + 256 * getD (maskBytes o) 1 0) q ∙ two-back (allEvents + m) in
-          let f = w .clients c (at-in (F .clients) i e) .mask s m q in
-          inr (omega (arith, n), omega (arith, n, f .1), omega (arith, sockets-is, f .0))
+  over : (i : ℕ) → i < clientsIn b → handleBefore b i < handleIn b i
+  unfolding factsIn clientIn
+  over zero l = rising-over 0 (factsIn b .clients) (w .handles) (clientIn b 0) (upTo-in (clientsIn b) (clientIn b) 0 l)
+  over (suc i) l =
+      rising-before 0 (factsIn b .clients) i (suc i) (clientIn b i) (clientIn b (suc i)) (w .handles) (omega arith)
+      (at-upTo (clientsIn b) (clientIn b) i (omega arith)) (at-upTo (clientsIn b) (clientIn b) (suc i) l)
 
-  over : (i : ℕ) (c : Client) → getElem? (F .clients) i ≡ some c → i < length (F .clients) → handleBefore (image F) i < c .handle
-  over zero c e l = rising-over 0 (F .clients) (w .handles) c (at-in (F .clients) zero e)
-  over (suc i) c e l =
-      let x = at-below (F .clients) i (omega arith) in
-      omega (arith, handle-is i (x .0) (x .1) (omega arith), rising-next 0 (F .clients) i (x .0) c (w .handles) (x .1) e)
-
-  client-sound : (i : ℕ) → i < clientsIn (image F) → ClientSound (image F) (handleBefore (image F) i) i
-  unfolding clientIn
+  client-sound : (i : ℕ) → i < clientsIn b → ClientSound b (handleBefore b i) i
+  unfolding factsIn clientIn
   client-sound i l =
-      let m = subst (λ (n : ℕ). i < n) clients-is l in
-      let x = at-below (F .clients) i m in
-      let is = client-is F w i (x .0) (x .1) m in
-      let fits = w .clients (x .0) (at-in (F .clients) i (x .1)) in
-      record {
-        over = omega (arith, over i (x .0) (x .1) m, handle-is i (x .0) (x .1) m);
-        issued = omega (arith, handle-is i (x .0) (x .1) m, fits .issued, issued-is);
-        attributes = subst AttributesAllowed (sym (ap (λ (c : Client). c .attributes) is)) (fits .attributes);
-        events = omega (arith, ap (λ (c : Client). c .events) is, fits .events);
-        masks = mask-sound i (x .0) (x .1) m;
-      }
+      let fits = w .clients (clientIn b i) (upTo-in (clientsIn b) (clientIn b) i l) in
+      record { over = over i l; issued = fits .issued; attributes = fits .attributes; events = fits .events; masks = mask-sound i l }
 
-  clients-end : Zero (image F) (clientPlace (clientsIn (image F))) rangesAt
-  clients-end k l m =
-      ap (byte (image F)) place ∙ Image.client-at F i (omega arith) j (omega arith)
-      ∙ ap (λ (o : Option Client). getD (clientBytes o) j 0) (at-past (F .clients) i (omega (arith, clients-is)))
-      ∙ zeros clientSize j (omega arith)
-    where
-      i : ℕ
-      i = (k - clientsAt) / clientSize
+  clients-end : Zero b (clientPlace (clientsIn b)) rangesAt
+  unfolding factsIn
+  clients-end q l =
+      unused clientBytes clientsAt clientSize mostClients (zeros clientSize) (factsIn b .clients) b (clients-are v) q
+      (omega (arith, upTo-length (clientsIn b) (clientIn b)))
 
-      j : ℕ
-      j = (k - clientsAt) % clientSize
+  -- the ith range
+  from : (i : ℕ) → i < rangesIn b → endBefore b i ≤ rangeBase b i
+  unfolding factsIn rangeIn
+  from zero l = omega arith
+  from (suc i) l =
+      apart-next 0 (factsIn b .ranges) i (rangeIn b i) (rangeIn b (suc i)) (w .apart) (at-upTo (rangesIn b) (rangeIn b) i (omega arith))
+      (at-upTo (rangesIn b) (rangeIn b) (suc i) l)
 
-      place : k ≡ clientPlace i + j
-      place = omega arith
-
-  base-is : (i : ℕ) (r : Range) → getElem? (F .ranges) i ≡ some r → i < length (F .ranges)
-      → (rangeBase (image F) i ≡ r .base) × (rangeCount (image F) i ≡ r .count)
-  unfolding rangeIn
-  base-is i r e l = (ap (λ (x : Range). x .base) (range-is F w i r e l), ap (λ (x : Range). x .count) (range-is F w i r e l))
-
-  from : (i : ℕ) (r : Range) → getElem? (F .ranges) i ≡ some r → i < length (F .ranges) → endBefore (image F) i ≤ r .base
-  from zero r e l = omega arith
-  from (suc i) r e l =
-      let x = at-below (F .ranges) i (omega arith) in
-      let is = base-is i (x .0) (x .1) (omega arith) in
-      omega (arith, is .0, is .1, apart-next 0 (F .ranges) i (x .0) r (w .apart) (x .1) e)
-
-  range-sound : (i : ℕ) → i < rangesIn (image F) → RangeSound (image F) (endBefore (image F) i) i
+  range-sound : (i : ℕ) → i < rangesIn b → RangeSound b (endBefore b i) i
+  unfolding factsIn rangeIn
   range-sound i l =
-      let m = subst (λ (n : ℕ). i < n) ranges-is l in
-      let x = at-below (F .ranges) i m in
-      let is = base-is i (x .0) (x .1) m in
-      let in-ranges = at-in (F .ranges) i (x .1) in
+      let listed = upTo-in (rangesIn b) (rangeIn b) i l in
+      let row = ranges-are v i (omega (arith, w .ranges-most, upTo-length (rangesIn b) (rangeIn b))) 6 (omega arith)
+      ∙ ap (λ (o : Option Range). getD (rangeBytes o) 6 0) (at-upTo (rangesIn b) (rangeIn b) i l) in
       record {
-        from = omega (arith, from i (x .0) (x .1) m, is .0);
-        port = omega (arith, is .1, apart-port 0 (F .ranges) (w .apart) (x .0) in-ranges);
-        within = omega (arith, is .0, is .1, w .ranges (x .0) in-ranges);
-        mark = omega (
-          arith,
-          Image.range-at F i (omega (arith, w .ranges-most)) 6 (omega arith) ∙ ap (λ (o : Option Range). getD (rangeBytes o) 6 0) (x .1),
-          mark-most (x .0 .reserved),
-        );
+        from = from i l;
+        port = apart-port 0 (factsIn b .ranges) (w .apart) (rangeIn b i) listed;
+        within = w .ranges (rangeIn b i) listed;
+        mark = omega (arith, row, mark-most (rangeIn b i .reserved));
       }
 
-  ranges-end : Zero (image F) (rangePlace (rangesIn (image F))) tableSize
-  ranges-end k l m = below-or-not (decLt k restAt)
-    where
-      i : ℕ
-      i = (k - rangesAt) / rangeSize
+  ranges-end : Zero b (rangePlace (rangesIn b)) tableSize
+  unfolding factsIn
+  ranges-end q l m =
+      by-cases (decLt q restAt)
+      (unused rangeBytes rangesAt rangeSize mostRanges (zeros rangeSize) (factsIn b .ranges) b (ranges-are v) q
+      (omega (arith, upTo-length (rangesIn b) (rangeIn b)))) (λ h. rest-is v q (omega arith) m)
 
-      j : ℕ
-      j = (k - rangesAt) % rangeSize
+  -- the grant at a seat
+  io-row : (t : ℕ) → t < mostSeats → IoUsed b t → (j : ℕ) → j < ioSize → byte b (ioPlace t + j) ≡ getD (ioBytes (some (ioIn b t))) j 0
+  io-row t l u j h = ios-are v t l j h ∙ ap (λ (o : Option IoGrant). getD (ioBytes o) j 0) (io-here b t l u)
 
-      place : k ≡ rangePlace i + j
-      place = omega arith
+  io-spare : (t : ℕ) → t < mostSeats → IoUsed b t → Zero b (ioPlace t + ioSpareAt) (ioPlace t + ioSize)
+  io-spare t l u q h m =
+      let j = q - ioPlace t - 7 in
+      let place : q ≡ ioPlace t + (7 + j) = omega arith in
+      ap (byte b) place ∙ io-row t l u (7 + j) (omega arith)
+      ∙ below-at 4 (λ j. getD (ioBytes (some (ioIn b t))) (7 + j) 0 ≡ 0) ((((tt, refl), refl), refl), refl) j (omega arith)
 
-      below-or-not : Dec (k < restAt) → byte (image F) k ≡ 0
-      below-or-not (yes h) =
-          ap (byte (image F)) place ∙ Image.range-at F i (omega arith) j (omega arith)
-          ∙ ap (λ (o : Option Range). getD (rangeBytes o) j 0) (at-past (F .ranges) i (omega (arith, ranges-is)))
-          ∙ zeros rangeSize j (omega arith)
-      below-or-not (no h) = Image.rest-at F k (omega arith) m
-
-  pub live-in : (h : ℕ) → Live F h → LiveIn (image F) h
-  live-in h l =
-      let r = in-at (l .client) (F .clients) (l .listed) in
-      (r .0, omega (arith, r .1, clients-is), handle-is (r .0) (l .client) (r .2) (r .1) ∙ l .handle)
-
-  managed-in : (p : ℕ) → Managed F p → ManagedIn (image F) p
-  managed-in p m =
-      let r = in-at (m .range) (F .ranges) (m .listed) in
-      let is = base-is (r .0) (m .range) (r .2) (r .1) in
-      (r .0, omega (arith, r .1, ranges-is), record { from = omega (arith, is .0, m .has .from); below = omega (arith, is .0, is .1, m .has .below) })
-
-  -- what stands at a socket's place
-  pub io-zero : (s : ℕ) → s < mostSockets → F .io s ≡ none → Zero (image F) (ioPlace s) (ioPlace s + ioSize)
-  io-zero s l = none-zero (image F) (ioPlace s) ioSize (omega arith) ioBytes refl (F .io s) (Image.io-at F s l)
-
-  pub io-is : (s : ℕ) (g : IoGrant) → s < mostSockets → F .io s ≡ some g → (0 < word (image F) (ioPlace s)) × (ioIn (image F) s ≡ g)
-  unfolding ioHere
-  io-is s g l e =
-      nonzero (word (image F) (ioPlace s)) (ioIn (image F) s) g
-      (sym (below-in mostSockets none (ioHere (image F)) s l) ∙ ios-back F w s (yes l) ∙ e)
-
-  io-spare : (s : ℕ) (g : IoGrant) → s < mostSockets → F .io s ≡ some g → Zero (image F) (ioPlace s + ioSpareAt) (ioPlace s + ioSize)
-  io-spare s g l e k h m =
-      ap (byte (image F)) place ∙ Image.io-at F s l (7 + (k - ioPlace s - 7)) (omega arith)
-      ∙ ap (λ (o : Option IoGrant). getD (ioBytes o) (7 + (k - ioPlace s - 7)) 0) e
-      ∙ below-at 4 (λ j. getD (ioBytes (some g)) (7 + j) 0 ≡ 0) ((((tt, refl), refl), refl), refl) (k - ioPlace s - 7) (omega arith)
-    where
-      place : k ≡ ioPlace s + (7 + (k - ioPlace s - 7))
-      place = omega arith
-
-  io-sound : (s : ℕ) (g : IoGrant) → s < mostSockets → F .io s ≡ some g → IoSound (image F) s
-  unfolding ioIn
-  io-sound s g l e =
-      let is = io-is s g l e .1 in
-      let client = ap (λ (x : IoGrant). x .client) is in
-      let base = ap (λ (x : IoGrant). x .ports .base) is in
-      let count = ap (λ (x : IoGrant). x .ports .count) is in
-      let lines = ap (λ (x : IoGrant). x .ports .lines) is in
-      let fits = w .ios s g e in
+  io-sound : (t : ℕ) → t < mostSeats → IoUsed b t → IoSound b t
+  unfolding factsIn ioIn
+  io-sound t l u =
+      let fits = w .ios t (ioIn b t) (io-here b t l u) in
       record {
-        client = subst (LiveIn (image F)) (sym client) (live-in (g .client) (fits .client));
-        socket = omega (arith, sockets-is, fits .socket);
-        base = omega (arith, base, fits .base);
-        port = omega (arith, count, fits .port);
-        line = omega (arith, lines, fits .line);
-        lines = omega (arith, lines, fits .lines);
-        decoded = subst₂ (λ (n k : ℕ). n ≤ 2 ^ k) (sym count) (sym lines) (fits .decoded);
-        managed =
-            λ p h. managed-in p (fits .managed p (record { from = omega (arith, base, h .from); below = omega (arith, base, count, h .below) }));
-        answers = λ p a. managed-in p (fits .answers p (subst (λ (x : IoGrant). Answers (x .ports) p) is a));
-        mark = omega (arith, Image.io-at F s l 6 (omega arith) ∙ ap (λ (o : Option IoGrant). getD (ioBytes o) 6 0) e, mark-most (g .shared));
-        spare = io-spare s g l e;
+        client = live-in b (word b (ioPlace t)) (fits .client);
+        socket = fits .socket;
+        base = fits .base;
+        port = fits .port;
+        line = fits .line;
+        lines = fits .lines;
+        decoded = fits .decoded;
+        managed = λ p h. managed-in b p (fits .managed p h);
+        answers = λ p h. managed-in b p (fits .answers p h);
+        mark = omega (arith, io-row t l u 6 (omega arith), mark-most (ioIn b t .shared));
+        spare = io-spare t l u;
       }
 
-  io-place : (s : ℕ) → s < mostSockets → IoPlaceSound (image F) s
-  io-place s l = placed (image F) (ioPlace s) ioSize (omega arith) (F .io s) (io-zero s l) (λ g e. (io-is s g l e .0, io-sound s g l e))
-
-  io-used : (s : ℕ) → s < mostSockets → IoUsed (image F) s → (g : IoGrant) × (F .io s ≡ some g) × (ioIn (image F) s ≡ g)
-  io-used s l u = let x = used (image F) (ioPlace s) ioSize (omega arith) (F .io s) (io-zero s l) u in (x .0, x .1, io-is s (x .0) l (x .1) .1)
-
-  io-pair : (s t : ℕ) → s < mostSockets → t < s → IoPairSound (image F) s t
-  io-pair s t l m u v =
-      let x = io-used s l u in
-      let y = io-used t (omega arith) v in
-      subst₂ IoCompany (sym (x .2)) (sym (y .2)) (w .io-company s t (x .0) (y .0) (λ e. omega (arith, e)) (x .1) (y .1))
-
-  pub irq-zero : (s : ℕ) → s < mostSockets → F .irq s ≡ none → Zero (image F) (irqPlace s) (irqPlace s + irqSize)
-  irq-zero s l = none-zero (image F) (irqPlace s) irqSize (omega arith) irqBytes refl (F .irq s) (Image.irq-at F s l)
-
-  pub irq-is : (s : ℕ) (g : IrqGrant) → s < mostSockets → F .irq s ≡ some g → (0 < word (image F) (irqPlace s)) × (irqIn (image F) s ≡ g)
-  unfolding irqHere
-  irq-is s g l e =
-      nonzero (word (image F) (irqPlace s)) (irqIn (image F) s) g
-      (sym (below-in mostSockets none (irqHere (image F)) s l) ∙ irqs-back F w s (yes l) ∙ e)
-
-  level-byte : (l : ℕ) → F .level l .managed ≡ true → byte (image F) (levelPlace l) ≡ 1
-  level-byte l e =
-      Image.first-byte (image F) (levelPlace l) levelSize (levelBytes (F .level l)) (Image.level-at F l (w .levels l e)) (omega arith)
-      ∙ ap mark e
-
-  irq-sound : (s : ℕ) (g : IrqGrant) → s < mostSockets → F .irq s ≡ some g → IrqSound (image F) s
-  unfolding irqIn
-  irq-sound s g l e =
-      let is = irq-is s g l e .1 in
-      let level = ap (λ (x : IrqGrant). x .level) is in
-      let fits = w .irqs s g e in
+  irq-sound : (t : ℕ) → t < mostSeats → IrqUsed b t → IrqSound b t
+  unfolding factsIn irqIn
+  irq-sound t l u =
+      let fits = w .irqs t (irqIn b t) (irq-here b t l u) in
+      let level = w .levels (irqIn b t .level) (fits .managed) in
+      let row = irqs-are v t l 3 (omega arith) ∙ ap (λ (o : Option IrqGrant). getD (irqBytes o) 3 0) (irq-here b t l u) in
       record {
-        client = subst (LiveIn (image F)) (sym (ap (λ (x : IrqGrant). x .client) is)) (live-in (g .client) (fits .client));
-        socket = omega (arith, sockets-is, fits .socket);
-        level = omega (arith, level, w .levels (g .level) (fits .managed));
-        managed = ap (λ (n : ℕ). byte (image F) (levelPlace n)) level ∙ level-byte (g .level) (fits .managed);
-        manner = omega (arith, Image.irq-at F s l 3 (omega arith) ∙ ap (λ (o : Option IrqGrant). getD (irqBytes o) 3 0) e, manner-most (g .manner));
+        client = live-in b (irqIn b t .client) (fits .client);
+        socket = fits .socket;
+        level = level;
+        managed = managed-byte (irqIn b t .level) level ∙ ap mark (fits .managed);
+        manner = omega (arith, row, manner-most (irqIn b t .manner));
       }
 
-  irq-place : (s : ℕ) → s < mostSockets → IrqPlaceSound (image F) s
-  irq-place s l = placed (image F) (irqPlace s) irqSize (omega arith) (F .irq s) (irq-zero s l) (λ g e. (irq-is s g l e .0, irq-sound s g l e))
-
-  irq-used : (s : ℕ) → s < mostSockets → IrqUsed (image F) s → (g : IrqGrant) × (F .irq s ≡ some g) × (irqIn (image F) s ≡ g)
-  irq-used s l u =
-      let x = used (image F) (irqPlace s) irqSize (omega arith) (F .irq s) (irq-zero s l) u in
-      (x .0, x .1, irq-is s (x .0) l (x .1) .1)
-
-  irq-pair : (s t : ℕ) → s < mostSockets → t < s → IrqPairSound (image F) s t
-  irq-pair s t l m u v =
-      let x = irq-used s l u in
-      let y = irq-used t (omega arith) v in
-      subst₂ IrqCompany (sym (x .2)) (sym (y .2)) (w .irq-company s t (x .0) (y .0) (λ e. omega (arith, e)) (x .1) (y .1))
-
-  pub image-sound : Sound (image F)
-  image-sound =
+  pub sound : Sound b
+  unfolding factsIn ioHere irqHere
+  sound =
       record {
-        size = Image.image-length F;
-        sockets-least = omega (arith, sockets-is, w .sockets-least);
-        sockets-most = omega (arith, sockets-is, w .sockets-most);
+        size = v .size;
+        sockets-least = w .sockets-least;
+        sockets-most = w .sockets-most;
         cards = card-sound;
         levels = level-sound;
-        clients-most = omega (arith, clients-is, w .clients-most);
+        clients-most = omega (arith, upTo-length (clientsIn b) (clientIn b), w .clients-most);
         clients = client-sound;
         clients-end = clients-end;
-        ranges-most = omega (arith, ranges-is, w .ranges-most);
+        ranges-most = omega (arith, upTo-length (rangesIn b) (rangeIn b), w .ranges-most);
         ranges = range-sound;
         ranges-end = ranges-end;
-        ios = io-place;
-        irqs = irq-place;
-        io-company = io-pair;
-        irq-company = irq-pair;
+        ios = grants-placed ioBytes iosAt ioSize (omega arith) refl b (ioIn b) (IoSound b) (ios-are v) io-sound;
+        irqs = grants-placed irqBytes irqsAt irqSize (omega arith) refl b (irqIn b) (IrqSound b) (irqs-are v) irq-sound;
+        io-company = λ s t l h x y. w .io-company s t (ioIn b s) (ioIn b t) (λ e. omega (arith, e)) (io-here b s l x) (io-here b t (omega arith) y);
+        irq-company = λ s t l h x y. w .irq-company s t (irqIn b s) (irqIn b t) (λ e. omega (arith, e)) (irq-here b s l x) (irq-here b t (omega arith) y);
       }

@@ -1,249 +1,160 @@
 -- Sound bytes are the image of the facts read off them. Assumes nothing.
-use Rattle.facts.proofs.Words.{_≡_, refl, ap, sym, _∙_, inl, inr, List, false, Option, none, some, ℕ, zero, suc, _+_, _*_, _-_, _/_, _%_, _≤_, _<_}
-use Rattle.facts.proofs.Words.{add-assoc, add-zero, decLt, arith, getD, getElem?, replicate}
-use Rattle.facts.specs.{Level, IoGrant, IrqGrant, byte, word, long, allEvents, allLevels, mostClients, mostRanges, mostSockets}
-use Rattle.layout.specs.{mark, two, maskBytes, clientBytes, levelBytes, rangeBytes, ioBytes, irqBytes, mannerByte, head, image, clientsIn}
-use Rattle.layout.specs.{rangesIn, upTo, marked, maskOf, maskPlace, mannerOf, clientPlace, rangePlace, levelPlace, ioPlace, irqPlace, clientIn}
-use Rattle.layout.specs.{rangeIn, levelIn, ioIn, irqIn, ioHere, irqHere, factsIn, Zero, MaskSound, cardsAt, clientSize, ioSharedAt, ioSize}
-use Rattle.layout.specs.{ioSpareAt, irqMannerAt, irqSize, levelReservedAt, rangeReservedAt, rangeSize}
+use Rattle.facts.proofs.Words.{_≡_, refl, ap, sym, _∙_, inl, inr, List, [], _∷_, false, Option, none, some, ℕ, zero, suc, _+_, _*_, _-_, _/_, _%_}
+use Rattle.facts.proofs.Words.{_≤_, _<_, add-assoc, add-zero, arith, getD, getElem?}
+use Rattle.facts.specs.{Level, byte, word, long, Bytes, allEvents, allLevels, mostClients, mostRanges, mostSeats, mostSockets}
+use Rattle.layout.specs.{mark, two, maskBytes, clientBytes, levelBytes, rangeBytes, ioBytes, irqBytes, mannerByte, clientsIn, rangesIn, marked}
+use Rattle.layout.specs.{maskOf, maskPlace, mannerOf, clientPlace, rangePlace, levelPlace, ioPlace, irqPlace, clientIn, rangeIn, levelIn, ioIn}
+use Rattle.layout.specs.{irqIn, ioHere, irqHere, factsIn, MaskSound, IoSound, IrqSound, cardSize, cardsAt, clientSize, clientsAt, ioSize, iosAt}
+use Rattle.layout.specs.{irqSize, irqsAt, levelReservedAt, levelSize, levelsAt, rangeSize, rangesAt}
 use Rattle.layout.specs.Sound.{Sound}
-use Rattle.layout.proofs.Parts.{below-at}
-use Rattle.layout.proofs.Grants.{zeros, read-bytes}
-use Rattle.layout.proofs.Shows.{shows-image}
-use Rattle.layout.proofs.Lists.{below-in, at-upTo, at-past, upTo-length}
-use Rattle.layout.proofs.RoundTrip.{zero-test, positive-test, mask-bytes}
+use Rattle.layout.proofs.Parts.{below-at, zeros}
+use Rattle.layout.proofs.Lists.{below-in, upTo-length}
+use Rattle.layout.proofs.Image.{part, Stands}
+use Rattle.layout.proofs.Shows.{Shows}
+use Rattle.layout.proofs.Records.{listed-stand}
+use Rattle.layout.proofs.Grants.{zero-test, positive-test, grants-stand}
+use Rattle.layout.proofs.RoundTrip.{client-stands}
 
--- every element is a byte
-abbrev pub Bytes : List ℕ → Type 0
-Bytes b = (i : ℕ) → byte b i < 256
-
--- a mark of a byte that is 0 or 1
-mark-of : (n : ℕ) → n ≤ 1 → mark (marked n) ≡ n
+-- a byte that is 0 or 1 is its mark's
+mark-of : (n : ℕ) → n ≤ 1 → n ≡ mark (marked n)
 mark-of zero l = refl
 mark-of (suc zero) l = refl
 mark-of (suc (suc n)) l = absurd (omega arith)
 
-mannerByte-of : (n : ℕ) → n ≤ 3 → mannerByte (mannerOf n) ≡ n
+mannerByte-of : (n : ℕ) → n ≤ 3 → n ≡ mannerByte (mannerOf n)
 mannerByte-of zero l = refl
 mannerByte-of (suc zero) l = refl
 mannerByte-of (suc (suc zero)) l = refl
 mannerByte-of (suc (suc (suc zero))) l = refl
 mannerByte-of (suc (suc (suc (suc n)))) l = absurd (omega arith)
 
--- byte j of the ith record of a list: of what is listed there, or zero past the end
-listed-bytes : {A : Type 0} (n : ℕ) (f : ℕ → A) (k : ℕ) (bytes : Option A → List ℕ) → bytes none ≡ replicate k 0 → (i j : ℕ) → j < k → (x : ℕ)
-    → (i < n → getD (bytes (some (f i))) j 0 ≡ x)
-    → (n ≤ i → x ≡ 0)
-    → getD (bytes (getElem? (upTo n f) i)) j 0 ≡ x
-listed-bytes {A} n f k bytes empty i j l x listed past = below-or-not (decLt i n)
-  where
-    below-or-not : Dec (i < n) → getD (bytes (getElem? (upTo n f) i)) j 0 ≡ x
-    below-or-not (yes h) = ap (λ (o : Option A). getD (bytes o) j 0) (at-upTo n f i h) ∙ listed h
-    below-or-not (no h) =
-        ap (λ (o : Option A). getD (bytes o) j 0) (at-past (upTo n f) i (omega (arith, upTo-length n f))) ∙ ap (λ (y : List ℕ). getD y j 0) empty
-        ∙ zeros k j l ∙ sym (past (omega arith))
-
 module _ (b : List ℕ) (bytes : Bytes b) where
-  low : (o : ℕ) → word b o % 256 ≡ byte b o
-  low o = omega (arith, bytes o, bytes (o + 1))
+  -- the bytes of a number at a place, and of one o past it
+  first-low : (p : ℕ) → byte b (p + 0) ≡ word b p % 256
+  first-low p = ap (byte b) (add-zero p) ∙ omega (arith, bytes p, bytes (p + 1))
 
-  high : (o : ℕ) → word b o / 256 ≡ byte b (o + 1)
-  high o = omega (arith, bytes o, bytes (o + 1))
+  first-high : (p : ℕ) → byte b (p + 1) ≡ word b p / 256
+  first-high p = omega (arith, bytes p, bytes (p + 1))
+
+  low : (p o : ℕ) → byte b (p + o) ≡ word b (p + o) % 256
+  low p o = omega (arith, bytes (p + o), bytes (p + o + 1))
+
+  high : (p o : ℕ) → byte b (p + (o + 1)) ≡ word b (p + o) / 256
+  high p o = ap (byte b) (sym (add-assoc p o 1)) ∙ first-high (p + o)
+
+  four-bytes : (p o : ℕ) → (byte b (p + o) ≡ long b (p + o) % 256) × (byte b (p + (o + 1)) ≡ long b (p + o) / 256 % 256)
+      × (byte b (p + (o + 2)) ≡ long b (p + o) / 65536 % 256)
+      × (byte b (p + (o + 3)) ≡ long b (p + o) / 16777216)
+  four-bytes p o =
+      let b₀ = bytes (p + o) in
+      let b₁ = bytes (p + o + 1) in
+      let b₂ = bytes (p + o + 2) in
+      let b₃ = bytes (p + o + 2 + 1) in
+      let last : p + (o + 3) ≡ p + o + 2 + 1 = omega arith in
+      (omega arith, ap (byte b) (sym (add-assoc p o 1)) ∙ omega arith, ap (byte b) (sym (add-assoc p o 2)) ∙ omega arith, ap (byte b) last ∙ omega arith)
 
   module _ (s : Sound b) where
-    card-bytes : (i : ℕ) → i < mostSockets → mark (factsIn b .card i) ≡ byte b (cardsAt + i)
+    card-bytes : Stands b cardsAt (part mostSockets cardSize (λ i. mark (factsIn b .card i) ∷ []))
     unfolding factsIn
-    card-bytes i l = ap mark (below-in mostSockets false (λ s. marked (byte b (cardsAt + s))) i l)
-        ∙ mark-of (byte b (cardsAt + i)) (s .cards i l .mark)
+    card-bytes i l =
+        below-at 1 (λ j. byte b (cardsAt + i * 1 + j) ≡ getD (mark (factsIn b .card i) ∷ []) j 0) (
+          tt,
+          ap (byte b) (omega arith) ∙ mark-of (byte b (cardsAt + i)) (s .cards i l .mark)
+              ∙ ap mark (sym (below-in mostSockets false (λ s. marked (byte b (cardsAt + s))) i l)),
+        )
 
-    level-bytes : (i j : ℕ) → i < allLevels → j < 2 → getD (levelBytes (factsIn b .level i)) j 0 ≡ byte b (levelPlace i + j)
+    level-bytes : Stands b levelsAt (part allLevels levelSize (λ i. levelBytes (factsIn b .level i)))
     unfolding factsIn levelIn
-    level-bytes i j l m =
-        ap (λ (v : Level). getD (levelBytes v) j 0) (below-in allLevels (record { managed = false; reserved = false }) (levelIn b) i l)
-        ∙ below-at 2 (λ j. getD (levelBytes (levelIn b i)) j 0 ≡ byte b (levelPlace i + j)) (
-          (tt, mark-of (byte b (levelPlace i)) (s .levels i l .managed) ∙ ap (byte b) (sym (add-zero (levelPlace i)))),
-          mark-of (byte b (levelPlace i + levelReservedAt)) (omega (arith, s .levels i l .managed, s .levels i l .reserved)),
-        ) j m
+    level-bytes i l j m =
+        let p = levelPlace i in
+        let managed = ap (byte b) (add-zero p) ∙ mark-of (byte b p) (s .levels i l .managed) in
+        let reserved = mark-of (byte b (p + levelReservedAt)) (omega (arith, s .levels i l .managed, s .levels i l .reserved)) in
+        below-at 2 (λ j. byte b (p + j) ≡ getD (levelBytes (levelIn b i)) j 0) ((tt, managed), reserved) j m
+        ∙ ap (λ (v : Level). getD (levelBytes v) j 0) (sym (below-in allLevels (record { managed = false; reserved = false }) (levelIn b) i l))
 
-    io-used : (i j : ℕ) → j < ioSize → byte b (ioPlace i + ioSharedAt) ≤ 1 → Zero b (ioPlace i + ioSpareAt) (ioPlace i + ioSize)
-        → getD (ioBytes (some (ioIn b i))) j 0 ≡ byte b (ioPlace i + j)
-    unfolding ioIn
-    io-used i j m shared spare =
-        below-at ioSize (λ j. getD (ioBytes (some (ioIn b i))) j 0 ≡ byte b (ioPlace i + j)) (
-          (
-            (
-              (
-                (
-                  (
-                    (
-                      (
-                        (((tt, low p ∙ ap (byte b) (sym (add-zero p))), high p), low (p + 2)),
-                        high (p + 2)
-                            ∙ ap (byte b) (add-assoc p 2 1),
-                      ),
-                      refl,
-                    ),
-                    refl,
-                  ),
-                  mark-of (byte b (p + 6)) shared,
-                ),
-                sym (spare (p + 7) (omega arith) (omega arith)),
-              ),
-              sym (spare (p + 8) (omega arith) (omega arith)),
-            ),
-            sym (spare (p + 9) (omega arith) (omega arith)),
-          ),
-          sym (spare (p + 10) (omega arith) (omega arith)),
-        ) j m
+    io-bytes : Stands b iosAt (part mostSeats ioSize (λ i. ioBytes (factsIn b .io i)))
+    unfolding factsIn ioHere ioIn
+    io-bytes = grants-stand ioBytes iosAt ioSize (omega arith) refl b (ioIn b) (IoSound b) (s .ios) used
       where
-        p : ℕ
-        p = ioPlace i
+        used : (i : ℕ) → IoSound b i → (j : ℕ) → j < ioSize → byte b (ioPlace i + j) ≡ getD (ioBytes (some (ioIn b i))) j 0
+        used i u =
+            let p = ioPlace i in
+            let shared = mark-of (byte b (p + 6)) (u .mark) in
+            let s₇ = u .spare (p + 7) (omega arith) (omega arith) in
+            let s₈ = u .spare (p + 8) (omega arith) (omega arith) in
+            let s₉ = u .spare (p + 9) (omega arith) (omega arith) in
+            let s₁₀ = u .spare (p + 10) (omega arith) (omega arith) in
+            below-at ioSize (λ j. byte b (p + j) ≡ getD (ioBytes (some (ioIn b i))) j 0)
+            (((((((((((tt, first-low p), first-high p), low p 2), high p 2), refl), refl), shared), s₇), s₈), s₉), s₁₀)
 
-    io-bytes : (i j : ℕ) → i < mostSockets → j < ioSize → getD (ioBytes (factsIn b .io i)) j 0 ≡ byte b (ioPlace i + j)
-    unfolding factsIn ioHere
-    io-bytes i j l m =
-        ap (λ (o : Option IoGrant). getD (ioBytes o) j 0) (below-in mostSockets none (ioHere b) i l)
-        ∙ read-bytes b (ioPlace i) ioSize (omega arith) ioBytes refl (ioIn b i) (s .ios i l) (λ u j m. io-used i j m (u .mark) (u .spare)) j m
+    irq-bytes : Stands b irqsAt (part mostSeats irqSize (λ i. irqBytes (factsIn b .irq i)))
+    unfolding factsIn irqHere irqIn
+    irq-bytes =
+        grants-stand irqBytes irqsAt irqSize (omega arith) refl b (irqIn b) (IrqSound b) (s .irqs)
+        (λ i u. let p = irqPlace i in
+        below-at 4 (λ j. byte b (p + j) ≡ getD (irqBytes (some (irqIn b i))) j 0)
+        ((((tt, first-low p), first-high p), refl), mannerByte-of (byte b (p + 3)) (u .manner)))
 
-    irq-used : (i j : ℕ) → j < irqSize → byte b (irqPlace i + irqMannerAt) ≤ 3 → getD (irqBytes (some (irqIn b i))) j 0 ≡ byte b (irqPlace i + j)
-    unfolding irqIn
-    irq-used i j m manner =
-        below-at 4 (λ j. getD (irqBytes (some (irqIn b i))) j 0 ≡ byte b (irqPlace i + j)) (
-          (((tt, low (irqPlace i) ∙ ap (byte b) (sym (add-zero (irqPlace i)))), high (irqPlace i)), refl),
-          mannerByte-of (byte b (irqPlace i + irqMannerAt)) manner,
-        ) j m
+    range-bytes : Stands b rangesAt (part mostRanges rangeSize (λ i. rangeBytes (getElem? (factsIn b .ranges) i)))
+    unfolding factsIn rangeIn
+    range-bytes =
+        listed-stand rangeBytes rangesAt rangeSize mostRanges (zeros rangeSize) (rangesIn b) (rangeIn b) b
+        (λ i l. let p = rangePlace i in
+        let c = four-bytes p 2 in
+        below-at rangeSize (λ j. byte b (p + j) ≡ getD (rangeBytes (some (rangeIn b i))) j 0)
+        (((((((tt, first-low p), first-high p), c .0), c .1), c .2), c .3), mark-of (byte b (p + 6)) (s .ranges i l .mark)))
+        (λ q l m. s .ranges-end q l (omega arith))
 
-    irq-bytes : (i j : ℕ) → i < mostSockets → j < irqSize → getD (irqBytes (factsIn b .irq i)) j 0 ≡ byte b (irqPlace i + j)
-    unfolding factsIn irqHere
-    irq-bytes i j l m =
-        ap (λ (o : Option IrqGrant). getD (irqBytes o) j 0) (below-in mostSockets none (irqHere b) i l)
-        ∙ read-bytes b (irqPlace i) irqSize (omega arith) irqBytes refl (irqIn b i) (s .irqs i l) (λ u j m. irq-used i j m (u .manner)) j m
+    -- a sound mask's two bytes
+    mask-two : (i t : ℕ) → MaskSound b i t → maskBytes (maskOf (word b (maskPlace i t))) ≡ two (word b (maskPlace i t))
+    mask-two i t (inl e) =
+        let w = word b (maskPlace i t) in
+        ap maskBytes (zero-test w none (some (w - allEvents)) e) ∙ ap two (sym e)
+    mask-two i t (inr u) =
+        let w = word b (maskPlace i t) in
+        ap maskBytes (positive-test w none (some (w - allEvents)) (omega (arith, u .0))) ∙ ap two (omega (arith, u .0))
 
-    range-used : (i j : ℕ) → j < rangeSize → byte b (rangePlace i + rangeReservedAt) ≤ 1
-        → getD (rangeBytes (some (rangeIn b i))) j 0 ≡ byte b (rangePlace i + j)
-    unfolding rangeIn
-    range-used i j m reserved =
-        below-at rangeSize (λ j. getD (rangeBytes (some (rangeIn b i))) j 0 ≡ byte b (rangePlace i + j)) (
-          (
-            (((((tt, low p ∙ ap (byte b) (sym (add-zero p))), high p), c0), c1 ∙ ap (byte b) (add-assoc p 2 1)), c2 ∙ ap (byte b) (add-assoc p 2 2)),
-            c3 ∙ ap (byte b) (ap (λ (o : ℕ). o + 1) (add-assoc p 2 2) ∙ add-assoc p 4 1),
-          ),
-          mark-of (byte b (p + 6)) reserved,
-        ) j m
-      where
-        p : ℕ
-        p = rangePlace i
-
-        b0 : byte b (p + 2) < 256
-        b0 = bytes (p + 2)
-
-        b1 : byte b (p + 2 + 1) < 256
-        b1 = bytes (p + 2 + 1)
-
-        b2 : byte b (p + 2 + 2) < 256
-        b2 = bytes (p + 2 + 2)
-
-        b3 : byte b (p + 2 + 2 + 1) < 256
-        b3 = bytes (p + 2 + 2 + 1)
-
-        c0 : long b (p + 2) % 256 ≡ byte b (p + 2)
-        c0 = omega (arith, b0)
-
-        c1 : long b (p + 2) / 256 % 256 ≡ byte b (p + 2 + 1)
-        c1 = omega (arith, b0, b1)
-
-        c2 : long b (p + 2) / 65536 % 256 ≡ byte b (p + 2 + 2)
-        c2 = omega (arith, b0, b1, b2, b3)
-
-        c3 : long b (p + 2) / 16777216 ≡ byte b (p + 2 + 2 + 1)
-        c3 = omega (arith, b0, b1, b2, b3)
-
-    range-bytes : (i j : ℕ) → i < mostRanges → j < rangeSize
-        → getD (rangeBytes (getElem? (factsIn b .ranges) i)) j 0 ≡ byte b (rangePlace i + j)
-    unfolding factsIn
-    range-bytes i j l m =
-        listed-bytes (rangesIn b) (rangeIn b) rangeSize rangeBytes refl i j m (byte b (rangePlace i + j))
-        (λ h. range-used i j m (s .ranges i h .mark)) (λ h. s .ranges-end (rangePlace i + j) (omega arith) (omega arith))
-
-    mask-two : (i t r : ℕ) → t < mostSockets → r < 2 → MaskSound b i t
-        → getD (maskBytes (maskOf (word b (maskPlace i t)))) r 0 ≡ byte b (maskPlace i t + r)
-    mask-two i t r l m (inl e) =
-        ap (λ (o : Option ℕ). getD (maskBytes o) r 0) (zero-test w none (some (w - allEvents)) e)
-        ∙ below-at 2 (λ r. getD (maskBytes none) r 0 ≡ byte b (maskPlace i t + r))
-        ((tt, omega (arith, e) ∙ ap (byte b) (sym (add-zero (maskPlace i t)))), omega (arith, e)) r m
-      where
-        w : ℕ
-        w = word b (maskPlace i t)
-    mask-two i t r l m (inr u) =
-        ap (λ (o : Option ℕ). getD (maskBytes o) r 0) (positive-test w none (some (w - allEvents)) (omega (arith, u .0)))
-        ∙ ap (λ (n : ℕ). getD (two n) r 0) back
-        ∙ below-at 2 (λ r. getD (two w) r 0 ≡ byte b (maskPlace i t + r))
-        ((tt, low (maskPlace i t) ∙ ap (byte b) (sym (add-zero (maskPlace i t)))), high (maskPlace i t)) r m
-      where
-        w : ℕ
-        w = word b (maskPlace i t)
-
-        back : allEvents + (w - allEvents) ≡ w
-        back = omega (arith, u .0)
-
-    client-used : (i j : ℕ) → j < clientSize → ((t : ℕ) → t < mostSockets → MaskSound b i t)
-        → getD (clientBytes (some (clientIn b i))) j 0 ≡ byte b (clientPlace i + j)
+    client-used : (i : ℕ) → i < clientsIn b → (j : ℕ) → j < clientSize → byte b (clientPlace i + j) ≡ getD (clientBytes (some (clientIn b i))) j 0
     unfolding clientIn
-    client-used i j m masks = below-or-not (decLt j 6)
-      where
-        p : ℕ
-        p = clientPlace i
+    client-used i l =
+        let p = clientPlace i in
+        client-stands b p (clientIn b i)
+        (below-at 6 (λ j. byte b (p + j) ≡ getD (clientBytes (some (clientIn b i))) j 0)
+        ((((((tt, first-low p), first-high p), low p 2), high p 2), low p 4), high p 4))
+        (λ t h r m. let q = maskPlace i t in
+        below-at 2 (λ r. byte b (q + r) ≡ getD (two (word b q)) r 0) ((tt, first-low q), first-high q) r m
+        ∙ ap (λ (x : List ℕ). getD x r 0) (sym (mask-two i t (s .clients i l .masks t h)))
+        ∙ ap (λ (o : Option ℕ). getD (maskBytes o) r 0) (sym (below-in mostSeats none (λ t. maskOf (word b (maskPlace i t))) t h)))
 
-        t : ℕ
-        t = (j - 6) / 2
-
-        r : ℕ
-        r = (j - 6) % 2
-
-        below-or-not : Dec (j < 6) → getD (clientBytes (some (clientIn b i))) j 0 ≡ byte b (clientPlace i + j)
-        below-or-not (yes l) =
-            below-at 6 (λ j. getD (clientBytes (some (clientIn b i))) j 0 ≡ byte b (clientPlace i + j)) (
-              (((((tt, low p ∙ ap (byte b) (sym (add-zero p))), high p), low (p + 2)), high (p + 2) ∙ ap (byte b) (add-assoc p 2 1)), low (p + 4)),
-              high (p + 4) ∙ ap (byte b) (add-assoc p 4 1),
-            ) j l
-        below-or-not (no l) =
-            ap (λ (k : ℕ). getD (clientBytes (some (clientIn b i))) k 0) place ∙ mask-bytes (clientIn b i) t r in-sockets in-mask
-            ∙ ap (λ (o : Option ℕ). getD (maskBytes o) r 0) (below-in mostSockets none (λ t. maskOf (word b (maskPlace i t))) t in-sockets)
-            ∙ mask-two i t r in-sockets in-mask (masks t in-sockets) ∙ ap (byte b) there
-          where
-            in-sockets : t < mostSockets
-            in-sockets = omega arith
-
-            in-mask : r < 2
-            in-mask = omega arith
-
-            place : j ≡ 6 + (t * 2 + r)
-            place = omega arith
-
-            there : maskPlace i t + r ≡ clientPlace i + j
-            there = omega arith
-
-    client-bytes : (i j : ℕ) → i < mostClients → j < clientSize
-        → getD (clientBytes (getElem? (factsIn b .clients) i)) j 0 ≡ byte b (clientPlace i + j)
+    client-bytes : Stands b clientsAt (part mostClients clientSize (λ i. clientBytes (getElem? (factsIn b .clients) i)))
     unfolding factsIn
-    client-bytes i j l m =
-        listed-bytes (clientsIn b) (clientIn b) clientSize clientBytes refl i j m (byte b (clientPlace i + j))
-        (λ h. client-used i j m (s .clients i h .masks)) (λ h. s .clients-end (clientPlace i + j) (omega arith) (omega arith))
+    client-bytes =
+        listed-stand clientBytes clientsAt clientSize mostClients (zeros clientSize) (clientsIn b) (clientIn b) b client-used (s .clients-end)
 
-    -- the bytes are the image of the facts read off them
-    pub whole : image (factsIn b) ≡ b
-    unfolding factsIn head
+    -- the bytes show the facts read off them
+    pub whole : Shows (factsIn b) b
+    unfolding factsIn
     whole =
-        shows-image (factsIn b) b
-        (record {
+        record {
           size = s .size;
-          head-is = below-at 5 (λ j. getD (head (factsIn b)) j 0 ≡ byte b j)
-              (((((tt, refl), upTo-length (clientsIn b) (clientIn b)), upTo-length (rangesIn b) (rangeIn b)), low 3), high 3);
-          cards-are = card-bytes;
-          levels-are = level-bytes;
-          ios-are = io-bytes;
-          irqs-are = irq-bytes;
-          clients-are = client-bytes;
-          ranges-are = range-bytes;
-          rest-is = λ i l m. s .ranges-end i (omega (arith, s .ranges-most)) m;
-        })
+          heads = (refl, sym (upTo-length (clientsIn b) (clientIn b)), sym (upTo-length (rangesIn b) (rangeIn b)), low 0 3, high 0 3);
+          shown = (
+            card-bytes,
+            (
+              level-bytes,
+              (
+                io-bytes,
+                (
+                  irq-bytes,
+                  (
+                    client-bytes,
+                    (
+                      range-bytes,
+                      λ i l m. s .ranges-end i (omega (arith, s .ranges-most)) m,
+                    ),
+                  ),
+                ),
+              ),
+            ),
+          );
+        }

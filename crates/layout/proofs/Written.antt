@@ -1,6 +1,6 @@
 -- The bytes of a table after a byte, or a number of two or of four bytes, is written. Assumes nothing.
-use Rattle.facts.proofs.Words.{_≡_, ap, sym, _∙_, _⊎_, inl, inr, _≢_, List, ℕ, _+_, _/_, _%_, _≤_, _<_, add-zero, add-assoc, arith, length, getD}
-use Rattle.facts.proofs.Words.{set, length-set, getD-set-same, getD-set-other}
+use Rattle.facts.proofs.Words.{_≡_, ap, sym, _∙_, _⊎_, inl, inr, _≢_, List, ℕ, _+_, _/_, _%_, _≤_, _<_, add-zero, add-assoc, arith, length, getD, set}
+use Rattle.facts.proofs.Words.{length-set, getD-set-same, getD-set-other}
 use Rattle.facts.specs.{byte, withWord, withLong}
 use Rattle.layout.specs.{four}
 use Rattle.layout.proofs.Parts.{below-at}

@@ -1,10 +1,10 @@
 -- Each way in which card in and card out end is the rule's. Assumes nothing.
-use Rattle.facts.proofs.Words.{_≡_, refl, inl, inr, List, Bool, true, false, ℕ, _+_, _≤_, _<_, arith, set, length-set, boolByte}
+use Rattle.facts.proofs.Words.{_≡_, refl, inl, inr, List, Bool, true, false, ℕ, _+_, _≤_, _<_, arith, set, boolByte}
 use Rattle.layout.proofs.Of
 use Rattle.facts.specs.{Code, Success, BadSocket, Facts, CardTo, withCard, mostSockets}
 use Rattle.layout.specs.{mark, socketsIn, Accepted, cardsAt}
 use Rattle.layout.specs.Served.{Served}
-use Rattle.layout.proofs.{byte-same, byte-other, shows-image, card-shown, stays, becomes}
+use Rattle.layout.proofs.{card-written, stays, becomes}
 
 -- the byte of a truth value is its mark
 pub mark-byte : (t : Bool) → boolByte t ≡ mark t
@@ -25,6 +25,4 @@ module _ {b : List ℕ} (a : Accepted b) {s : ℕ} where
   pub card-done : (present : Bool) → s < socketsIn b → Served (Cards present s Success) b (set b (cardsAt + s) (mark present))
   card-done present l =
       becomes _ _ _ a (withCard (a .facts) s present) (inr (((λ d. omega (arith, Of.sockets-in b a)), tt), (refl, refl)))
-      (shows-image (withCard (a .facts) s present) _
-      (card-shown (a .facts) b _ s present (Of.shows-in b a) (in-table l) (length-set b (cardsAt + s) (mark present))
-      (byte-same b (cardsAt + s) (mark present) (omega (arith, Of.size-in b a, in-table l))) (byte-other b (cardsAt + s) (mark present))))
+      (card-written b a s present (in-table l))
