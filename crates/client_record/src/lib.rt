@@ -72,7 +72,8 @@ fn stands_by_number(t: &[u8], h: Handle) -> bool
     table_read::word(t, CLIENTS_AT + (number - 1) * CLIENT_SIZE) == number
 }
 
-// The client `h`, looked for first where its number points.
+// The client `h`, looked for first where its number points: client 3 in the third place. Where client 1 has left, client 3 stands in the second, and is
+// searched for.
 pub fn client_at(t: &[u8], h: Handle) -> ClientFound
     requires { ⌜ (length (now t) ≡ tableSize) × (clientsIn (now t) ≤ Table.mostClients) ⌝ }
     ensures { λ r. ⌜ Finds (now (t .entry)) (h .0) r ⌝ }

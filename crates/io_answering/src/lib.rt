@@ -22,7 +22,7 @@ const MOST_GAPS: usize = 40;
 
 pub const ROWS: usize = MOST_GAPS + MOST_GAPS;
 
-// A gap of so many ports or more is one in which every card answers that doesn't decode all lines.
+// A gap of so many ports or more is one in which every card answers that doesn't decode all lines: one of 15 lines has an alias in each 2^15 ports.
 const MOST_COUNTED: usize = 32768;
 
 // Fills the rows, which have nothing yet, for cards of so many lines; those of one that decodes all, which answers at its own ports alone, keep nothing.
@@ -59,7 +59,8 @@ fn reach_of(ports: u16, more: u16) -> u16
 }
 
 // How far a card's last port, which lies so far in the period, has to move to be past a gap and its own other ports past it too; 0 where it answers at no
-// port of the gap.
+// port of the gap. By 10 lines the last of eight ports from 2F8H on lies 15 ports past the start of a gap from 6F0H on: 2FFH - 2F0H. The gap's 16 ports
+// and the card's seven others reach 23 ports, so it has to move by 8.
 fn ahead(base: u16, ports: u16, last: u16, more: u16, ones: u16) -> u16
     requires { ⌜ (ports ≤ mostCounted) × (last ≤ ones) × (more < 256) × LowBits ones ⌝ }
     ensures { λ r. ⌜ r ≡ aheadOf base ports last more (ones + 1) ⌝ }

@@ -30,7 +30,8 @@ fn goes(asked: IrqAsked, held: Manner) -> bool
     irq_levels::together(held, manner)
 }
 
-// The levels that grants hold, a bit for each: those where a grant stands in the way of the request, and those where one goes together with it.
+// The levels that grants hold, a bit for each: those where a grant stands in the way of the request, and those where one goes together with it. For a request
+// as dynamic level, where level 3 is held as exclusive and level 5 as dynamic level, the first set is 2^3, and the second 2^5.
 pub struct Levels {
     pub way: usize,
     pub together: usize,
@@ -138,7 +139,7 @@ fn levels_fitting(t: &[u8], asked: IrqAsked, way: usize) -> Fitting
     }
 }
 
-// The lowest of a set's levels: its trailing zeros.
+// The lowest of a set's levels: its trailing zeros. Of the levels 3 and 5, 28H, these are three.
 fn lowest(set: usize) -> u32
     requires { ⌜ set ≢ 0 ⌝ }
     ensures { λ r. ⌜ LowestIn set r ⌝ }

@@ -42,7 +42,7 @@ fn record_at(records: &[u8], at: usize) -> Record
     }
 }
 
-// As many records are taken out of a list's bytes at a time.
+// As many records are taken out of a list's bytes at a time: of 20 records 8, 8 and 4.
 const AT_ONCE: usize = 8;
 
 // How many are taken next, out of so many bytes.

@@ -37,7 +37,8 @@ pub fn end_before(t: &[u8], i: usize) -> usize
     range_end(t, i - 1)
 }
 
-// Where a search for the range that has a port begins: no range before that place has it. Of every sixth range, the last that starts at or before it.
+// Where a search for the range that has a port begins: no range before that place has it. Of every sixth range, the last that starts at or before it. For a
+// port of the range 20 of 32 the ranges 6, 12, 18 and 24 are looked at, and the search begins at 18.
 fn search_from(t: &[u8], p: usize) -> usize
     requires { ⌜ (length (now t) ≡ tableSize) × (rangesIn (now t) ≤ Table.mostRanges) × RangesSound (now t) ⌝ }
     ensures { λ r. ⌜ Skipped (now (t .entry)) p r ⌝ }

@@ -39,7 +39,8 @@ const LONG_SIZE: usize = 4;
 const FOUR_MASKS: usize = 4 * MASK_SIZE;
 
 // Whether each of the four masks from a place on is formed, all at a time: 0 where there is none, or 4,096 and its events. No bits are left but
-// those of the masks that are there.
+// those of the masks that are there. Of the words 1005H, 0, 0 and 2000H only the first has the bit 1000H: what is left to be 0 are its bits E000H, and
+// all bits of the others. So the bit 2000H of the last one shows, and the four are not formed.
 fn four_formed(t: &[u8], at: usize) -> bool
     requires { ⌜ at + 7 < length (now t) ⌝ }
     ensures { λ r. ⌜ Says r (FourFormed (now (t .entry)) at) ⌝ }

@@ -12,7 +12,8 @@ ghost use Rattle.facts.specs.Says.{Says};
 ghost use Rattle.layout.specs.Layout.{tableSize};
 ghost use Rattle.table_lists.specs.Parts.{LevelsSound};
 
-// "an unmanaged level isn't reserved": what is wrong with a level's two marks, 0 if nothing is.
+// "an unmanaged level isn't reserved": what is wrong with a level's two marks, 0 if nothing is. It is 0 for the marks 0 and 0, 1 and 0, 1 and 1; for 0 and 1
+// it is 1, since the second is greater, and for 2 and 0 it is 2 / 2.
 fn level_flaw(managed: u8, reserved: u8) -> u8
     ensures { λ r. ⌜ Says (eqb r 0) ((managed ≤ 1) × (reserved ≤ managed)) ⌝ }
 {
