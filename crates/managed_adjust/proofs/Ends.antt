@@ -166,7 +166,8 @@ module _ {b p : List ℕ} (a : Accepted b) {h : ℕ} where
     pub resource-over : 4 < resource → ServesBy AdjustResourceInfo h p p b b (answer.Refused BadArgs)
     resource-over l = head-refused (inr (is-built _ (omega arith) (omega arith) (omega arith), inl (omega arith, refl)))
 
-    pub wrong-length : 1 ≤ resource → resource ≤ 2 → WrongLength resource (length p) → ServesBy AdjustResourceInfo h p p b b (answer.Refused BadArgLength)
+    pub wrong-length : 1 ≤ resource → resource ≤ 2 → WrongLength resource (length p)
+        → ServesBy AdjustResourceInfo h p p b b (answer.Refused BadArgLength)
     wrong-length least most w =
         head-refused
         (inr (

@@ -102,7 +102,12 @@ module _ {e : Code} {rs : List Record} {b b′ : List ℕ} {place : ℕ} where
   -- where none is left, the list ends
   pub walked-all : (r : Booted) → Walked e rs b b′ place [] → placeOf r ≡ place → codeOf r ≡ e → Refuses r → EndsAs e rs b b′ r
   walked-all r w p k n = (
-    record { accepted = w .first; after = w .here .facts; rule = rw (p, k) (w .goes-on (stopped place e (w .here .facts)) ended); table = w .here .is },
+    record {
+      accepted = w .first;
+      after = w .here .facts;
+      rule = rw (p, k) (w .goes-on (stopped place e (w .here .facts)) ended);
+      table = w .here .is;
+    },
     n,
   )
 
@@ -130,7 +135,8 @@ module _ {e : Code} {rs : List Record} {b b′ : List ℕ} {place : ℕ} where
     pub walked-stopped : {b″ : List ℕ} {i : ℕ} {k : Code} → BootsRecords xs b′ b″ (Stopped i k) → EndsAs e rs b b″ (Stopped (place + i) k)
     walked-stopped s =
         let t = s .0 in
-        (record { accepted = w .first; after = t .after; rule = from (t .accepted) _ (stops-within left place 0 (t .rule) (s .1)); table = t .table }, s .1)
+        let rule = from (t .accepted) _ (stops-within left place 0 (t .rule) (s .1)) in
+        (record { accepted = w .first; after = t .after; rule = rule; table = t .table }, s .1)
 
 -- a walk record by record: the rest of the list begins at the place
 module _ {rs : List Record} {b b′ : List ℕ} {place : ℕ} (w : Walked Success rs b b′ place (drop place rs)) where
@@ -146,10 +152,13 @@ module _ {rs : List Record} {b b′ : List ℕ} {place : ℕ} (w : Walked Succes
     walked-one s = walked-more (getD rs place d ∷ []) (drop (place + 1) rs) at (one-made s)
 
     pub walked-refused : {b″ : List ℕ} {k : Code} → AddsRecord (getD rs place d) b′ b″ (Refused k) → BootsRecords rs b b″ (Stopped place k)
-    walked-refused {b″} {k} s = subst (λ (i : ℕ). EndsAs Success rs b b″ (Stopped i k)) (add-zero place) (walked-stopped (getD rs place d ∷ []) (drop (place + 1) rs) at (one-refused s))
+    walked-refused {b″} {k} s =
+        subst (λ (i : ℕ). EndsAs Success rs b b″ (Stopped i k)) (add-zero place)
+        (walked-stopped (getD rs place d ∷ []) (drop (place + 1) rs) at (one-refused s))
 
 -- a walk along a list's bytes, some records at a time: those left begin at the byte `at`
-module _ (bytes : List ℕ) {b b′ : List ℕ} {place : ℕ} (at : ℕ) (w : Walked (endOf bytes) (recordsOf bytes) b b′ place (recordsOf (drop at bytes))) where
+module _ (bytes : List ℕ) {b b′ : List ℕ} {place : ℕ} (at : ℕ)
+    (w : Walked (endOf bytes) (recordsOf bytes) b b′ place (recordsOf (drop at bytes))) where
   pub bytes-all : at ≡ place * recordSize → length bytes ≤ at → at ≤ length bytes → Boots bytes b b′ (All place)
   bytes-all e l m =
       walked-all (All place) (subst (Walked _ _ b b′ place) (bytes-laws .same-list (drop at bytes) 0 (omega (arith, length-drop at bytes)) .0) w) refl

@@ -1,6 +1,6 @@
 -- Each way in which an Add or a Remove of a range ends is the rule's; what its writes leave. Assumes nothing.
-use Rattle.facts.proofs.Words.{_≡_, refl, ap, sym, _∙_, subst, subst₂, _⊎_, inl, inr, ⊎-elim, _≢_, List, [], _∷_, _++_, Bool, ℕ, _+_, _≤_, _<_, add-zero, decLt}
-use Rattle.facts.proofs.Words.{arith, length, getD, set, length-set, Ports}
+use Rattle.facts.proofs.Words.{_≡_, refl, ap, sym, _∙_, subst, subst₂, _⊎_, inl, inr, ⊎-elim, _≢_, List, [], _∷_, _++_, Bool, ℕ, _+_, _≤_, _<_}
+use Rattle.facts.proofs.Words.{add-zero, decLt, arith, length, getD, set, length-set, Ports}
 use Rattle.layout.proofs.Of
 use Rattle.managed_ranges.specs.declared.PortsNamed.the-variants as named
 use Rattle.facts.specs.{Code, BadAttribute, BadBase, InUse, OutOfResource, Facts, Range, byte, withWord, withLong, Within, Managed}

@@ -64,7 +64,8 @@ module _ {b : List ℕ} (s : RangesSound b) where
         ends j l =
             let last : rangeEnd b (i - 1) ≤ base = omega (arith, end-before b i (omega arith)) in
             let m : j ≤ i - 1 = omega arith in
-            ⊎-elim (λ e. omega (arith, ap (rangeEnd b) e)) (λ n. omega (arith, ends-before b s j (i - 1) n (omega (arith, place .within)))) (eq-or-lt-of-le m)
+            ⊎-elim (λ e. omega (arith, ap (rangeEnd b) e)) (λ n. omega (arith, ends-before b s j (i - 1) n (omega (arith, place .within))))
+            (eq-or-lt-of-le m)
 
         below-or-not : (p : ℕ) → Within p base count → (m : ManagedIn b p) → Dec (m .0 < i) → StartIs b i x → ⊥
         below-or-not p w m (yes l) y = omega (arith, ends (m .0) l)

@@ -19,7 +19,8 @@ module _ (base count : ℕ) (port : 1 ≤ count) (asked : count ≤ mostAsked) w
 
   pub blocks-within : BlocksWithin (bitOr (2 ^ blockOf base) (2 ^ blockOf (base + count - 1))) base count
   blocks-within p w =
-      ⊎-elim (λ e. rw (← e) (or-left _ (2 ^ blockOf (base + count - 1)) _ (one-bit (blockOf base)))) (λ e. rw (← e) (or-right (2 ^ blockOf base) _ _ (one-bit (blockOf (base + count - 1)))))
+      ⊎-elim (λ e. rw (← e) (or-left _ (2 ^ blockOf (base + count - 1)) _ (one-bit (blockOf base))))
+      (λ e. rw (← e) (or-right (2 ^ blockOf base) _ _ (one-bit (blockOf (base + count - 1)))))
       (first-or-last p w)
 
 -- ports that are equal modulo two to so many lines are in one block

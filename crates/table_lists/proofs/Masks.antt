@@ -1,6 +1,6 @@
 -- A client's masks are sound exactly if each is formed, the first four and the last four, and none is there for a socket from the count on.
 -- Assumes nothing.
-use Rattle.facts.proofs.Words.{_≡_, ap, subst, _∙_, _⊎_, inl, inr, ⊎-elim, List, ℕ, _+_, _-_, _/_, _≤_, _<_, eq-or-lt-of-le, decLt, arith}
+use Rattle.facts.proofs.Words.{_≡_, subst, inl, inr, ⊎-elim, List, ℕ, _+_, _-_, _/_, _≤_, _<_, eq-or-lt-of-le, decLt, arith}
 use Rattle.facts.specs.{mostSockets, byte, word}
 use Rattle.layout.specs.{socketsIn, clientPlace, maskPlace, Zero, clientMasksAt}
 use Rattle.table_read.proofs.{so-or-not}
@@ -34,20 +34,10 @@ module _ (b : List ℕ) (i : ℕ) where
         omega (arith, z (maskPlace i s) (omega arith) (omega arith), z (maskPlace i s + 1) (omega arith) (omega arith))
 
     pub masks-bytes : ((s : ℕ) → n ≤ s → s < mostSockets → word b (maskPlace i s) ≡ 0) → Zero b (maskPlace i n) (maskPlace i mostSockets)
-    masks-bytes m k f l = either-way (eq-or-lt-of-le (omega arith))
-      where
-        s : ℕ
-        s = (k - maskPlace i 0) / 2
-
-        mask : word b (maskPlace i s) ≡ 0
-        mask = m s (omega arith) (omega arith)
-
-        either-way : (maskPlace i s ≡ k) ⊎ (maskPlace i s < k) → byte b k ≡ 0
-        either-way (inl e) = ap (byte b) (omega arith) ∙ low
-          where
-            low : byte b (maskPlace i s) ≡ 0
-            low = omega (arith, mask)
-        either-way (inr h) = ap (byte b) (omega arith) ∙ high
-          where
-            high : byte b (maskPlace i s + 1) ≡ 0
-            high = omega (arith, mask)
+    masks-bytes m k f l =
+        let s = (k - maskPlace i 0) / 2 in
+        let mask = m s (omega arith) (omega arith) in
+        let low : byte b (maskPlace i s) ≡ 0 = omega (arith, mask) in
+        let high : byte b (maskPlace i s + 1) ≡ 0 = omega (arith, mask) in
+        let from : maskPlace i s ≤ k = omega arith in
+        ⊎-elim (λ e. rw e at low) (λ h. let last : maskPlace i s + 1 ≡ k = omega arith in rw last at high) (eq-or-lt-of-le from)

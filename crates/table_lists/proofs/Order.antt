@@ -1,5 +1,5 @@
 -- Clients that follow one another are sound where the last one's handle is issued: what a loop that passes them knows. Assumes nothing.
-use Rattle.facts.proofs.Words.{_≡_, refl, sym, ap, _∙_, _⊎_, inl, inr, List, ℕ, zero, suc, _+_, _≤_, _<_, eq-or-lt-of-le, arith, leb-true, leb-false}
+use Rattle.facts.proofs.Words.{_≡_, refl, sym, ap, _∙_, ⊎-elim, List, ℕ, zero, suc, _+_, _≤_, _<_, eq-or-lt-of-le, arith, leb-true, leb-false}
 use Rattle.facts.proofs.Words.{leb, Says}
 use Rattle.layout.specs.{clientsIn, issuedIn, handleIn, ClientsSound, handleBefore}
 use Rattle.table_read.proofs.{All, all-none, all-more}
@@ -29,22 +29,14 @@ module _ (b : List ℕ) where
 
     -- a client that is sound follows those passed
     pub sound-follows : i < clientsIn b → ClientsSound b → ClientFollows b low i
-    sound-follows l s =
-        record {
-          over = omega (arith, p .last, s i l .over);
-          attributes = s i l .attributes;
-          events = s i l .events;
-          masks = s i l .masks;
-        }
+    sound-follows l s = let sound = s i l in let over : low < handleIn b i = omega (arith, p .last) in search
 
     -- no handle is over the last one
     under : (n k : ℕ) → n ≤ i → k < n → handleIn b k ≤ handleBefore b n
     under zero k l h = absurd (omega arith)
-    under (suc n) k l h = either-way (eq-or-lt-of-le (omega arith)) (under n k)
-      where
-        either-way : (k ≡ n) ⊎ (k < n) → (n ≤ i → k < n → handleIn b k ≤ handleBefore b n) → handleIn b k ≤ handleIn b n
-        either-way (inl e) f = rw e (omega arith)
-        either-way (inr m) f = omega (arith, f (omega arith) m, p .follow n (omega arith) .over)
+    under (suc n) k l h =
+        let last : k ≤ n = omega arith in
+        ⊎-elim (λ e. rw e (omega arith)) (λ m. omega (arith, under n k (omega arith) m, p .follow n (omega arith) .over)) (eq-or-lt-of-le last)
 
     last-issued : ClientsSound b → (n : ℕ) → n ≤ clientsIn b → handleBefore b n ≤ issuedIn b
     last-issued s zero l = omega arith
@@ -55,12 +47,7 @@ module _ (b : List ℕ) where
         record {
           holds = λ t k l.
               let f = p .follow k (omega arith) in
-              record {
-                over = f .over;
-                issued = omega (arith, leb-true low (issuedIn b) t, p .last, under i k (omega arith) (omega arith));
-                attributes = f .attributes;
-                events = f .events;
-                masks = f .masks;
-              };
+              let most = under i k (omega arith) (omega arith) in
+              let issued : handleIn b k ≤ issuedIn b = omega (arith, leb-true low (issuedIn b) t, p .last, most) in search;
           fails = λ t s. omega (arith, leb-false low (issuedIn b) t, p .last, last-issued s i (p .within));
         }

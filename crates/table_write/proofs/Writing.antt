@@ -1,5 +1,6 @@
 -- How writing goes on, byte by byte. Assumes nothing.
-use Rattle.facts.proofs.Words.{_≡_, refl, ap, sym, _∙_, _⊎_, inl, inr, ⊎-elim, List, ℕ, _+_, _-_, _≤_, _<_, eq-or-lt-of-le, arith, length, set, length-set}
+use Rattle.facts.proofs.Words.{_≡_, refl, ap, sym, _∙_, _⊎_, inl, inr, ⊎-elim, List, ℕ, _+_, _-_, _≤_, _<_, eq-or-lt-of-le, arith}
+use Rattle.facts.proofs.Words.{length, set, length-set}
 use Rattle.facts.specs.{fresh, byte}
 use Rattle.layout.specs.{image, TakenOut, tableSize}
 use Rattle.layout.proofs.{shows-image, fresh-shown, byte-same, byte-other}
@@ -62,7 +63,8 @@ makes {b} {b₁} {count} {at} {bytes} {end} before fits lent m =
     record {
       size = length-set b₁ count v ∙ m .size;
       more = byte-same b₁ count v (omega (arith, m .size));
-      moved = λ p l h. byte-other b₁ count v (p + bytes) (omega arith) ∙ m .filled (p + bytes) (omega arith) (omega arith) ∙ ap (byte b) (omega arith);
+      moved = λ p l h. byte-other b₁ count v (p + bytes) (omega arith) ∙ m .filled (p + bytes) (omega arith) (omega arith)
+          ∙ ap (byte b) (omega arith);
       other = λ p d o. byte-other b₁ count v p d ∙ m .other p (⊎-elim inl (λ l. inr (omega arith)) o);
     }
   where

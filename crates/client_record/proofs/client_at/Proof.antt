@@ -19,4 +19,5 @@ returns c = record { listed = omega (arith, stands c .least, stands c .listed); 
 
 pub client-at-spec : {M : Type 1} → Rattle.client_record.proofs.client_at.Statement.statement M
 client-at-spec =
-    tie.close (tie.spec (λ c κs. search needs) (λ c. search needs) (λ c. omega (arith, stands c .least)) returns (λ c κs. search needs) (λ c. search needs))
+    tie.close
+    (tie.spec (λ c κs. search needs) (λ c. search needs) (λ c. omega (arith, stands c .least)) returns (λ c κs. search needs) (λ c. search needs))

@@ -4,8 +4,8 @@ use Rattle.facts.proofs.Words.{needs}
 use Rattle.facts.proofs.{says-eq, says-not}
 use Rattle.client_record.proofs.mask_on.Tie as tie
 
-returns : tie.Need-returns
-returns c = rw (c .word .ensures .0) (says-not (says-eq _ _))
-
 pub mask-on-spec : {M : Type 1} → Rattle.client_record.proofs.mask_on.Statement.statement M
-mask-on-spec = tie.close (tie.spec (λ c. search needs) (λ c. search needs) (λ c. search needs) (λ c. search needs) (λ c. search needs) (λ c κs. search needs) returns)
+mask-on-spec =
+    tie.close
+    (tie.spec (λ c. search needs) (λ c. search needs) (λ c. search needs) (λ c. search needs) (λ c. search needs) (λ c κs. search needs)
+    (λ c. rw (c .word .ensures .0) (says-not (says-eq _ _))))

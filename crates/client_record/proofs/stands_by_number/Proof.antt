@@ -4,12 +4,6 @@ use Rattle.facts.proofs.Words.{arith, needs}
 use Rattle.facts.proofs.{says-false, says-as, says-eq}
 use Rattle.client_record.proofs.stands_by_number.Tie as tie
 
-returns : tie.Need-returns
-returns c = says-false (λ p. omega (arith, p .least))
-
-returns-2 : tie.Need-returns-2
-returns-2 c = says-false (λ p. omega (arith, p .listed))
-
 returns-3 : tie.Need-returns-3
 returns-3 c =
     rw (c .word .ensures .0)
@@ -18,5 +12,5 @@ returns-3 c =
 pub stands-by-number-spec : {M : Type 1} → Rattle.client_record.proofs.stands_by_number.Statement.statement M
 stands-by-number-spec =
     tie.close
-    (tie.spec (λ c. search needs) returns (λ c κs. search needs) returns-2 (λ c. search needs) (λ c. search needs) (λ c. search needs)
-    (λ c κs. search needs) returns-3)
+    (tie.spec (λ c. search needs) (λ c. says-false (λ p. omega (arith, p .least))) (λ c κs. search needs)
+    (λ c. says-false (λ p. omega (arith, p .listed))) (λ c. search needs) (λ c. search needs) (λ c. search needs) (λ c κs. search needs) returns-3)

@@ -13,9 +13,6 @@ packet c = now (c .before .before .before .args .p)
 allowed : (c : tie.After-attributes-allowed) → Says (c .attributes-allowed .result) (AttributesAllowed (word (packet (c .before)) 0))
 allowed c = rw (c .before .before .word .ensures .0) at (c .attributes-allowed .ensures)
 
-returns : tie.Need-returns
-returns c = inl (says-no (allowed (c .before)) (c .if1 .taken))
-
 returns-2 : tie.Need-returns-2
 returns-2 c =
     let asked = c .before .before in
@@ -29,4 +26,5 @@ returns-3 c =
 pub asks-spec : {M : Type 1} → Rattle.client_services.proofs.asks.Statement.statement M
 asks-spec =
     tie.close
-    (tie.spec (λ c κs. search needs) (λ c κs. search needs) (λ c κs. search needs) returns returns-2 returns-3)
+    (tie.spec (λ c κs. search needs) (λ c κs. search needs) (λ c κs. search needs) (λ c. inl (says-no (allowed (c .before)) (c .if1 .taken)))
+    returns-2 returns-3)

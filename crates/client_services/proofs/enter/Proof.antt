@@ -14,11 +14,12 @@ returns c =
     let lent2 = second .before .before .before in
     let first = lent2 .before in
     let a = first .before .before .before .args in
-    enters (now (a .t)) (a .n) (a .h .0) (a .attributes) (a .events) (first .put-word .ensures) (second .put-word2 .ensures) (third .put-word3 .ensures)
-    (fourth .put-word4 .ensures)
+    enters (now (a .t)) (a .n) (a .h .0) (a .attributes) (a .events) (first .put-word .ensures) (second .put-word2 .ensures)
+    (third .put-word3 .ensures) (fourth .put-word4 .ensures)
 
 pub enter-spec : {M : Type 1} → Rattle.client_services.proofs.enter.Statement.statement M
 enter-spec =
     tie.close
     (tie.spec (λ c. search needs) (λ c. search needs) (λ c. search needs) (λ c κs. search needs) (λ c. search needs) (λ c κs. search needs)
-    (λ c. search needs) (λ c κs. search needs) (λ c κs. search needs) (λ c. search needs) (λ c. search needs) (λ c. search needs) (λ c. simp length-set (search needs)) returns)
+    (λ c. search needs) (λ c κs. search needs) (λ c κs. search needs) (λ c. search needs) (λ c. search needs) (λ c. search needs)
+    (λ c. simp length-set (search needs)) returns)

@@ -18,10 +18,8 @@ returns c = some-found (omega arith) (c .before .grant-on .ensures) (c .if1 .tak
 loop-again : tie.Need-loop-again Inv-loop μ-loop
 loop-again c = none-next (c .before .before .before .loop .inv) (omega arith) (c .before .grant-on .ensures) (c .if1 .left)
 
-returns-2 : tie.Need-returns-2 Inv-loop μ-loop
-returns-2 c = none-found (c .before .loop .inv) (omega arith)
-
 pub grant-held-spec : {M : Type 1} → Rattle.client_services.proofs.grant_held.Statement.statement M
 grant-held-spec =
     tie.close
-    (tie.spec Inv-loop μ-loop (λ c. so-far-none) (λ c κs. omega arith) returns (λ c. omega arith) (λ c. omega arith) loop-again returns-2)
+    (tie.spec Inv-loop μ-loop (λ c. so-far-none) (λ c κs. omega arith) returns (λ c. omega arith) (λ c. omega arith) loop-again
+    (λ c. none-found (c .before .loop .inv) (omega arith)))

@@ -58,5 +58,5 @@ pub register-spec : {M : Type 1} → Rattle.client_services.proofs.regi
 register-spec =
     tie.close
     (tie.spec (λ c κs. search needs) (λ c. search needs) (λ c. search needs) returns (λ c κs. length-right c) (λ c. search needs) (λ c. search needs)
-    returns-2 (λ c κs. size-in _ (start (sized (c .before)) .pre)) (λ c. search needs) (λ c. search needs) (λ c. search needs) returns-3 enter-requires
-    (λ c. search needs) returns-4)
+    returns-2 (λ c κs. size-in _ (start (sized (c .before)) .pre)) (λ c. search needs) (λ c. search needs) (λ c. search needs) returns-3
+    enter-requires (λ c. search needs) returns-4)

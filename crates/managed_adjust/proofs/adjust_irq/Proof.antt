@@ -50,7 +50,8 @@ returns-2 c =
     let done = c .before .before in
     let arm = removing (done .before) in
     let reached = begun (arm .before) .pre .1 in
-    irq-serves reached (right (arm .before)) (λ F G x. inr (inl (sym (reached .names .action-is) ∙ arm .match2 .keys1, x))) (done .remove-level .ensures)
+    irq-serves reached (right (arm .before))
+    (λ F G x. inr (inl (sym (reached .names .action-is) ∙ arm .match2 .keys1, x))) (done .remove-level .ensures)
 
 returns-3 : tie.Need-returns-3
 returns-3 c =

@@ -24,7 +24,8 @@ searched c = c .before .before .before
 abbrev level : tie.After-known-told → ℕ
 level c = c .before .l .given .0 .0
 
-level-next : (c : tie.After-known-told) → let k = searched c .before in NextLevelIs (now (start (k .before) .args .t)) (k .from .result) (At (level c))
+level-next : (c : tie.After-known-told)
+    → let k = searched c .before in NextLevelIs (now (start (k .before) .args .t)) (k .from .result) (At (level c))
 level-next c = rw (c .before .l .given .1) at (c .before .before .before .next .ensures)
 
 level-below : (c : tie.After-known-told) → level c < allLevels
@@ -47,5 +48,5 @@ pub show-level-spec : {M : Type 1} → Rattle.managed_adjust.proofs.sho
 show-level-spec =
     tie.close
     (tie.spec (λ c κs. search needs) (λ c. search needs) (λ c κs. search needs) (λ c κs. search needs) (λ c. search needs) (λ c. search needs)
-    (λ c. search needs) returns (λ c κs. search needs) (λ c κs. search needs) (λ c. search needs) (λ c. omega (arith, level-below (c .before .before)))
-    (λ c. search needs) (λ c κs. search needs) (λ c. search needs) returns-2)
+    (λ c. search needs) returns (λ c κs. search needs) (λ c κs. search needs) (λ c. search needs)
+    (λ c. omega (arith, level-below (c .before .before))) (λ c. search needs) (λ c κs. search needs) (λ c. search needs) returns-2)

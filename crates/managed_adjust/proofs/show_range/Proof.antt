@@ -23,7 +23,8 @@ abbrev searched : tie.After-known-told → tie.After-next
 searched c = c .before .before .before
 
 range-next : (c : tie.After-known-told)
-    → let k = searched c .before in let at = c .before .base .given .0 in NextRangeIs (now (start (k .before) .args .t)) (k .from .result) (At (at .0) (at .1 .0))
+    → let k = searched c .before in
+    let at = c .before .base .given .0 in NextRangeIs (now (start (k .before) .args .t)) (k .from .result) (At (at .0) (at .1 .0))
 range-next c = rw (c .before .base .given .1) at (c .before .before .before .next .ensures)
 
 -- the packet can show its count
@@ -57,8 +58,8 @@ returns-3 c =
     let held = shown .before .before in
     let k = searched (found (held .before)) .before in
     let a = start (k .before) .pre .0 in
-    range-shown _ a (from-given k) (range-next (found (held .before)) a) (held .of-range .result) (few-enough (held .before)) (held .of-range .ensures)
-    (c .handle-shown .ensures) (rw (shown .attributes-shown .ensures) at (wrote .write .ensures))
+    range-shown _ a (from-given k) (range-next (found (held .before)) a) (held .of-range .result) (few-enough (held .before))
+    (held .of-range .ensures) (c .handle-shown .ensures) (rw (shown .attributes-shown .ensures) at (wrote .write .ensures))
 
 pub show-range-spec : {M : Type 1} → Rattle.managed_adjust.proofs.show_range.Statement.statement M
 show-range-spec =

@@ -43,7 +43,8 @@ refusal : (c : tie.After-known-told Inv-loop μ-loop)
     → let k = asked (stopped c) in
     let at = c .before .some .given .0 in
     (at .0 ≤ k .next .result)
-    × Boots (list (turn k)) (now (start (turn k) .args .t)) (stopped c .before .before .lent .last .0) (Stopped (turn k .loop .first + at .0) (at .1 .0))
+    × Boots (list (turn k)) (now (start (turn k) .args .t)) (stopped c .before .before .lent .last .0)
+    (Stopped (turn k .loop .first + at .0) (at .1 .0))
 refusal c =
     let known = c .before .before .before in
     let k = asked known in
@@ -62,7 +63,8 @@ loop-again c =
     let l = turn k .loop in (
       full k,
       omega (arith, l .inv .1),
-      bytes-more (list (turn k)) (l .at) (l .inv .2) (k .next .result) (full k) (rw (c .enum-told .given .1) at (known .before .before .lent .ensures)),
+      bytes-more (list (turn k)) (l .at) (l .inv .2) (k .next .result) (full k)
+          (rw (c .enum-told .given .1) at (known .before .before .lent .ensures)),
     )
 
 returns-2 : tie.Need-returns-2 Inv-loop μ-loop

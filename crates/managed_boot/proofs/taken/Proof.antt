@@ -45,5 +45,5 @@ returns c =
 pub taken-spec : {M : Type 1} → Rattle.managed_boot.proofs.taken.Statement.statement M
 taken-spec =
     tie.close
-    (tie.spec Inv-loop μ-loop (λ c. (omega arith, refl, refl)) (λ c. search needs) (λ c. omega (arith, within c)) (λ c κs. within c) (λ c. search needs)
-    (λ c. search needs) (λ c. search needs) (λ c. omega (arith, c .before .loop-test .taken)) loop-again returns)
+    (tie.spec Inv-loop μ-loop (λ c. (omega arith, refl, refl)) (λ c. search needs) (λ c. omega (arith, within c)) (λ c κs. within c)
+    (λ c. search needs) (λ c. search needs) (λ c. search needs) (λ c. omega (arith, c .before .loop-test .taken)) loop-again returns)

@@ -66,6 +66,6 @@ pub add-spec : {M : Type 1} → Rattle.managed_levels.proofs.add.Statem
 add-spec =
     tie.close
     (tie.spec (λ c κs. search needs) (λ c. search needs) (λ c. search needs) returns (λ c κs. search needs) (λ c. search needs) (λ c. search needs)
-    returns-2 (λ c κs. (size-in _ (start (marked (c .before)) .pre), level-below (c .before))) (λ c. search needs) (λ c. search needs) (λ c. search needs)
-    returns-3
-    (λ c κs. let k = levelled (c .before .before .before) in (size-in _ (start (marked k) .pre), level-below k)) (λ c. search needs) returns-4)
+    returns-2 (λ c κs. (size-in _ (start (marked (c .before)) .pre), level-below (c .before))) (λ c. search needs) (λ c. search needs)
+    (λ c. search needs) returns-3 (λ c κs. let k = levelled (c .before .before .before) in (size-in _ (start (marked k) .pre), level-below k))
+    (λ c. search needs) returns-4)

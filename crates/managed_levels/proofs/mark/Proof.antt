@@ -9,4 +9,6 @@ slice-write-t-2 c = omega (arith, c .pre .0, length-set (now (c .args .t)) (leve
 
 pub mark-spec : {M : Type 1} → Rattle.managed_levels.proofs.mark.Statement.statement M
 mark-spec =
-    tie.close (tie.spec (λ c. search needs) (λ c. search needs) (λ c. search needs) (λ c. search needs) slice-write-t-2 (λ c. search needs) (λ c. search needs))
+    tie.close
+    (tie.spec (λ c. search needs) (λ c. search needs) (λ c. search needs) (λ c. search needs) slice-write-t-2 (λ c. search needs)
+    (λ c. search needs))

@@ -22,7 +22,8 @@ loop-again : tie.Need-loop-again Inv-loop μ-loop
 loop-again c =
     let look = c .before .before in
     let at = look .before .before in
-    (omega (arith, at .loop .inv .0), none-more (now (at .before .before .args .t)) (at .loop .inv .1) (rw (c .enum-told2 .given .1) at (look .whether-managed .ensures)))
+    let free = rw (c .enum-told2 .given .1) at (look .whether-managed .ensures) in
+    (omega (arith, at .loop .inv .0), none-more (now (at .before .before .args .t)) (at .loop .inv .1) free)
 
 pub next-spec : {M : Type 1} → Rattle.managed_levels.proofs.next.Statement.statement M
 next-spec =

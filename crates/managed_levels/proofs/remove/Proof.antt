@@ -85,6 +85,6 @@ pub remove-spec : {M : Type 1} → Rattle.managed_levels.proofs.remove.
 remove-spec =
     tie.close
     (tie.spec (λ c κs. search needs) (λ c. search needs) (λ c. search needs) returns (λ c κs. search needs) (λ c. search needs) (λ c. search needs)
-    returns-2 (λ c κs. (size-in _ (start (clear (c .before)) .pre), level-below (c .before))) (λ c. search needs) (λ c. search needs) (λ c. search needs)
-    returns-3 (λ c κs. search needs) (λ c. search needs) (λ c. search needs) (λ c. search needs) returns-4
+    returns-2 (λ c κs. (size-in _ (start (clear (c .before)) .pre), level-below (c .before))) (λ c. search needs) (λ c. search needs)
+    (λ c. search needs) returns-3 (λ c κs. search needs) (λ c. search needs) (λ c. search needs) (λ c. search needs) returns-4
     (λ c κs. let k = looked (found (c .before .before .before)) in (size-in _ (start (clear k) .pre), level-below k)) (λ c. search needs) returns-5)

@@ -49,5 +49,5 @@ write-spec =
     (tie.spec (λ c. search needs) (λ c κs. omega (arith, short (c .before))) (λ c. omega (arith, few (one c))) (λ c. omega (arith, short-size c))
     (λ c. simp length-set (omega (arith, short-size c))) (λ c. search needs) (λ c. simp length-set (omega (arith, short-size c))) (λ c. search needs)
     (λ c κs. omega (arith, wide (c .before))) (λ c κs. omega (arith, wide-based c)) (λ c. omega (arith, wide-size c)) (λ c. search needs)
-    (λ c. simp length-set (omega (arith, wide-size c))) (λ c. search needs) (λ c. rw (one c .enum-told .given .1, c .before .before .put-word .ensures))
-    same-length-2 returns-2)
+    (λ c. simp length-set (omega (arith, wide-size c))) (λ c. search needs)
+    (λ c. rw (one c .enum-told .given .1, c .before .before .put-word .ensures)) same-length-2 returns-2)

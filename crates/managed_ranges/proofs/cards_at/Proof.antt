@@ -3,11 +3,7 @@
 use Rattle.facts.proofs.Words.{needs}
 use Rattle.managed_ranges.proofs.cards_at.Tie as tie
 
-returns : tie.Need-returns
-returns c = c .before .some .ensures .holds (c .if1 .taken)
-
-returns-2 : tie.Need-returns-2
-returns-2 c = c .before .some .ensures .fails (c .if1 .left)
-
 pub cards-at-spec : {M : Type 1} → Rattle.managed_ranges.proofs.cards_at.Statement.statement M
-cards-at-spec = tie.close (tie.spec (λ c κs. search needs) returns returns-2)
+cards-at-spec =
+    tie.close
+    (tie.spec (λ c κs. search needs) (λ c. c .before .some .ensures .holds (c .if1 .taken)) (λ c. c .before .some .ensures .fails (c .if1 .left)))

@@ -12,8 +12,8 @@ returns c =
     let lent2 = second .before .before .before in
     let first = lent2 .before in
     let pre = first .before .before .before .pre in
-    enters _ (pre .0 .0) (omega arith) (omega (arith, pre .0 .1, pre .0 .2)) (pre .1 .0) (pre .1 .1) (first .make-room .ensures) (second .put-word .ensures)
-    (third .put-long .ensures)
+    enters _ (pre .0 .0) (omega arith) (omega (arith, pre .0 .1, pre .0 .2)) (pre .1 .0) (pre .1 .1) (first .make-room .ensures)
+    (second .put-word .ensures) (third .put-long .ensures)
 
 pub enter-spec : {M : Type 1} → Rattle.managed_ranges.proofs.enter.Statement.statement M
 enter-spec =

@@ -30,6 +30,6 @@ loop-again c =
 pub place-spec : {M : Type 1} → Rattle.managed_ranges.proofs.place.Statement.statement M
 place-spec =
     tie.close
-    (tie.spec Inv-loop μ-loop (λ c κs. search needs) (λ c. omega (arith, c .byte .ensures .0)) (λ c. omega arith) (λ c. omega arith) (λ c. omega arith)
-    (λ c κs. omega (arith, start (c .before .before) .pre .0)) returns (λ c. omega arith) (λ c. omega arith) loop-again
+    (tie.spec Inv-loop μ-loop (λ c κs. search needs) (λ c. omega (arith, c .byte .ensures .0)) (λ c. omega arith) (λ c. omega arith)
+    (λ c. omega arith) (λ c κs. omega (arith, start (c .before .before) .pre .0)) returns (λ c. omega arith) (λ c. omega arith) loop-again
     (λ c. down-end (c .before .loop .inv .1) (omega arith)))

@@ -64,5 +64,5 @@ pub take-spec : {M : Type 1} → Rattle.managed_ranges.proofs.take.Stat
 take-spec =
     tie.close
     (tie.spec find-requires (λ c. search needs) (λ c. search needs) (λ c. search needs) returns cards-at-requires (λ c. search needs)
-    (λ c. search needs) (λ c. search needs) returns-2 (λ c. omega (arith, in-table (place-of-take c))) (λ c. omega (arith, in-table (place-of-take c)))
-    take-out-requires (λ c. search needs) returns-3)
+    (λ c. search needs) (λ c. search needs) returns-2 (λ c. omega (arith, in-table (place-of-take c)))
+    (λ c. omega (arith, in-table (place-of-take c))) take-out-requires (λ c. search needs) returns-3)

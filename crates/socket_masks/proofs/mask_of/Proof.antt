@@ -3,11 +3,8 @@
 use Rattle.facts.proofs.Words.{needs}
 use Rattle.socket_masks.proofs.mask_of.Tie as tie
 
-returns : tie.Need-returns
-returns c = c .before .mask-on .ensures .holds (c .if1 .taken)
-
-returns-2 : tie.Need-returns-2
-returns-2 c = c .before .mask-on .ensures .fails (c .if1 .left)
-
 pub mask-of-spec : {M : Type 1} → Rattle.socket_masks.proofs.mask_of.Statement.statement M
-mask-of-spec = tie.close (tie.spec (λ c κs. search needs) returns returns-2)
+mask-of-spec =
+    tie.close
+    (tie.spec (λ c κs. search needs) (λ c. c .before .mask-on .ensures .holds (c .if1 .taken))
+    (λ c. c .before .mask-on .ensures .fails (c .if1 .left)))

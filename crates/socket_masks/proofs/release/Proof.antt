@@ -56,4 +56,5 @@ returns-3 c =
 pub release-spec : {M : Type 1} → Rattle.socket_masks.proofs.release.Statement.statement M
 release-spec =
     tie.close
-    (tie.spec (λ c κs. search needs) (λ c. search needs) mask-of-requires (λ c. search needs) (λ c. search needs) (λ c. search needs) returns write-requires (λ c. search needs) (λ c. search needs) returns-2 (λ c. search needs) returns-3)
+    (tie.spec (λ c κs. search needs) (λ c. search needs) mask-of-requires (λ c. search needs) (λ c. search needs) (λ c. search needs) returns
+    write-requires (λ c. search needs) (λ c. search needs) returns-2 (λ c. search needs) returns-3)

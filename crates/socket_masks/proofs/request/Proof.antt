@@ -81,4 +81,6 @@ returns-4 c =
 pub request-spec : {M : Type 1} → Rattle.socket_masks.proofs.request.Statement.statement M
 request-spec =
     tie.close
-    (tie.spec (λ c κs. search needs) (λ c. search needs) (λ c κs. begun c .size) (λ c. search needs) (λ c. search needs) (λ c. search needs) returns mask-of-requires (λ c. search needs) (λ c. search needs) (λ c. search needs) returns-2 add-write write-requires (λ c. search needs) (λ c. search needs) returns-3 (λ c. search needs) returns-4)
+    (tie.spec (λ c κs. search needs) (λ c. search needs) (λ c κs. begun c .size) (λ c. search needs) (λ c. search needs) (λ c. search needs) returns
+    mask-of-requires (λ c. search needs) (λ c. search needs) (λ c. search needs) returns-2 add-write write-requires (λ c. search needs)
+    (λ c. search needs) returns-3 (λ c. search needs) returns-4)

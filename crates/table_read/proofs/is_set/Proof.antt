@@ -5,8 +5,5 @@ use Rattle.facts.specs.{bit}
 use Rattle.facts.proofs.{says-eq}
 use Rattle.table_read.proofs.is_set.Tie as tie
 
-returns : tie.Need-returns
-returns c = says-eq (bit (c .args .n) (c .args .place)) 1
-
 pub is-set-spec : {M : Type 1} → Rattle.table_read.proofs.is_set.Statement.statement M
-is-set-spec = tie.close (tie.spec (λ c. search needs) returns)
+is-set-spec = tie.close (tie.spec (λ c. search needs) (λ c. says-eq (bit (c .args .n) (c .args .place)) 1))

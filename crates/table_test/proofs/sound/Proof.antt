@@ -33,9 +33,6 @@ clients c = says-yes (c .before .clients-sound .ensures) (c .if4 .left)
 ranges : (c : tie.Else5) → RangesSound (bytes (second (third (fourth c))))
 ranges c = says-yes (c .before .ranges-sound .ensures) (c .if5 .left)
 
-returns : tie.Need-returns
-returns c = says-false (λ s. c .if1 .taken (s .size))
-
 returns-2 : tie.Need-returns-2
 returns-2 c =
     says-false-by (c .before .counts-sound .ensures) (c .if2 .taken) (λ s. search needs)
@@ -94,6 +91,6 @@ returns-7 c =
 pub sound-spec : {M : Type 1} → Rattle.table_test.proofs.sound.Statement.statement M
 sound-spec =
     tie.close
-    (tie.spec returns (λ c κs. search needs) returns-2 (λ c κs. search needs) returns-3 (λ c κs. (search needs, counts (second c) .clients-most))
-    returns-4 (λ c κs. (search needs, counts (second (third c)) .ranges-most)) returns-5 sockets-sound-requires returns-6 ends-sound-requires
-    returns-7)
+    (tie.spec (λ c. says-false (λ s. c .if1 .taken (s .size))) (λ c κs. search needs) returns-2 (λ c κs. search needs) returns-3
+    (λ c κs. (search needs, counts (second c) .clients-most)) returns-4 (λ c κs. (search needs, counts (second (third c)) .ranges-most)) returns-5
+    sockets-sound-requires returns-6 ends-sound-requires returns-7)

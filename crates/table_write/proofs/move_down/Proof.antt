@@ -20,6 +20,6 @@ loop-again c =
 pub move-down-spec : {M : Type 1} → Rattle.table_write.proofs.move_down.Statement.statement M
 move-down-spec =
     tie.close
-    (tie.spec Inv-loop μ-loop (λ c. (omega arith, c .pre .0, filled-none)) (λ c. omega arith) (λ c. omega (arith, c .before .before .loop .inv .2 .size))
-    (λ c. omega (arith, c .before .before .loop .inv .2 .size)) (λ c. omega arith) (λ c. omega arith) loop-again (λ c. c .before .loop .inv .2 .size)
-    (λ c. subst (Filled _ _ _ _) (omega arith) (c .before .loop .inv .2)))
+    (tie.spec Inv-loop μ-loop (λ c. (omega arith, c .pre .0, filled-none)) (λ c. omega arith)
+    (λ c. omega (arith, c .before .before .loop .inv .2 .size)) (λ c. omega (arith, c .before .before .loop .inv .2 .size)) (λ c. omega arith)
+    (λ c. omega arith) loop-again (λ c. c .before .loop .inv .2 .size) (λ c. subst (Filled _ _ _ _) (omega arith) (c .before .loop .inv .2)))

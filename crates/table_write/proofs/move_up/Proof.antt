@@ -29,6 +29,6 @@ returns c =
 pub move-up-spec : {M : Type 1} → Rattle.table_write.proofs.move_up.Statement.statement M
 move-up-spec =
     tie.close
-    (tie.spec Inv-loop μ-loop (λ c. (c .pre .0, omega arith, filled-none)) (λ c. omega arith) (λ c. omega (arith, c .before .before .loop .inv .2 .size))
-    (λ c. omega arith) (λ c. omega (arith, c .before .before .loop .inv .2 .size)) (λ c. omega arith) loop-again (λ c. c .before .loop .inv .2 .size)
-    returns)
+    (tie.spec Inv-loop μ-loop (λ c. (c .pre .0, omega arith, filled-none)) (λ c. omega arith)
+    (λ c. omega (arith, c .before .before .loop .inv .2 .size)) (λ c. omega arith) (λ c. omega (arith, c .before .before .loop .inv .2 .size))
+    (λ c. omega arith) loop-again (λ c. c .before .loop .inv .2 .size) returns)

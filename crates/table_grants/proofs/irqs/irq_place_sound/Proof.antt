@@ -1,7 +1,7 @@
 -- `table_grants::irqs::irq_place_sound` meets its contract: a record that is not zero is a grant if each test passes.
 -- Assumes nothing.
-use Rattle.facts.proofs.Words.{inl, _≡_, sym, ap, _∙_, subst, List, ℕ, _+_, arith, needs, now}
-use Rattle.facts.specs.{byte, word}
+use Rattle.facts.proofs.Words.{inl, _≡_, sym, ap, _∙_, subst, List, ℕ, _+_, _≤_, _<_, arith, needs, now}
+use Rattle.facts.specs.{byte, word, allLevels}
 use Rattle.facts.proofs.{says-true}
 use Rattle.layout.specs.{irqSize, irqPlace, levelPlace, Zero, LiveIn, irqLevelAt, irqMannerAt}
 use Rattle.table_read.proofs.{place-false, place-says, live-used}
@@ -65,17 +65,14 @@ returns-5 c =
     let begin = levelled below in
     let k = found begin in
     let client = read .handle .ensures ∙ ap (word (table k)) (place k) in
+    let at = irqPlace (seat k) in
+    let at-level = below .before .byte .ensures .0 ∙ ap (λ (p : ℕ). byte (table k) (p + irqLevelAt)) (place k) in
+    let level : byte (table k) (at + irqLevelAt) < allLevels = omega (arith, below .if2 .left, at-level) in
+    let managed = sym (level-byte (tested .before)) ∙ tested .if3 .left in
+    let in-manner = last .before .byte3 .ensures .0 ∙ ap (λ (p : ℕ). byte (table k) (p + irqMannerAt)) (place k) in
+    let manner : byte (table k) (at + irqMannerAt) ≤ 3 = omega (arith, last .if4 .left, in-manner) in
     place-says (used begin) (c .irq-holder-sound .ensures)
-    (λ h. let live = subst (LiveIn (table k)) client (h .live) in (
-      live-used (table k) (start k .pre .0 .3) live,
-      record {
-        client = live;
-        socket = h .socket;
-        level = omega (arith, below .if2 .left, below .before .byte .ensures .0 ∙ ap (λ (p : ℕ). byte (table k) (p + irqLevelAt)) (place k));
-        managed = sym (level-byte (tested .before)) ∙ tested .if3 .left;
-        manner = omega (arith, last .if4 .left, last .before .byte3 .ensures .0 ∙ ap (λ (p : ℕ). byte (table k) (p + irqMannerAt)) (place k));
-      },
-    ))
+    (λ h. let live = subst (LiveIn (table k)) client (h .live) in (live-used (table k) (start k .pre .0 .3) live, search needs))
     (λ g. record { live = subst (LiveIn (table k)) (sym client) (g .client); socket = g .socket })
 
 pub irq-place-sound-spec : {M : Type 1} → Rattle.table_grants.proofs.irqs.irq_place_sound.Statement.statement M

@@ -26,5 +26,6 @@ returns c = let a = begun c .args in four-says (now (a .t)) (known c) (a .at) (m
 
 pub four-formed-spec : {M : Type 1} → Rattle.table_lists.proofs.clients.four_formed.Statement.statement M
 four-formed-spec =
-    tie.close (tie.spec (λ c κs. search needs) (λ c. search needs) (λ c κs. search needs) (λ c. search needs) (λ c. search needs) (λ c. omega (arith, few c))
+    tie.close
+    (tie.spec (λ c κs. search needs) (λ c. search needs) (λ c κs. search needs) (λ c. search needs) (λ c. search needs) (λ c. omega (arith, few c))
     (λ c. omega (arith, few c)) returns)

@@ -5,9 +5,6 @@ use Rattle.facts.proofs.{says-true, says-as}
 use Rattle.table_lists.proofs.{bytes-masks, masks-bytes}
 use Rattle.table_lists.proofs.clients.masks_end.Tie as tie
 
-returns : tie.Need-returns
-returns c = says-true (λ s h l. absurd (omega arith))
-
 returns-2 : tie.Need-returns-2
 returns-2 c =
     let read = c .before .before in
@@ -17,5 +14,5 @@ returns-2 c =
 pub masks-end-spec : {M : Type 1} → Rattle.table_lists.proofs.clients.masks_end.Statement.statement M
 masks-end-spec =
     tie.close
-    (tie.spec (λ c κs. search needs) returns (λ c. search needs) (λ c. search needs) (λ c. search needs) (λ c. search needs) (λ c. search needs)
-    (λ c. search needs) (λ c. search needs) (λ c κs. search needs) returns-2)
+    (tie.spec (λ c κs. search needs) (λ c. says-true (λ s h l. absurd (omega arith))) (λ c. search needs) (λ c. search needs) (λ c. search needs)
+    (λ c. search needs) (λ c. search needs) (λ c. search needs) (λ c. search needs) (λ c κs. search needs) returns-2)
