@@ -108,10 +108,7 @@ module _ {b : List ℕ} (a : Accepted b) {base n : ℕ} where
         range = m .range;
         held = m .held;
         port = x .0;
-        has = record {
-          from = omega (arith, x .1 .from, Of.range-base b a i, f .base-is);
-          below = omega (arith, x .1 .below, Of.range-base b a i, Of.range-count b a i, f .base-is, f .count-is);
-        };
+        has = omega (arith, x .1, Of.range-base b a i, Of.range-count b a i, f .base-is, f .count-is);
         answers = x .2;
       }
 
@@ -120,7 +117,7 @@ module _ {b : List ℕ} (a : Accepted b) {base n : ℕ} where
       let ports = x .range .ports in
       let met =
       answers-meet ports (a .formed .ios (x .seat) (x .range) (x .held) .lines) base n (x .port) (x .answers)
-      (record { from = omega (arith, x .has .from, j .1); below = omega (arith, x .has .below, j .1, j .2) }) in
+      (omega (arith, x .has, j .1, j .2)) in
       record { seat = x .seat; range = x .range; held = x .held; meets = meet-symmetric ports (whole base n) met }
 
   module _ {i : ℕ} (f : FoundAt b base n i) where
@@ -172,29 +169,15 @@ module _ {b b₁ b₂ b₃ : List ℕ} {at base n : ℕ} (reserved : ℕ) (size 
 
   record-new : (j : ℕ) → j < rangeSize → byte written (at + j) ≡ getD (two base ++ four n ++ reserved ∷ []) j 0
   record-new =
-      below-at 7 (λ j. byte written (at + j) ≡ getD (two base ++ four n ++ reserved ∷ []) j 0) (
-        (
-          (
-            (
-              (
-                (
-                  (
-                    tt,
-                    based (at + 0) (omega arith) (inl (omega arith)) ∙ ap (byte (withWord b₁ at base)) (add-zero at)
-                        ∙ word-low b₁ at base (omega (arith, m .size, size)),
-                  ),
-                  based (at + 1) (omega arith) (inl (omega arith)) ∙ word-high b₁ at base (omega (arith, m .size, size)) ∙ omega arith,
-                ),
-                count-new 0 (omega arith),
-              ),
-              count-new 1 (omega arith),
-            ),
-            count-new 2 (omega arith),
-          ),
-          count-new 3 (omega arith),
-        ),
-        byte-same b₃ (at + rangeReservedAt) reserved (omega (arith, size₃)),
-      )
+      let first : byte written (at + 0) ≡ getD (two base) 0 0 =
+      based (at + 0) (omega arith) (inl (omega arith)) ∙ ap (byte (withWord b₁ at base)) (add-zero at)
+      ∙ word-low b₁ at base (omega (arith, m .size, size)) in
+      let second : byte written (at + 1) ≡ getD (two base) 1 0 =
+      based (at + 1) (omega arith) (inl (omega arith)) ∙ word-high b₁ at base (omega (arith, m .size, size)) ∙ omega arith in
+      let last = byte-same b₃ (at + rangeReservedAt) reserved (omega (arith, size₃)) in
+      let c = count-new in
+      below-at 7 (λ j. byte written (at + j) ≡ getD (two base ++ four n ++ reserved ∷ []) j 0)
+      (((((((tt, first), second), c 0 (omega arith)), c 1 (omega arith)), c 2 (omega arith)), c 3 (omega arith)), last)
 
   pub enters : PutIn b written 2 at restAt (two base ++ four n ++ reserved ∷ [])
   enters =

@@ -8,4 +8,4 @@ pub use Blocks.{blocks-within, own-blocks, blocks-apart}
 pub use Cards.{sound-end, marked-sound, Marked, marks-more}
 pub use Covering.{all-bits, covers-none, covers-more}
 pub use Manners.{own-held, apart-against, held-says}
-pub use Records.{long-zero, zero-long, zero-sound, ports-held, client-held, lines-held, HeldFits, held-fits, held-port, held-lines}
+pub use Records.{long-zero, zero-long, zero-sound, ports-held, client-held, lines-held, held-fits, held-port, held-lines}

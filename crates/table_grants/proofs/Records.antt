@@ -46,11 +46,6 @@ module _ (b : List ℕ) (from to size : ℕ) (place : ℕ → ℕ) (two : 2 ≤ 
             )));
       }
 
--- a base and a count that a record can say
-pub record HeldFits (x : HeldPorts) : Type 0 where
-  pub base : x .base < allPorts
-  pub count : x .count ≤ mostAsked
-
 -- an I/O grant that is there: its ports are those of its record, which are bytes
 module _ (b : List ℕ) (s : Seat) (x : HeldPorts) (h : HeldIs b s (Held x)) where
   pub ports-held : _≡_ {A = Ports} (range x .ports) (portsIn b (ioPlace s))
@@ -63,13 +58,13 @@ module _ (b : List ℕ) (s : Seat) (x : HeldPorts) (h : HeldIs b s (Held x)) whe
   unfolding ioIn
   client-held = ap (λ (y : IoGrant). y .client) (h .1)
 
-  pub held-fits : ((i : ℕ) → byte b i ≤ 255) → HeldFits x
+  -- a base and a count that a record can say
+  pub held-fits : ((i : ℕ) → byte b i ≤ 255) → (x .base < allPorts) × (x .count ≤ mostAsked)
   held-fits known =
       let at = ioPlace s + ioBaseAt in
-      record {
-        base = omega (arith, ap (λ (p : Ports). p .base) ports-held, known at, known (at + 1));
-        count = omega (arith, ap (λ (p : Ports). p .count) ports-held, known (ioPlace s + ioCountAt));
-      }
+      let base = ap (λ (p : Ports). p .base) ports-held in
+      let count = ap (λ (p : Ports). p .count) ports-held in
+      omega (arith, base, count, known at, known (at + 1), known (ioPlace s + ioCountAt))
 
   -- so that it is sound where the record is
   module _ (place : IoPlaceSound b s) where

@@ -20,16 +20,7 @@ width c = c .before .w .given .0 .0
 right : (c : tie.After-known-told) → length (now (begun c .args .p)) ≡ ioAdjustLength (width c)
 right c = rw (c .before .w .given .1) at (c .before .before .before .width-of .ensures)
 
--- each action, and the width before it
-abbrev removing : tie.After-remove-range-arg2 → tie.At-match2-keys1
-removing c = c .before .before
-
-abbrev adding : tie.After-add-range-arg2 → tie.At-match2-keys2
-adding c = c .before .before
-
-abbrev showing : tie.After-show-range-arg2 → tie.At-match2-rest
-showing c = c .before .before
-
+-- the action is First or Next
 shows : (c : tie.At-match2-rest) → let s = begun (c .before) in Shows (now (s .args .p)) (s .args .action)
 shows c = search needs
 
@@ -40,18 +31,18 @@ returns c =
     wrong-length (start k .pre .0) (start k .pre .1) (omega arith) (omega arith) (inr (refl, neither .0, neither .1))
 
 remove-range-requires : tie.Need-remove-range-requires
-remove-range-requires c κs = let told = removing c .before in (begun told .pre .0, right told)
+remove-range-requires c κs = let told = c .before .before .before in (begun told .pre .0, right told)
 
 add-range-requires : tie.Need-add-range-requires
-add-range-requires c κs = let told = adding c .before in (begun told .pre .0, right told)
+add-range-requires c κs = let told = c .before .before .before in (begun told .pre .0, right told)
 
 show-range-requires : tie.Need-show-range-requires
-show-range-requires c κs = let told = showing c .before in (begun told .pre .0, right told, shows (showing c))
+show-range-requires c κs = let arm = c .before .before in (begun (arm .before) .pre .0, right (arm .before), shows arm)
 
 returns-2 : tie.Need-returns-2
 returns-2 c =
     let done = c .before .before in
-    let arm = removing (done .before) in
+    let arm = done .before .before .before in
     let reached = begun (arm .before) .pre .1 in
     io-serves (width (arm .before)) reached (right (arm .before))
     (λ F G x. inr (inl (sym (reached .names .action-is) ∙ arm .match2 .keys1, x))) (done .remove-range .ensures)
@@ -59,7 +50,7 @@ returns-2 c =
 returns-3 : tie.Need-returns-3
 returns-3 c =
     let done = c .before .before in
-    let arm = adding (done .before) in
+    let arm = done .before .before .before in
     let reached = begun (arm .before) .pre .1 in
     io-serves (width (arm .before)) reached (right (arm .before))
     (λ F G x. inl (sym (reached .names .action-is) ∙ arm .match2 .keys2, x)) (done .add-range .ensures)
@@ -67,7 +58,7 @@ returns-3 c =
 returns-4 : tie.Need-returns-4
 returns-4 c =
     let done = c .before .before in
-    let arm = showing (done .before) in
+    let arm = done .before .before .before in
     io-serves (width (arm .before)) (begun (arm .before) .pre .1) (right (arm .before))
     (λ F G x. inr (inr (first-or-next (shows arm), x))) (done .show-range .ensures)
 

@@ -17,16 +17,7 @@ begun c = start (c .before .before)
 right : (c : tie.After-enum-told) → length (now (begun c .args .p)) ≡ irqAdjustLength
 right c = rw (c .enum-told .given .1) at (c .before .before .sized .ensures)
 
--- each action, and the length before it
-abbrev removing : tie.After-remove-level-arg2 → tie.At-match2-keys1
-removing c = c .before .before
-
-abbrev adding : tie.After-add-level-arg2 → tie.At-match2-keys2
-adding c = c .before .before
-
-abbrev showing : tie.After-show-level-arg2 → tie.At-match2-rest
-showing c = c .before .before
-
+-- the action is First or Next
 shows : (c : tie.At-match2-rest) → let s = begun (c .before) in Shows (now (s .args .p)) (s .args .action)
 shows c = search needs
 
@@ -37,18 +28,18 @@ returns c =
     (inl (refl, rw (c .enum-told2 .given .1) at (k .sized .ensures)))
 
 remove-level-requires : tie.Need-remove-level-requires
-remove-level-requires c κs = let told = removing c .before in (begun told .pre .0, right told)
+remove-level-requires c κs = let told = c .before .before .before in (begun told .pre .0, right told)
 
 add-level-requires : tie.Need-add-level-requires
-add-level-requires c κs = let told = adding c .before in (begun told .pre .0, right told)
+add-level-requires c κs = let told = c .before .before .before in (begun told .pre .0, right told)
 
 show-level-requires : tie.Need-show-level-requires
-show-level-requires c κs = let told = showing c .before in (begun told .pre .0, right told, shows (showing c))
+show-level-requires c κs = let arm = c .before .before in (begun (arm .before) .pre .0, right (arm .before), shows arm)
 
 returns-2 : tie.Need-returns-2
 returns-2 c =
     let done = c .before .before in
-    let arm = removing (done .before) in
+    let arm = done .before .before .before in
     let reached = begun (arm .before) .pre .1 in
     irq-serves reached (right (arm .before))
     (λ F G x. inr (inl (sym (reached .names .action-is) ∙ arm .match2 .keys1, x))) (done .remove-level .ensures)
@@ -56,14 +47,14 @@ returns-2 c =
 returns-3 : tie.Need-returns-3
 returns-3 c =
     let done = c .before .before in
-    let arm = adding (done .before) in
+    let arm = done .before .before .before in
     let reached = begun (arm .before) .pre .1 in
     irq-serves reached (right (arm .before)) (λ F G x. inl (sym (reached .names .action-is) ∙ arm .match2 .keys2, x)) (done .add-level .ensures)
 
 returns-4 : tie.Need-returns-4
 returns-4 c =
     let done = c .before .before in
-    let arm = showing (done .before) in
+    let arm = done .before .before .before in
     irq-serves (begun (arm .before) .pre .1) (right (arm .before)) (λ F G x. inr (inr (first-or-next (shows arm), x))) (done .show-level .ensures)
 
 pub adjust-irq-spec : {M : Type 1} → Rattle.managed_adjust.proofs.adjust_irq.Statement.statement M

@@ -27,7 +27,7 @@ blocks-within-requires : tie.Need-blocks-within-requires
 blocks-within-requires c κs =
     let k = looked (found c) in
     let fits = held-fits _ _ _ (there (found c)) (λ i. omega (arith, k .before .shared-slice-known .given i)) in
-    (fits .base, held-port _ _ _ (there (found c)) (start k .pre .2), fits .count)
+    (fits .0, held-port _ _ _ (there (found c)) (start k .pre .2), fits .1)
 
 returns-3 : tie.Need-returns-3
 returns-3 c =

@@ -84,7 +84,7 @@ ports-sound-requires c κs =
     let s = start k in
     let pre = s .pre .0 in
     let fits = held-fits _ _ _ (there g) (λ i. omega (arith, k .before .before .shared-slice-known .given i)) in
-    ((pre .0, pre .2 .ranges-most, pre .4, rw (lines-held _ _ _ (there g)) (s .pre .1 _ (holder c .socket) (there g .0))), (fits .base, fits .count))
+    ((pre .0, pre .2 .ranges-most, pre .4, rw (lines-held _ _ _ (there g)) (s .pre .1 _ (holder c .socket) (there g .0))), fits)
 
 returns-5 : tie.Need-returns-5
 returns-5 c =

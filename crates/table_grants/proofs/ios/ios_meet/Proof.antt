@@ -37,7 +37,7 @@ meets-requires c κs =
     let fits = held-fits _ _ _ (one first) (λ i. omega (arith, k .before .shared-slice-known .given i)) in
     let fits′ = held-fits _ _ _ (other c) (λ i. omega (arith, k .before .shared-slice-known .given i)) in
     let sound = start k .pre .1 in
-    (fits .base, omega (arith, fits .count), held-lines _ _ _ (one first) (sound .0), fits′ .base, held-lines _ _ _ (other c) (sound .1), omega (arith, fits′ .count))
+    (fits .0, omega (arith, fits .1), held-lines _ _ _ (one first) (sound .0), fits′ .0, held-lines _ _ _ (other c) (sound .1), omega (arith, fits′ .1))
 
 returns-3 : tie.Need-returns-3
 returns-3 c =
