@@ -169,11 +169,9 @@ module _ {b p : List ℕ} (a : Accepted b) {h : ℕ} where
     pub wrong-length : 1 ≤ resource → resource ≤ 2 → WrongLength resource (length p)
         → ServesBy AdjustResourceInfo h p p b b (answer.Refused BadArgLength)
     wrong-length least most w =
-        head-refused
-        (inr (
-          is-built _ (omega arith) (omega arith) (omega arith),
-          inr (omega arith, inl (subst (λ (r : ℕ). WrongLength r (length p)) (reached .names .resource-is) w, refl)),
-        ))
+        let built = is-built (resourceOf p) (omega arith) (omega arith) (omega arith) in
+        let wrong = subst (λ (r : ℕ). WrongLength r (length p)) (reached .names .resource-is) w in
+        head-refused (inr (built, inr (omega arith, inl (wrong, refl))))
 
 -- the checks pass, and the resource rules
 module _ {R : Facts → Facts → Type 0} {h : ℕ} {p p′ b b′ : List ℕ} {k : Code} {answered action : ℕ} where
@@ -182,20 +180,9 @@ module _ {R : Facts → Facts → Type 0} {h : ℕ} {p p′ b b′ : List ℕ} {
       → Served R b b′
       → ServedBy (λ (F : Facts). AdjustResourceInfo F h p) b b′ p′ k answered
   serves reached least most right acts =
-      served-as
-      (λ F G x. inr (
-        (
-          omega arith,
-          (
-            omega arith,
-            (
-              is-built _ (omega arith) (omega arith) (omega arith),
-              (omega arith, (subst (λ (r : ℕ). WrongLength r (length p) → ⊥) (reached .names .resource-is) right, tt)),
-            ),
-          ),
-        ),
-        acts F G x,
-      ))
+      let built = is-built (resourceOf p) (omega arith) (omega arith) (omega arith) in
+      let right-length = subst (λ (r : ℕ). WrongLength r (length p) → ⊥) (reached .names .resource-is) right in
+      served-as (λ F G x. inr ((omega arith, (omega arith, (built, (omega arith, (right-length, tt))))), acts F G x))
 
   pub irq-serves : Reached p action irqLevel → length p ≡ irqAdjustLength
       → ((F G : Facts) → R F G → AdjustIrq F h p (record { code = k; handle = answered; packet = p′; facts = G }))

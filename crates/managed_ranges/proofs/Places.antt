@@ -39,15 +39,10 @@ module _ {b : List ℕ} (s : RangesSound b) where
   module _ {base count i : ℕ} (place : PlaceOf b base i) where
     pub taken-before : 1 ≤ count → base < endBefore b i → FreeIs b base count Taken
     taken-before c h =
-        let some : i ≢ 0 = λ e. omega (arith, ap (endBefore b) e) in (
-          base,
-          omega arith,
-          (
-            i - 1,
-            omega (arith, place .within),
-            record { from = omega (arith, place .ahead (i - 1) (omega arith)); below = omega (arith, end-before b i some) },
-          ),
-        )
+        let some : i ≢ 0 = λ e. omega (arith, ap (endBefore b) e) in
+        let held : Within base (rangeBase b (i - 1)) (rangeCount b (i - 1)) =
+        omega (arith, place .ahead (i - 1) (omega arith), end-before b i some) in
+        (base, omega arith, (i - 1, omega (arith, place .within), held))
 
     pub taken-after : {x : ℕ} → StartIs b i x → base + count ≤ allPorts → x < base + count → FreeIs b base count Taken
     taken-after (inl y) w h = (
