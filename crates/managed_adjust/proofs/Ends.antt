@@ -7,7 +7,7 @@ use Rattle.managed_ranges.specs.declared.NextRange.the-variants as range
 use Rattle.facts.specs.{Code, BadSize, UnsupportedService, BadArgLength, BadArgs, NoMoreItems, Handle, Width, Short, Wide, Facts, Range, _∈_, Lowest}
 use Rattle.facts.specs.{Check, _gives_, FirstGiven, Leaves, Ruled, first, next, ioRange, irqLevel, actionOf, resourceOf, ByResource}
 use Rattle.facts.specs.{irqAdjustLength, ioAdjustLength, NotBuilt, WrongLength, adjustChecks, levelGiven, baseGiven, Follows, LevelFollows}
-use Rattle.facts.specs.{LevelShown, RangeNext, RangeShown, TooMany, unheld, showingLevel, ShowLevel, ShowRange, AdjustIrq}
+use Rattle.facts.specs.{LevelShown, RangeNext, RangeShown, TooMany, unheld, showingLevel, showingRange, ShowLevel, ShowRange, AdjustIrq}
 use Rattle.facts.specs.{AdjustIo, AdjustResourceInfo}
 use Rattle.facts.specs.Resources.{resourceChecks}
 use Rattle.facts.proofs.{is-built, lowest-unique, range-unique}
@@ -64,21 +64,9 @@ module _ {b : List ℕ} (p : List ℕ) (a : Accepted b) {from : ℕ} where
         → p′ ≡ showingLevel p l (attributesShown x)
         → ServesBy ShowLevel 0 p p′ b b (Done handle)
     level-shown {l} x at are e w =
-        stays _ _ a
-        (inr (
-          ((λ none. none l (level-next at .fits)), tt),
-          (
-            refl,
-            record {
-              level = l;
-              attributes = attributesShown x;
-              handle = handleShown x;
-              next-is = level-next at;
-              shown = shown x (are a);
-              leaves = record { handle = e; packet = w; facts = refl };
-            },
-          ),
-        ))
+        let next = level-next at in
+        let said = shown x (are a) in
+        stays _ _ a (inr (((λ none. none l (next .fits)), tt), (refl, search)))
       where
         shown : (x : Holders) → HoldLevel (a .facts) l x → LevelShown (a .facts) l (attributesShown x) (handleShown x)
         shown (holders.Lowest h k) held = held .1
@@ -117,22 +105,12 @@ module _ {b : List ℕ} (p : List ℕ) (a : Accepted b) {from : ℕ} where
       pub range-shown : {p′ : List ℕ} {handle : Handle} (x : Holders) → (TooMany w n → ⊥) → RangeHoldersAre b base n x → handle .0 ≡ handleShown x
           → Written w base n (attributesShown x) p p′
           → ServesBy (ShowRange w) 0 p p′ b b (Done handle)
-      range-shown x few are e wrote =
+      range-shown {p′} x few are e wrote =
+          let next = range-next w is at in
+          let said = shown x (are a (at .range) (at .base-is) (at .count-is)) in
+          let packet : p′ ≡ showingRange w p (at .range) (attributesShown x) = rw (at .base-is, at .count-is) wrote in
           stays _ _ a
-          (inr (
-            (some-next w is at, ((λ y. few (subst (TooMany w) (next-count w is at (y .0) (y .1)) (y .2))), tt)),
-            (
-              refl,
-              record {
-                range = at .range;
-                attributes = attributesShown x;
-                handle = handleShown x;
-                next-is = range-next w is at;
-                shown = shown x (are a (at .range) (at .base-is) (at .count-is));
-                leaves = record { handle = e; packet = rw (at .base-is, at .count-is) wrote; facts = refl };
-              },
-            ),
-          ))
+          (inr ((some-next w is at, ((λ y. few (subst (TooMany w) (next-count w is at (y .0) (y .1)) (y .2))), tt)), (refl, search)))
         where
           shown : (x : Holders) → HoldRange (a .facts) (at .range) x → RangeShown (a .facts) (at .range) (attributesShown x) (handleShown x)
           shown (holders.Lowest h k) held = held .1

@@ -3,7 +3,7 @@ use Rattle.facts.proofs.Words.{_≡_, refl, ap, sym, _∙_, subst, subst₂, _�
 use Rattle.facts.proofs.Words.{add-zero, decLt, arith, length, getD, set, length-set, Ports}
 use Rattle.layout.proofs.Of
 use Rattle.managed_ranges.specs.declared.PortsNamed.the-variants as named
-use Rattle.facts.specs.{Code, BadAttribute, BadBase, InUse, OutOfResource, Facts, Range, byte, withWord, withLong, Within, Managed}
+use Rattle.facts.specs.{Code, BadAttribute, BadBase, InUse, OutOfResource, Facts, Range, byte, withWord, withLong, Within, Has, Managed}
 use Rattle.facts.specs.{Check, _gives_, FirstGiven, rangeChecks, rangeRemoved, withRanges, inserted, JustThat, RangeAnswered, putChecks, takeChecks}
 use Rattle.facts.specs.{allPorts, mostLines, mostRanges, MeetsHeld}
 use Rattle.facts.proofs.{told, meet-symmetric}
@@ -103,14 +103,7 @@ module _ {b : List ℕ} (a : Accepted b) {base n : ℕ} where
       let x =
       meet-answers ports (a .formed .ios (m .seat) (m .range) (m .held) .lines) base n (omega (arith, here, f .base-is, f .count-is))
       (meet-symmetric (whole base n) ports (m .meets)) in
-      record {
-        seat = m .seat;
-        range = m .range;
-        held = m .held;
-        port = x .0;
-        has = omega (arith, x .1, Of.range-base b a i, Of.range-count b a i, f .base-is, f .count-is);
-        answers = x .2;
-      }
+      let has : Has (rangeIn b i) (x .0) = omega (arith, x .1, Of.range-base b a i, Of.range-count b a i, f .base-is, f .count-is) in search
 
   answered-met : (r : Range) → JustThat (a .facts) base n r → RangeAnswered (a .facts) r → MeetsHeld (a .facts) (whole base n)
   answered-met r j x =

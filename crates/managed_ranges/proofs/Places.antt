@@ -90,15 +90,14 @@ module _ {b : List ℕ} {from i : ℕ} (place : PlaceOf b from i) where
   pub next-found : i < rangesIn b → NextRangeIs b from (next.At (rangeBase b i) (rangeCount b i))
   next-found l a =
       let here = Of.range-base b a i in
+      let listed = Of.range-listed b a i l in
+      let fits : from ≤ rangeIn b i .base = omega (arith, place .behind i (omega arith) l) in
       record {
         range = rangeIn b i;
-        listed = Of.range-listed b a i l;
+        listed = listed;
         base-is = here;
         count-is = Of.range-count b a i;
-        lowest = record {
-          fits = (rangeIn b i, Of.range-listed b a i l, refl, omega (arith, place .behind i (omega arith) l));
-          least = least here;
-        };
+        lowest = record { fits = (rangeIn b i, listed, refl, fits); least = least here };
       }
     where
       least : rangeIn b i .base ≡ rangeBase b i → (y : ℕ) → (r : Range) × (r ∈ a .facts .ranges) × (r .base ≡ y) × (from ≤ y) → rangeIn b i .base ≤ y

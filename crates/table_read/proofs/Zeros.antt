@@ -1,5 +1,5 @@
 -- Numbers or-ed together are zero exactly if each of them is, and so are bytes; and a record of a grant is used or zero. Assumes nothing.
-use Rattle.facts.proofs.Words.{_≡_, _∙_, ap, _⊎_, inr, ⊎-elim, _≢_, List, Bool, false, ℕ, _+_, _≤_, _<_, ℕ-discrete, decLt, arith, eq-eqb, ne-eqb}
+use Rattle.facts.proofs.Words.{_≡_, _∙_, ap, _⊎_, inr, ⊎-elim, _≢_, List, Bool, false, ℕ, _+_, _≤_, ℕ-discrete, decLt, arith, eq-eqb, ne-eqb}
 use Rattle.facts.proofs.Words.{bitOr, or-add-and, and-le-l, and-le-r, eqb, Says}
 use Rattle.facts.specs.{byte}
 use Rattle.facts.proofs.{told, says-true, says-false, says-as, says-eq}
