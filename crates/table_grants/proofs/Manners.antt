@@ -38,13 +38,8 @@ module _ (b : List ℕ) (s : ℕ) {level manner : ℕ} (l : level ≡ byte b (ir
       only k o =
           let at = shifted-only apart (level * 4) k (ap (λ (n : ℕ). bit n k) (sym e) ∙ o) in
           let low = bit-below apart 4 (at .0) (a .manners) (at .2) in
-          record {
-            used = u;
-            manner = at .0;
-            last = omega (arith, low);
-            apart = rw m at (number-apart a (at .0) low .0 (at .2));
-            number = ap (λ (n : ℕ). heldAs n (at .0)) (sym l) ∙ at .1;
-          }
+          let other = rw m at (number-apart a (at .0) low .0 (at .2)) in
+          record { used = u; manner = at .0; last = omega (arith, low); apart = other; number = ap (λ (n : ℕ). heldAs n (at .0)) (sym l) ∙ at .1 }
 
 -- the grant at the seat s, held against what those at the seats below it hold
 module _ (b : List ℕ) (s : ℕ) (places : PlacesSound (IrqPlaceSound b) s) where
@@ -54,15 +49,10 @@ module _ (b : List ℕ) (s : ℕ) (places : PlacesSound (IrqPlaceSound b) s) whe
   apart-company : ((k : ℕ) → HeldBelow b s k → Against b s k → ⊥) → CompanySound (IrqPairSound b) s
   unfolding irqIn
   apart-company n t l u u′ same =
+      let other = byte b (irqPlace t + irqMannerAt) in
       told (says-dec _ (rule-says (irqIn b s .manner) (irqIn b t .manner)))
-      (λ d. n (heldAs (byte b (irqPlace t + irqLevelAt)) (byte b (irqPlace t + irqMannerAt))) (t, l, record { used = u′; number = refl })
-      (record {
-        used = u;
-        manner = byte b (irqPlace t + irqMannerAt);
-        last = manner-last t l u′;
-        apart = d;
-        number = ap (λ (x : ℕ). heldAs x (byte b (irqPlace t + irqMannerAt))) same;
-      }))
+      (λ d. n (heldAs (byte b (irqPlace t + irqLevelAt)) other) (t, l, record { used = u′; number = refl })
+      (record { used = u; manner = other; last = manner-last t l u′; apart = d; number = ap (λ (x : ℕ). heldAs x other) same }))
 
   company-apart : CompanySound (IrqPairSound b) s → (k : ℕ) → HeldBelow b s k → Against b s k → ⊥
   unfolding irqIn
