@@ -120,15 +120,12 @@ module _ {e : Code} {rs : List Record} {b b′ : List ℕ} {place : ℕ} where
         (rw (add-zero, one-set b′ (a .facts) (w .here .facts) (a .formed) (w .here .formed) (a .is) (w .here .is)) at r)
 
     pub walked-more : {b″ : List ℕ} {n : ℕ} → BootsRecords xs b′ b″ (All n) → Walked e rs b b″ (place + n) left
-    walked-more {n = n} s =
+    walked-more s =
         let t = s .0 in
+        let formed = boot-stays _ _ _ _ _ (t .accepted .formed) (t .rule) in
         record {
           first = w .first;
-          here = record {
-            facts = t .after;
-            formed = boot-stays Success (t .accepted .facts) xs 0 (stopped n Success (t .after)) (t .accepted .formed) (t .rule);
-            is = t .table;
-          };
+          here = record { facts = t .after; formed = formed; is = t .table };
           goes-on = λ o r. from (t .accepted) o (goes-past left place 0 (t .rule) refl r);
         }
 
@@ -187,22 +184,10 @@ module _ (bytes : List ℕ) {b b′ : List ℕ} {place : ℕ} (at : ℕ)
         ∙ ap (λ (l : List ℕ). next ++ recordsOf l) (drop-drop (n * recordSize) at bytes)) w
 
     pub bytes-more : {b″ : List ℕ} {m : ℕ} → BootsRecords next b′ b″ (All m) → Walked (endOf bytes) (recordsOf bytes) b b″ (place + n) after
-    bytes-more {b″} {m} s = subst (λ (k : ℕ). Walked (endOf bytes) (recordsOf bytes) b b″ (place + k) after) all (walked-more next after ahead s)
-      where
-        all : m ≡ n
-        all =
-            omega (
-              arith,
-              boot-success Success (s .0 .accepted .facts) next 0 (stopped m Success (s .0 .after)) (s .0 .rule) refl .1,
-              records-length n (drop at bytes),
-            )
+    bytes-more {b″} {m} s =
+        let all : m ≡ n = omega (arith, boot-success _ _ _ _ _ (s .0 .rule) refl .1, records-length n (drop at bytes)) in
+        subst (λ (k : ℕ). Walked (endOf bytes) (recordsOf bytes) b b″ (place + k) after) all (walked-more next after ahead s)
 
     pub bytes-stopped : {b″ : List ℕ} {i : ℕ} {k : Code} → BootsRecords next b′ b″ (Stopped i k) → (i ≤ n) × Boots bytes b b″ (Stopped (place + i) k)
-    bytes-stopped {i = i} {k} s = (
-      omega (
-        arith,
-        boot-within Success (s .0 .accepted .facts) next 0 (stopped i k (s .0 .after)) (s .0 .rule),
-        records-length n (drop at bytes),
-      ),
-      walked-stopped next after ahead s,
-    )
+    bytes-stopped s =
+        (omega (arith, boot-within _ _ _ _ _ (s .0 .rule), records-length n (drop at bytes)), walked-stopped next after ahead s)

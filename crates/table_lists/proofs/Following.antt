@@ -17,13 +17,7 @@ pub record Passed (b : List ℕ) (low flaws i : ℕ) : Type 0 where
 
 module _ (b : List ℕ) where
   pub passed-none : Passed b 0 0 0
-  passed-none =
-      record {
-        within = omega arith;
-        last = refl;
-        follow = all-none (λ k. RangeFollows b (endBefore b k) k);
-        marked = flawless-none (RangeMarked b);
-      }
+  passed-none = record { within = omega arith; last = refl; follow = all-none _; marked = flawless-none _ }
 
   module _ (low flaws i : ℕ) (p : Passed b low flaws i) where
     pub passed-more : (next flaw : ℕ) → i < rangesIn b → RangeFollows b low i → Says (eqb flaw 0) (RangeMarked b i)
