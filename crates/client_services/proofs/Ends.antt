@@ -39,29 +39,23 @@ module _ {b p : List ℕ} (a : Accepted b) where
 
     pub register-full : {attributes events : ℕ} → Asks p attributes events → RoomIs b Full → ServedBy (Registers p) b b p OutOfResource 0
     register-full q h =
-        register-refused
-        (inr ((λ d. d l), inr ((λ d. d (q .attributes-allowed)), inr ((λ d. d (q .events-allowed)), inl (full h, refl)))))
-      where
-        full : RoomIs b Full → (mostClients ≤ length (a .facts .clients)) ⊎ (mostIssued ≤ a .facts .issued)
-        full = ⊎-elim (λ m. inl (omega (arith, Of.clients-in b a))) (λ m. inr (omega (arith, Of.issued-in b a)))
+        let full : (mostClients ≤ length (a .facts .clients)) ⊎ (mostIssued ≤ a .facts .issued) =
+        ⊎-elim (λ m. inl (omega (arith, Of.clients-in b a))) (λ m. inr (omega (arith, Of.issued-in b a))) h in
+        register-refused (inr ((λ d. d l), inr ((λ d. d (q .attributes-allowed)), inr ((λ d. d (q .events-allowed)), inl (full, refl)))))
 
     pub register-done : {attributes events n h : ℕ} → Asks p attributes events → NextIs b n h
         → ServedBy (Registers p) b (entered b n h attributes events) p Success h
     register-done q r =
+        let room : length (a .facts .clients) < mostClients = omega (arith, r .room, r .place, Of.clients-in b a) in
+        let unissued : a .facts .issued < mostIssued = omega (arith, r .left, Of.issued-in b a) in
         rw (r .place, Of.clients-in b a, r .handle, Of.issued-in b a, q .attributes-are, q .events-are)
         (becomes _ _ _ a _
-        (inr (((λ d. d l), ((λ d. d (q .attributes-allowed)), ((λ d. d (q .events-allowed)), (no-full, tt)))), (refl, left _ _ _)))
+        (inr (
+          ((λ d. d l), ((λ d. d (q .attributes-allowed)), ((λ d. d (q .events-allowed)), (⊎-elim (omega arith) (omega arith), tt)))),
+          (refl, left _ _ _),
+        ))
         (entered-image (a .facts) b (word p 0) (word p 2) (Of.shows-in b a) room unissued (omega (arith, q .attributes-allowed .bits))
         (omega (arith, q .events-allowed))))
-      where
-        room : length (a .facts .clients) < mostClients
-        room = omega (arith, r .room, r .place, Of.clients-in b a)
-
-        unissued : a .facts .issued < mostIssued
-        unissued = omega (arith, r .left, Of.issued-in b a)
-
-        no-full : (mostClients ≤ length (a .facts .clients)) ⊎ (mostIssued ≤ a .facts .issued) → ⊥
-        no-full = ⊎-elim (λ m. omega (arith, room)) (λ m. omega (arith, unissued))
 
 -- a grant of the client's is some grant
 one-held : {G : Type 0} (client : G → ℕ) (h : ℕ) (o : Option G) → HeldBy client h o → (g : G) × (o ≡ some g) × (client g ≡ h)
