@@ -1,7 +1,23 @@
 -- The records that the bytes of a boot list are, and the code at their end. Assumes nothing.
-use Rattle.facts.proofs.Words.{_≡_, refl, ap, _≢_, List, [], _∷_, Bool, cond, true, false, ℕ, zero, suc, _*_, _/_, _%_, _≤_, _<_}
-use Rattle.facts.proofs.Words.{not-suc-le-zero, arith, eqb, length, take, drop, length-drop, eq-eqb, ne-eqb, eqb-true}
-use Rattle.facts.specs.{Code, Success, BadArgLength, Record, numberOf, recordSize, recordOf, recordsIn, recordsOf, endOf}
+use Rattle.facts.proofs.Words.{_≡_, Bool, true, false, refl, ap, sym, _∙_, ℕ-discrete, _≢_, List, [], _∷_, cond, ℕ, zero, suc, _*_, _/_, _%_}
+use Rattle.facts.proofs.Words.{_≤_, _<_, not-suc-le-zero, arith, eqb, length, take, drop, length-drop, eq-eqb, ne-eqb}
+use Rattle.facts.specs.{Facts, Check, addRangeChecks, addLevelChecks, rangeAdded, levelAdded, ioRange, mostLines, Code, Success, BadArgLength}
+use Rattle.facts.specs.{Record, numberOf, recordSize, recordOf, recordsIn, recordsOf, endOf}
+use Rattle.facts.proofs.Told.{told}
+
+-- a record is a range or a level: its checks, and what is added where they pass
+module _ (P : List Check → Facts → Type 0) (F : Facts) (r : Record) where
+  abbrev AddsAs : Bool → Type 0
+  AddsAs io =
+      P (cond io (addRangeChecks F (r .base) (r .count) (r .attributes) mostLines) (addLevelChecks F (r .base) (r .attributes)))
+      (cond io (rangeAdded F (r .base) (r .count) (r .attributes)) (levelAdded F (r .base) (r .attributes)))
+
+  pub by-resource : AddsAs true → AddsAs false → AddsAs (eqb (r .resource) ioRange)
+  by-resource range level = either-way (eqb (r .resource) ioRange)
+    where
+      either-way : (io : Bool) → AddsAs io
+      either-way true = range
+      either-way false = level
 
 pub records-length : (n : ℕ) (b : List ℕ) → length (recordsIn n b) ≡ n
 records-length zero b = refl
@@ -50,8 +66,4 @@ module _ (b : List ℕ) where
       same = omega (arith, length-drop recordSize b)
 
   pub whole-end : endOf b ≡ Success → length b % recordSize ≡ 0
-  whole-end = marked-or-not (eqb (length b % recordSize) 0) (eqb-true (length b % recordSize) 0)
-    where
-      marked-or-not : (none : Bool) → (none ≡ true → length b % recordSize ≡ 0) → codeAfter none ≡ Success → length b % recordSize ≡ 0
-      marked-or-not true is e = is refl
-      marked-or-not false is e = absurd (omega (arith, ap numberOf e))
+  whole-end e = told (ℕ-discrete (length b % recordSize) 0) (λ d. omega (arith, ap numberOf (sym (end-broken d) ∙ e)))

@@ -1,16 +1,16 @@
 -- Two searches for the lowest, one among the early ones and one among all, find the first; and a count has one smallest power of two.
 -- Assumes nothing.
-use Rattle.facts.proofs.Words.{_≡_, inl, inr, ℕ, arith}
-use Rattle.facts.specs.{Before, Chosen, Lowest, SmallestPower}
+use Rattle.facts.proofs.Words.{_≡_, by-cases, inl, inr, ℕ, arith}
+use Rattle.facts.specs.{Chosen, Lowest, SmallestPower}
 
 module _ {Fit Early : ℕ → Type 0} {x : ℕ} where
   -- the lowest of the early ones comes first
   pub chosen-first : ((y : ℕ) → Fit y → Dec (Early y)) → Lowest (λ y. Fit y × Early y) x → Chosen Fit Early x
-  chosen-first decided low = record { fits = low .fits .0; first = λ y f. so-or-not y f (decided y f) }
-    where
-      so-or-not : (y : ℕ) → Fit y → Dec (Early y) → Before Early x y
-      so-or-not y f (yes e) = inr (((λ _. e), (λ _. low .fits .1)), low .least y (f, e))
-      so-or-not y f (no n) = inl (low .fits .1, n)
+  chosen-first decided low =
+      record {
+        fits = low .fits .0;
+        first = λ y f. by-cases (decided y f) (λ e. inr (((λ _. e), (λ _. low .fits .1)), low .least y (f, e))) (λ n. inl (low .fits .1, n));
+      }
 
   -- where none is early, the lowest of all does
   pub chosen-then : ((y : ℕ) → Fit y → Early y → ⊥) → Lowest Fit x → Chosen Fit Early x

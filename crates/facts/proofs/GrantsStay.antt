@@ -1,15 +1,15 @@
 -- RequestIRQ, ReleaseIRQ, RequestIO and ReleaseIO leave a well-formed set well formed. Assumes nothing.
 use Rattle.facts.proofs.Words.{_≡_, sym, subst, inl, inr, ⊎-elim, List, none, some, Option·some-injective, Option·none-ne-some, ℕ, _^_, _≤_}
-use Rattle.facts.proofs.Words.{ℕ-discrete, decLe, arith, eq-eqb, WellFormed}
-use Rattle.facts.specs.{Facts, IoGrant, IrqGrant, bit, Bytes, Meet, AllManaged, AnswersManaged, IoFits, IrqFits, IoCompany, IrqCompany}
-use Rattle.facts.specs.{Together, Holds, Outcome, Passed, socketOf, requestChecks, RequestIrq, ReleaseIrq, GrantsIrq, ownIrqChecks}
-use Rattle.facts.specs.{levelChecks, irqGrant, mannerAsked, requestIrqLength, RequestIo, ReleaseIo, GrantsIo, BaseTaken, ownIoChecks}
-use Rattle.facts.specs.{baseChecks, ioGrant, portsAt, requestIoLength, countAsked, linesAsked, ioAttributes, mostLines, ioAsked, irqAsked}
-use Rattle.facts.specs.{Seat, HeldPorts, Held}
+use Rattle.facts.proofs.Words.{decLe, arith, WellFormed}
+use Rattle.facts.specs.{irqReleaseChecks, ioReleaseChecks, Facts, IoGrant, IrqGrant, Bytes, Meet, AllManaged, AnswersManaged, IoFits, IrqFits}
+use Rattle.facts.specs.{IoCompany, IrqCompany, Together, Holds, Outcome, Passed, socketOf, requestChecks, RequestIrq, ReleaseIrq, GrantsIrq}
+use Rattle.facts.specs.{ownIrqChecks, levelChecks, irqGrant, mannerAsked, requestIrqLength, RequestIo, ReleaseIo, GrantsIo, BaseTaken}
+use Rattle.facts.specs.{ownIoChecks, baseChecks, ioGrant, portsAt, requestIoLength, countAsked, linesAsked, mostLines, ioAsked, irqAsked, Seat}
+use Rattle.facts.specs.{HeldPorts, Held}
 use Rattle.facts.proofs.Company.{together-symmetric}
 use Rattle.facts.proofs.Joining.{joined-together}
 use Rattle.facts.proofs.Told.{told, both-told, true-told, managed-told}
-use Rattle.facts.proofs.Formed.{io-formed, irq-formed}
+use Rattle.facts.proofs.Formed.{io-formed, irq-formed, leaves-stays}
 use Rattle.facts.proofs.ClientsStay.{live-passed, socket-passed, request-passed}
 
 module _ (F : Facts) (h : ℕ) (p : List ℕ) (o : Outcome) (w : WellFormed F) where
@@ -47,10 +47,9 @@ module _ (F : Facts) (h : ℕ) (p : List ℕ) (o : Outcome) (w : WellFormed F) w
       company t g e q = together-symmetric (g .manner) (mannerAsked p) (together t g (record { live = e; at = sym q }))
 
   pub release-irq-stays : ReleaseIrq F h p o → WellFormed (o .facts)
-  release-irq-stays (inl r) = subst WellFormed (sym (r .1 .facts)) w
-  release-irq-stays (inr r) =
-      subst WellFormed (sym (r .1 .1 .facts))
-      (irq-formed F w (socketOf p) none (λ g e. absurd (Option·none-ne-some g e)) (λ t g g′ d e. absurd (Option·none-ne-some g e)))
+  release-irq-stays =
+      leaves-stays w (irqReleaseChecks F h p)
+      (λ _. irq-formed F w (socketOf p) none (λ g e. absurd (Option·none-ne-some g e)) (λ t g g′ d e. absurd (Option·none-ne-some g e)))
 
   pub request-io-stays : Bytes p → RequestIo F h p o → WellFormed (o .facts)
   request-io-stays bytes (inl r) = subst WellFormed (sym (r .1 .facts)) w
@@ -122,7 +121,6 @@ module _ (F : Facts) (h : ℕ) (p : List ℕ) (o : Outcome) (w : WellFormed F) w
       company (inr chosen) t g e m = absurd (chosen .1 .fits .meets-none t g e m)
 
   pub release-io-stays : ReleaseIo F h p o → WellFormed (o .facts)
-  release-io-stays (inl r) = subst WellFormed (sym (r .1 .facts)) w
-  release-io-stays (inr r) =
-      subst WellFormed (sym (r .1 .1 .facts))
-      (io-formed F w (socketOf p) none (λ g e. absurd (Option·none-ne-some g e)) (λ t g g′ d e. absurd (Option·none-ne-some g e)))
+  release-io-stays =
+      leaves-stays w (ioReleaseChecks F h p)
+      (λ _. io-formed F w (socketOf p) none (λ g e. absurd (Option·none-ne-some g e)) (λ t g g′ d e. absurd (Option·none-ne-some g e)))

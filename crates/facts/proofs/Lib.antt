@@ -24,7 +24,7 @@ pub mod Laws
 pub use Says.{says-true, says-false, says-lt, says-eq, says-eqb, says-as, says-yes, says-no, says-not, says-false-by, says-dec}
 pub use Sets.{put-same, put-other, put-is, in-left, in-right, in-either, in-map, map-in, length-map, by-number, without-in, in-without, rising-over}
 pub use Sets.{rising-more, rising-left-out, apart-port, apart-left-out}
-pub use Bits.{one-bit, one-only, shifted-bit, shifted-only, bit-below, masked-named, named-masked, one-named, named-one}
+pub use Bits.{one-bit, one-only, shifted-bit, shifted-only, bit-below, one-named, named-one}
 pub use Codes.{code-byte, code-injective, packs-success, packs-code}
 pub use Choices.{chosen-first, chosen-then, smallest-power-unique}
 pub use Company.{meet-symmetric, together-symmetric}

@@ -1,11 +1,12 @@
 -- How far a boot list comes: each record that is added is a level or a range more, and a table has no more than so many. Assumes nothing.
-use Rattle.facts.proofs.Words.{_≡_, refl, ap, _∙_, _≢_, List, [], _∷_, Bool, cond, true, false, ℕ, zero, suc, _+_, _≤_, _<_, not-suc-le-zero}
-use Rattle.facts.proofs.Words.{decLt, ℕ-discrete, arith, eqb, length, WellFormed}
-use Rattle.facts.specs.{Code, Record, Facts, Level, put, Passed, addLevelChecks, addRangeChecks, levelAdded, rangeAdded, ioRange, reserveBit}
-use Rattle.facts.specs.{Booted, ended, refused, added, recordAdded, recordChecks, allLevels, mostLines, mostRanges}
+use Rattle.facts.proofs.Words.{_≡_, by-cases, refl, ap, _∙_, _≢_, List, [], _∷_, Bool, true, false, ℕ, zero, suc, _+_, _≤_, _<_}
+use Rattle.facts.proofs.Words.{not-suc-le-zero, decLt, ℕ-discrete, arith, eqb, length, WellFormed}
+use Rattle.facts.specs.{Code, Record, Facts, Level, put, Passed, reserveBit, Booted, ended, refused, added, recordAdded, recordChecks}
+use Rattle.facts.specs.{allLevels, mostRanges}
 use Rattle.facts.specs.Boot.{Boot}
 use Rattle.facts.proofs.Sets.{put-same, put-other}
 use Rattle.facts.proofs.Told.{told}
+use Rattle.facts.proofs.Boot.{by-resource}
 use Rattle.facts.proofs.ResourcesStay.{inserted-more, boot-stays}
 
 -- one for a managed level, and how many of the first n are
@@ -43,19 +44,12 @@ module _ (level : ℕ → Level) (l : ℕ) (v : Level) (now : v .managed ≡ tru
   levels-more : (n : ℕ) → l < n → levelsBelow n (put level l v) ≡ levelsBelow n level + 1
   unfolding levelsBelow
   levels-more zero h = absurd (not-suc-le-zero h)
-  levels-more (suc n) h = same-or-not (ℕ-discrete n l) (levels-more n)
-    where
-      same-or-not : Dec (n ≡ l) → (l < n → levelsBelow n (put level l v) ≡ levelsBelow n level + 1)
-          → levelsBelow n (put level l v) + one (put level l v n .managed) ≡ levelsBelow n level + one (level n .managed) + 1
-      same-or-not (yes e) ih =
-          omega (
-            arith,
-            levels-same n (omega arith),
-            ap (λ (k : ℕ). one (put level l v k .managed)) e ∙ ap (λ (x : Level). one (x .managed)) (put-same level l v) ∙ ap one now,
-            ap (λ (k : ℕ). one (level k .managed)) e ∙ unmanaged,
-          )
-      same-or-not (no d) ih =
-          omega (arith, ih (omega (arith, d)), ap (λ (x : Level). one (x .managed)) (put-other level l v n d))
+  levels-more (suc n) h =
+      by-cases (ℕ-discrete n l)
+      (λ e. let now-one = ap (λ (k : ℕ). one (put level l v k .managed)) e ∙ ap (λ (x : Level). one (x .managed)) (put-same level l v) ∙ ap one now in
+      let none-before = ap (λ (k : ℕ). one (level k .managed)) e ∙ unmanaged in
+      omega (arith, levels-same n (omega arith), now-one, none-before))
+      (λ d. omega (arith, levels-more n (omega (arith, d)), ap (λ (x : Level). one (x .managed)) (put-other level l v n d)))
 
 -- the levels and ranges that are managed
 abbrev managedIn : Facts → ℕ
@@ -63,19 +57,13 @@ managedIn F = levelsBelow allLevels (F .level) + length (F .ranges)
 
 -- a record that is added is one more
 one-more : (F : Facts) (r : Record) → Passed (recordChecks F r) → managedIn (recordAdded F r) ≡ managedIn F + 1
-one-more F r passed = marked-or-not (eqb (r .resource) ioRange) (passed .1 .1)
-  where
-    marked-or-not : (io : Bool)
-        → Passed (cond io (addRangeChecks F (r .base) (r .count) (r .attributes) mostLines) (addLevelChecks F (r .base) (r .attributes)))
-        → managedIn (cond io (rangeAdded F (r .base) (r .count) (r .attributes)) (levelAdded F (r .base) (r .attributes))) ≡ managedIn F + 1
-    marked-or-not true p =
-        omega (arith, inserted-more (record { base = r .base; count = r .count; reserved = eqb (r .attributes) reserveBit }) (F .ranges))
-    marked-or-not false p =
-        omega (
-          arith,
-          levels-more (F .level) (r .base) (record { managed = true; reserved = eqb (r .attributes) reserveBit }) refl (p .1 .1 .0) allLevels
-              (told (decLt (r .base) allLevels) (λ d. p .1 .0 (omega arith))),
-        )
+one-more F r passed =
+    by-resource (λ cs G. Passed cs → managedIn G ≡ managedIn F + 1) F r
+    (λ p. omega (arith, inserted-more (record { base = r .base; count = r .count; reserved = eqb (r .attributes) reserveBit }) (F .ranges)))
+    (λ p. let low = told (decLt (r .base) allLevels) (λ d. p .1 .0 (omega arith)) in
+    let level : Level = record { managed = true; reserved = eqb (r .attributes) reserveBit } in
+    omega (arith, levels-more (F .level) (r .base) level refl (p .1 .1 .0) allLevels low))
+    (passed .1 .1)
 
 module _ (e : Code) where
   boot-managed : (F : Facts) (rs : List Record) (i : ℕ) (o : Booted) → Boot e F rs i o → o .place + managedIn F ≡ i + managedIn (o .facts)

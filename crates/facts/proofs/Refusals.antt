@@ -1,17 +1,17 @@
 -- The refusal law: a permitted outcome whose code isn't Success answers 0 and keeps the packet and the facts; and no check gives Success. Assumes
 -- nothing.
-use Rattle.facts.proofs.Words.{_≡_, refl, sym, _∙_, _⊎_, _≢_, _↔_, inl, inr, List, [], _∷_, Bool, true, false, cond, ℕ, zero, suc, _+_, _≤_}
-use Rattle.facts.proofs.Words.{arith, length, take, T, eqb}
-use Rattle.facts.specs.{Code, Success, numberOf, Width, Record, Facts, Check, Outcome, FirstGiven, Passed, RuledThen, Ruled, Rule}
-use Rattle.facts.specs.{RefusalKeeps, registerChecks, deregisterChecks, CardTo, CardOutcome, requestMaskChecks, releaseMaskChecks, ByAction}
-use Rattle.facts.specs.{AdjustIrq, AdjustIo, AddLevel, RemoveLevel, ShowLevel, AddRange, RemoveRange, ShowRange, actionOf, ioRange, levelGiven}
-use Rattle.facts.specs.{levelAttributes, baseGiven, countGiven, attributesGiven, linesGiven, adjustChecks, addLevelChecks, removeLevelChecks}
-use Rattle.facts.specs.{showLevelChecks, addRangeChecks, removeRangeChecks, showRangeChecks, Sharers, Count, irqRequestChecks}
-use Rattle.facts.specs.{irqReleaseChecks, ioRequestChecks, ioReleaseChecks, Booted, ended, refused, added, recordChecks, recordsAdded}
-use Rattle.facts.specs.{recordAdded, Service, registerClient, deregisterClient, adjustResourceInfo, requestIrq, releaseIrq, requestIo}
-use Rattle.facts.specs.{releaseIo, requestSocketMask, releaseSocketMask, ruleOf, Call, mostLines}
+use Rattle.facts.proofs.Words.{_≡_, refl, sym, _∙_, _⊎_, _≢_, inl, inr, List, [], _∷_, Bool, true, false, cond, ℕ, zero, suc, _+_, _≤_, arith}
+use Rattle.facts.proofs.Words.{length, take, T, eqb}
+use Rattle.facts.specs.{Code, Success, numberOf, Width, Record, Facts, Check, Outcome, FirstGiven, Passed, RuledThen, Ruled, Rule, RefusalKeeps}
+use Rattle.facts.specs.{registerChecks, deregisterChecks, CardTo, CardOutcome, requestMaskChecks, releaseMaskChecks, ByAction, AdjustIrq}
+use Rattle.facts.specs.{AdjustIo, AddLevel, RemoveLevel, ShowLevel, AddRange, RemoveRange, ShowRange, actionOf, levelGiven, levelAttributes}
+use Rattle.facts.specs.{baseGiven, countGiven, attributesGiven, linesGiven, adjustChecks, addLevelChecks, removeLevelChecks, showLevelChecks}
+use Rattle.facts.specs.{addRangeChecks, removeRangeChecks, showRangeChecks, Sharers, Count, irqRequestChecks, irqReleaseChecks, ioRequestChecks}
+use Rattle.facts.specs.{ioReleaseChecks, Booted, ended, refused, added, recordChecks, recordsAdded, recordAdded, Service, registerClient}
+use Rattle.facts.specs.{deregisterClient, adjustResourceInfo, requestIrq, releaseIrq, requestIo, releaseIo, requestSocketMask}
+use Rattle.facts.specs.{releaseSocketMask, ruleOf, Call}
 use Rattle.facts.specs.Boot.{Boot}
-use Rattle.facts.proofs.Unique.{first-not-passed}
+use Rattle.facts.proofs.Boot.{by-resource}
 
 module _ {F : Facts} {p : List ℕ} where
   pub ruled-then-keeps : (cs : List Check) {rest : Outcome → Type 0} → RefusalKeeps F p rest → RefusalKeeps F p (RuledThen cs rest F p)
@@ -97,17 +97,8 @@ module _ (cs : List Check) (n : NoSuccess cs) {F : Facts} {p : List ℕ} (D : Ou
   ruled-then-success (inl r) e = absurd (first-not-success cs (o .code) n (r .0) e)
   ruled-then-success (inr r) e = r
 
-  pub ruled-success : Ruled cs D F p o → (o .code ≡ Success) ↔ Passed cs
-  ruled-success (inl r) = (λ e. absurd (first-not-success cs (o .code) n (r .0) e), λ passed. absurd (first-not-passed cs (o .code) (r .0) passed))
-  ruled-success (inr r) = (λ e. r .0, λ passed. r .1 .0)
-
 pub record-no-success : (F : Facts) (r : Record) → NoSuccess (recordChecks F r)
-record-no-success F r = none-succeeds (recordChecks F r) (marked-or-not (eqb (r .resource) ioRange))
-  where
-    marked-or-not : (io : Bool)
-        → T (noSuccess (cond io (addRangeChecks F (r .base) (r .count) (r .attributes) mostLines) (addLevelChecks F (r .base) (r .attributes))))
-    marked-or-not true = tt
-    marked-or-not false = tt
+record-no-success F r = none-succeeds (recordChecks F r) (by-resource (λ cs G. T (noSuccess cs)) F r tt tt)
 
 -- the boot list, whose first record stands in the place i
 module _ (e : Code) where

@@ -1,16 +1,17 @@
 -- AdjustResourceInfo and the boot list leave a well-formed set well formed. Assumes nothing.
-use Rattle.facts.proofs.Words.{_≡_, refl, ap, sym, _∙_, subst, _⊎_, inl, inr, ⊎-elim, _≢_, List, [], _∷_, Bool, cond, true, false, some, ℕ}
-use Rattle.facts.proofs.Words.{suc, _+_, _≤_, _<_, decLe, decLt, arith, eqb, ltb, length, ltb-true, ltb-false, WellFormed}
-use Rattle.facts.specs.{Code, Width, Record, Facts, Range, IoGrant, _∈_, Has, Managed, Answers, Apart, Outcome, Passed, AdjustResourceInfo}
-use Rattle.facts.specs.{AdjustIrq, AdjustIo, inserted, withoutRange, ioRange, addLevelChecks, removeLevelChecks, addRangeChecks}
-use Rattle.facts.specs.{removeRangeChecks, levelAdded, levelRemoved, rangeAdded, rangeRemoved, reserveBit, levelGiven, levelAttributes}
-use Rattle.facts.specs.{baseGiven, countGiven, attributesGiven, linesGiven, Booted, ended, refused, added, recordAdded, recordChecks}
-use Rattle.facts.specs.{allLevels, allPorts, mostLines, mostRanges, Seat, HeldPorts, Held}
+use Rattle.facts.proofs.Words.{_≡_, refl, ap, sym, _∙_, subst, subst⁻¹, _⊎_, inl, inr, ⊎-elim, _≢_, List, [], _∷_, ℕ, suc, _+_, _≤_, _<_}
+use Rattle.facts.proofs.Words.{decLe, decLt, arith, eqb, ltb, length, ltb-true, ltb-false, WellFormed}
+use Rattle.facts.specs.{actionOf, showLevelChecks, showRangeChecks, Code, Width, Record, Facts, Range, _∈_, Has, Managed, Answers, Apart}
+use Rattle.facts.specs.{Outcome, Passed, AdjustResourceInfo, AdjustIrq, AdjustIo, inserted, withoutRange, addLevelChecks, removeLevelChecks}
+use Rattle.facts.specs.{addRangeChecks, removeRangeChecks, levelAdded, levelRemoved, rangeAdded, rangeRemoved, reserveBit, levelGiven}
+use Rattle.facts.specs.{levelAttributes, baseGiven, countGiven, attributesGiven, linesGiven, Booted, ended, refused, added, recordAdded}
+use Rattle.facts.specs.{recordChecks, allLevels, allPorts, mostLines, mostRanges, Seat, HeldPorts, Held}
 use Rattle.facts.specs.Boot.{Boot}
-use Rattle.facts.proofs.Sets.{without-in, in-without, without-fewer, apart-without}
+use Rattle.facts.proofs.Sets.{cond-cases, without-in, in-without, without-fewer, apart-without}
 use Rattle.facts.proofs.Unique.{range-unique}
 use Rattle.facts.proofs.Told.{told}
-use Rattle.facts.proofs.Formed.{managed-in, level-formed, ranges-formed}
+use Rattle.facts.proofs.Boot.{by-resource}
+use Rattle.facts.proofs.Formed.{managed-in, level-formed, ranges-formed, ruled-stays, leaves-stays}
 
 -- levels
 module _ (F : Facts) (w : WellFormed F) (l attributes : ℕ) where
@@ -27,11 +28,9 @@ module _ (F : Facts) (w : WellFormed F) (l attributes : ℕ) where
 pub inserted-cases : (P : List Range → Type 0) (r x : Range) (xs : List Range) → (r .base < x .base → P (r ∷ x ∷ xs))
     → (x .base ≤ r .base → P (x ∷ inserted r xs))
     → P (inserted r (x ∷ xs))
-inserted-cases P r x xs before after = marked-or-not (ltb (r .base) (x .base)) (ltb-true (r .base) (x .base)) (ltb-false (r .base) (x .base))
-  where
-    marked-or-not : (t : Bool) → (t ≡ true → r .base < x .base) → (t ≡ false → x .base ≤ r .base) → P (cond t (r ∷ x ∷ xs) (x ∷ inserted r xs))
-    marked-or-not true f g = before (f refl)
-    marked-or-not false f g = after (g refl)
+inserted-cases P r x xs before after =
+    cond-cases P (ltb (r .base) (x .base)) (r ∷ x ∷ xs) (x ∷ inserted r xs) (λ e. before (ltb-true (r .base) (x .base) e))
+    (λ e. after (ltb-false (r .base) (x .base) e))
 
 pub inserted-more : (r : Range) (xs : List Range) → length (inserted r xs) ≡ suc (length xs)
 inserted-more r [] = refl
@@ -131,24 +130,22 @@ module _ (F : Facts) (w : WellFormed F) (base count attributes lines : ℕ) wher
 
 module _ (F : Facts) (h : ℕ) (p : List ℕ) (o : Outcome) (w : WellFormed F) where
   adjust-irq-stays : AdjustIrq F h p o → WellFormed (o .facts)
-  adjust-irq-stays (inl (e, inl r)) = subst WellFormed (sym (r .1 .facts)) w
-  adjust-irq-stays (inl (e, inr r)) = subst WellFormed (sym (r .1 .1 .facts)) (level-added-formed F w (levelGiven p) (levelAttributes p) (r .0))
-  adjust-irq-stays (inr (inl (e, inl r))) = subst WellFormed (sym (r .1 .facts)) w
-  adjust-irq-stays (inr (inl (e, inr r))) =
-      subst WellFormed (sym (r .1 .1 .facts)) (level-removed-formed F w (levelGiven p) (levelAttributes p) (r .0))
-  adjust-irq-stays (inr (inr (e, inl r))) = subst WellFormed (sym (r .1 .facts)) w
-  adjust-irq-stays (inr (inr (e, inr r))) = subst WellFormed (sym (r .1 .1 .leaves .facts)) w
+  adjust-irq-stays =
+      let l = levelGiven p in
+      let attributes = levelAttributes p in
+      ⊎-elim (λ r. leaves-stays w (addLevelChecks F l attributes) (level-added-formed F w l attributes) (r .1))
+      (⊎-elim (λ r. leaves-stays w (removeLevelChecks F l attributes) (level-removed-formed F w l attributes) (r .1))
+      (λ r. ruled-stays w (showLevelChecks F (actionOf p) l) (λ _ d. subst⁻¹ WellFormed (d .leaves .facts) w) (r .1)))
 
   adjust-io-stays : (v : Width) → AdjustIo v F h p o → WellFormed (o .facts)
-  adjust-io-stays v (inl (e, inl r)) = subst WellFormed (sym (r .1 .facts)) w
-  adjust-io-stays v (inl (e, inr r)) =
-      subst WellFormed (sym (r .1 .1 .facts)) (range-added-formed F w (baseGiven v p) (countGiven v p) (attributesGiven v p) (linesGiven v p) (r .0))
-  adjust-io-stays v (inr (inl (e, inl r))) = subst WellFormed (sym (r .1 .facts)) w
-  adjust-io-stays v (inr (inl (e, inr r))) =
-      subst WellFormed (sym (r .1 .1 .facts)) (range-removed-formed F w (baseGiven v p) (countGiven v p) (attributesGiven v p) (linesGiven v p)
-      (r .0))
-  adjust-io-stays v (inr (inr (e, inl r))) = subst WellFormed (sym (r .1 .facts)) w
-  adjust-io-stays v (inr (inr (e, inr r))) = subst WellFormed (sym (r .1 .1 .leaves .facts)) w
+  adjust-io-stays v =
+      let base = baseGiven v p in
+      let count = countGiven v p in
+      let attributes = attributesGiven v p in
+      let lines = linesGiven v p in
+      ⊎-elim (λ r. leaves-stays w (addRangeChecks F base count attributes lines) (range-added-formed F w base count attributes lines) (r .1))
+      (⊎-elim (λ r. leaves-stays w (removeRangeChecks F base count attributes lines) (range-removed-formed F w base count attributes lines) (r .1))
+      (λ r. ruled-stays w (showRangeChecks v F (actionOf p) base) (λ _ d. subst⁻¹ WellFormed (d .leaves .facts) w) (r .1)))
 
   pub adjust-stays : AdjustResourceInfo F h p o → WellFormed (o .facts)
   adjust-stays (inl r) = subst WellFormed (sym (r .1 .facts)) w
@@ -157,13 +154,9 @@ module _ (F : Facts) (h : ℕ) (p : List ℕ) (o : Outcome) (w : WellFormed F) w
 
 -- the boot list
 pub record-added-formed : (F : Facts) (r : Record) → WellFormed F → Passed (recordChecks F r) → WellFormed (recordAdded F r)
-record-added-formed F r w passed = marked-or-not (eqb (r .resource) ioRange) (passed .1 .1)
-  where
-    marked-or-not : (io : Bool)
-        → Passed (cond io (addRangeChecks F (r .base) (r .count) (r .attributes) mostLines) (addLevelChecks F (r .base) (r .attributes)))
-        → WellFormed (cond io (rangeAdded F (r .base) (r .count) (r .attributes)) (levelAdded F (r .base) (r .attributes)))
-    marked-or-not true passed = range-added-formed F w (r .base) (r .count) (r .attributes) mostLines passed
-    marked-or-not false passed = level-added-formed F w (r .base) (r .attributes) passed
+record-added-formed F r w passed =
+    by-resource (λ cs G. Passed cs → WellFormed G) F r (range-added-formed F w (r .base) (r .count) (r .attributes) mostLines)
+    (level-added-formed F w (r .base) (r .attributes)) (passed .1 .1)
 
 module _ (e : Code) where
   pub boot-stays : (F : Facts) (rs : List Record) (i : ℕ) (o : Booted) → WellFormed F → Boot e F rs i o → WellFormed (o .facts)

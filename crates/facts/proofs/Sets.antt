@@ -1,7 +1,13 @@
 -- Laws of listed facts and of a fact put in its place. Assumes nothing.
-use Rattle.facts.proofs.Words.{_≡_, refl, ap, sym, _∙_, subst, _⊎_, inl, inr, ⊎-elim, _≢_, List, [], _∷_, _++_, map, Bool, true, false, cond}
-use Rattle.facts.proofs.Words.{Option, some, ℕ, suc, _+_, _≤_, _<_, ℕ-discrete, arith, length, eqb, eq-eqb, ne-eqb, eqb-true, eqb-false}
+use Rattle.facts.proofs.Words.{_≡_, refl, ap, sym, _∙_, subst, subst⁻¹, by-cases, _⊎_, inl, inr, ⊎-elim, _≢_, List, [], _∷_, _++_, map, Bool}
+use Rattle.facts.proofs.Words.{true, false, cond, Option, some, ℕ, suc, _+_, _≤_, _<_, ℕ-discrete, arith, length, eqb, eq-eqb, ne-eqb}
+use Rattle.facts.proofs.Words.{eqb-true, eqb-false}
 use Rattle.facts.specs.{Client, Range, _∈_, put, without, Rising, Apart}
+
+-- what holds in both cases of a test
+pub cond-cases : {A : Type 0} (P : A → Type 0) (t : Bool) (x y : A) → (t ≡ true → P x) → (t ≡ false → P y) → P (cond t x y)
+cond-cases P true x y f g = f refl
+cond-cases P false x y f g = g refl
 
 module _ {A : Type 0} where
   -- what is put in its place, and what stays
@@ -11,21 +17,15 @@ module _ {A : Type 0} where
   pub put-other : (f : ℕ → A) (k : ℕ) (x : A) (j : ℕ) → j ≢ k → put f k x j ≡ f j
   put-other f k x j d = ap (λ (t : Bool). cond t x (f j)) (ne-eqb j k d)
 
-  -- what stands at a place was put there, or stood there
-  pub put-is : (f : ℕ → A) (k : ℕ) (x : A) (j : ℕ) → ((j ≡ k) × (put f k x j ≡ x)) ⊎ ((j ≢ k) × (put f k x j ≡ f j))
-  put-is f k x j = same-or-not (ℕ-discrete j k)
-    where
-      same-or-not : Dec (j ≡ k) → ((j ≡ k) × (put f k x j ≡ x)) ⊎ ((j ≢ k) × (put f k x j ≡ f j))
-      same-or-not (yes e) = inl (e, ap (put f k x) e ∙ put-same f k x)
-      same-or-not (no d) = inr (d, put-other f k x j d)
-
-  -- so what holds of all that stood, and of what is put, holds of all that stands
+  -- what holds of all that stood, and of what is put, holds of all that stands
   pub put-all : (P : ℕ → A → Type 0) (f : ℕ → A) (k : ℕ) (x : A) → P k x → ((j : ℕ) → j ≢ k → P j (f j)) → (j : ℕ) → P j (put f k x j)
-  put-all P f k x there others j = either-way (put-is f k x j)
-    where
-      either-way : ((j ≡ k) × (put f k x j ≡ x)) ⊎ ((j ≢ k) × (put f k x j ≡ f j)) → P j (put f k x j)
-      either-way (inl e) = subst (P j) (sym (e .1)) (subst (λ (i : ℕ). P i x) (sym (e .0)) there)
-      either-way (inr e) = subst (P j) (sym (e .1)) (others j (e .0))
+  put-all P f k x there others j =
+      by-cases (ℕ-discrete j k) (λ e. subst⁻¹ (λ (i : ℕ). P i (put f k x i)) e (subst⁻¹ (P k) (put-same f k x) there))
+      (λ d. subst⁻¹ (P j) (put-other f k x j d) (others j d))
+
+  -- so it was put there, or stood there
+  pub put-is : (f : ℕ → A) (k : ℕ) (x : A) (j : ℕ) → ((j ≡ k) × (put f k x j ≡ x)) ⊎ ((j ≢ k) × (put f k x j ≡ f j))
+  put-is f k x = put-all (λ (j : ℕ) (y : A). ((j ≡ k) × (y ≡ x)) ⊎ ((j ≢ k) × (y ≡ f j))) f k x (inl (refl, refl)) (λ j d. inr (d, refl))
 
 -- two that stand at different places keep company, if those that stood did and what is put does with them
 pub put-pairs : {A : Type 0} (C : A → A → Type 0) → ((a b : A) → C a b → C b a) → (f : ℕ → Option A) (k : ℕ) (x : Option A)
@@ -57,11 +57,7 @@ module _ {A : Type 0} where
   pub in-either : (x : A) (s t : List A) → x ∈ (s ++ t) → (x ∈ s) ⊎ (x ∈ t)
   in-either x [] t m = inr m
   in-either x (y ∷ s) t (inl e) = inl (inl e)
-  in-either x (y ∷ s) t (inr m) = either-way (in-either x s t m)
-    where
-      either-way : (x ∈ s) ⊎ (x ∈ t) → (x ∈ (y ∷ s)) ⊎ (x ∈ t)
-      either-way (inl n) = inl (inr n)
-      either-way (inr n) = inr n
+  in-either x (y ∷ s) t (inr m) = ⊎-elim (λ n. inl (inr n)) inr (in-either x s t m)
 
   -- a member of a list, each of which f changes
   pub in-map : (f : A → A) (x : A) (s : List A) → x ∈ s → f x ∈ map f s
@@ -88,11 +84,8 @@ module _ {A : Type 0} where
     -- its two cases
     pub by-number : (P : List A → Type 0) (y : A) (s : List A) → (number y ≡ n → P s) → (number y ≢ n → P (y ∷ without number n s))
         → P (without number n (y ∷ s))
-    by-number P y s here there = marked-or-not (eqb (number y) n) (eqb-true (number y) n) (eqb-false (number y) n)
-      where
-        marked-or-not : (t : Bool) → (t ≡ true → number y ≡ n) → (t ≡ false → number y ≡ n → ⊥) → P (cond t s (y ∷ without number n s))
-        marked-or-not true e f = here (e refl)
-        marked-or-not false e f = there (f refl)
+    by-number P y s here there =
+        cond-cases P (eqb (number y) n) s (y ∷ without number n s) (λ e. here (eqb-true (number y) n e)) (λ e. there (eqb-false (number y) n e))
 
     pub without-in : (x : A) (s : List A) → x ∈ without number n s → x ∈ s
     without-in x [] m = m

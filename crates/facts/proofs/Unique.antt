@@ -3,16 +3,15 @@ use Rattle.facts.proofs.Words.{_≡_, refl, sym, ap, ap₂, subst, _∙
 use Rattle.facts.proofs.Words.{arith, length}
 use Rattle.facts.specs.{Code, Record, Width, Facts, Range, _∈_, Apart, Check, Outcome, FirstGiven, Passed, Kept, Leaves, DecidedThen, Decided}
 use Rattle.facts.specs.{RuledThen, Ruled, Rule, Before, Chosen, Lowest, Coincide, Register, Deregister, registerChecks, deregisterChecks}
-use Rattle.facts.specs.{CardTo, CardOutcome, RequestSocketMask, ReleaseSocketMask, socketOf, cardChecks, requestMaskChecks, releaseMaskChecks}
-use Rattle.facts.specs.{ioAdjustLength, ByAction, AdjustIrq, AdjustIo, AdjustResourceInfo, AddLevel, RemoveLevel, ShowLevel, AddRange}
-use Rattle.facts.specs.{RemoveRange, ShowRange, LevelHeld, LevelHolder, LevelShown, RangeHeld, RangeHolder, RangeShown, unheld, of-type}
-use Rattle.facts.specs.{one-alone, all-share, actionOf, first, next, levelGiven, levelAttributes, baseGiven, countGiven, attributesGiven}
-use Rattle.facts.specs.{linesGiven, adjustChecks, addLevelChecks, removeLevelChecks, showLevelChecks, addRangeChecks, removeRangeChecks}
-use Rattle.facts.specs.{showRangeChecks, showingLevel, showingRange, typeOf, withWord, RequestIrq, ReleaseIrq, Sharers, Count}
-use Rattle.facts.specs.{irqRequestChecks, irqReleaseChecks, sharersChecks, irqGrant, assigning, LevelTaken, withIrq, RequestIo, ReleaseIo}
-use Rattle.facts.specs.{BaseTaken, ioRequestChecks, ioReleaseChecks, ioGrant, withIo, ended, refused, added, stopped, recordChecks, Service}
-use Rattle.facts.specs.{registerClient, deregisterClient, adjustResourceInfo, requestIrq, releaseIrq, requestIo, releaseIo, requestSocketMask}
-use Rattle.facts.specs.{releaseSocketMask, serviceNumber, ruleOf, Call, IoAsked, IrqAsked, ioAsked, irqAsked}
+use Rattle.facts.specs.{CardTo, CardOutcome, socketOf, cardChecks, requestMaskChecks, releaseMaskChecks, ioAdjustLength, ByAction, AdjustIrq}
+use Rattle.facts.specs.{AdjustIo, AdjustResourceInfo, AddLevel, RemoveLevel, ShowLevel, AddRange, RemoveRange, ShowRange, LevelHeld}
+use Rattle.facts.specs.{LevelHolder, LevelShown, RangeHeld, RangeHolder, RangeShown, unheld, of-type, one-alone, all-share, actionOf, first}
+use Rattle.facts.specs.{next, levelGiven, levelAttributes, baseGiven, countGiven, attributesGiven, linesGiven, adjustChecks, addLevelChecks}
+use Rattle.facts.specs.{removeLevelChecks, showLevelChecks, addRangeChecks, removeRangeChecks, showRangeChecks, showingLevel, showingRange}
+use Rattle.facts.specs.{typeOf, withWord, RequestIrq, Sharers, Count, irqRequestChecks, irqReleaseChecks, sharersChecks, irqGrant, assigning}
+use Rattle.facts.specs.{LevelTaken, withIrq, RequestIo, BaseTaken, ioRequestChecks, ioReleaseChecks, ioGrant, withIo, ended, refused, added}
+use Rattle.facts.specs.{stopped, recordChecks, Service, registerClient, deregisterClient, adjustResourceInfo, requestIrq, releaseIrq, requestIo}
+use Rattle.facts.specs.{releaseIo, requestSocketMask, releaseSocketMask, serviceNumber, ruleOf, Call, IoAsked, IrqAsked, ioAsked, irqAsked}
 use Rattle.facts.specs.Boot.{Boot}
 use Rattle.facts.proofs.Sets.{apart-over, found}
 use Rattle.facts.proofs.Resources.{width-one}
@@ -224,34 +223,22 @@ module _ (F : Facts) (h : ℕ) (p : List ℕ) where
       let e = level-taken-unique F (irqAsked p) (d .level) (d′ .level) (d .taken) (d′ .taken) in
       leaves-same refl (ap (assigning p) e) (ap (λ (l : ℕ). withIrq F (socketOf p) (some (irqGrant h (irqAsked p) l))) e) (d .leaves) (d′ .leaves)
 
-  pub release-irq-unique : Coincide (ReleaseIrq F h p)
-  release-irq-unique = leaves-coincide (irqReleaseChecks F h p)
-
   pub request-io-unique : Coincide (RequestIo F h p)
   request-io-unique =
       ruled-coincide (ioRequestChecks F h p) λ o o′ d d′.
       let e = base-taken-unique F (ioAsked p) (d .base) (d′ .base) (d .taken) (d′ .taken) in
       leaves-same refl (ap (withWord p 2) e) (ap (λ (b : ℕ). withIo F (socketOf p) (some (ioGrant h (ioAsked p) b))) e) (d .leaves) (d′ .leaves)
 
-  pub release-io-unique : Coincide (ReleaseIo F h p)
-  release-io-unique = leaves-coincide (ioReleaseChecks F h p)
-
-  pub request-mask-unique : Coincide (RequestSocketMask F h p)
-  request-mask-unique = leaves-coincide (requestMaskChecks F h p)
-
-  pub release-mask-unique : Coincide (ReleaseSocketMask F h p)
-  release-mask-unique = leaves-coincide (releaseMaskChecks F h p)
-
   pub service-unique : Apart 0 (F .ranges) → (s : Service) → Coincide (ruleOf s F h p)
   service-unique apart registerClient = register-unique
   service-unique apart deregisterClient = deregister-unique
   service-unique apart adjustResourceInfo = adjust-unique apart
   service-unique apart requestIrq = request-irq-unique
-  service-unique apart releaseIrq = release-irq-unique
+  service-unique apart releaseIrq = leaves-coincide (irqReleaseChecks F h p)
   service-unique apart requestIo = request-io-unique
-  service-unique apart releaseIo = release-io-unique
-  service-unique apart requestSocketMask = request-mask-unique
-  service-unique apart releaseSocketMask = release-mask-unique
+  service-unique apart releaseIo = leaves-coincide (ioReleaseChecks F h p)
+  service-unique apart requestSocketMask = leaves-coincide (requestMaskChecks F h p)
+  service-unique apart releaseSocketMask = leaves-coincide (releaseMaskChecks F h p)
 
   -- a call: its number is one service's, or none's
   pub call-unique : Apart 0 (F .ranges) → (number : ℕ) → Coincide (Call number F h p)

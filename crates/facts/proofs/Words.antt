@@ -8,14 +8,14 @@ pub use lib.Bits.{and-block, and-high, and-le-l, and-le-r, and-mask, and-shr, an
 pub use lib.Count.{under}
 unfoldable pub use lib.Count.{trailingZeros}
 pub use lib.Dec.{T, eqb, eqb→eq, leb, lit<, ltb, ltb→lt, nltb→le}
-pub use lib.ListN.{List·getD-append, drop, drop-of-length-le, getD, getD-replicate, getElem?, length, length-append, length-drop, length-replicate}
-pub use lib.ListN.{length-set, replicate, set, take, take-append-drop}
+pub use lib.ListN.{List·getD-append, List·getD-eq-default, drop, drop-of-length-le, getD, getD-replicate, getElem?, length, length-append}
+pub use lib.ListN.{length-drop, length-replicate, length-set, replicate, set, take, take-append-drop}
 pub use lib.Pow.{field, high, mod-mod-pow, ones-lt, ones-split, pow-add, pow-lt, pow-mono, pow-pos, shl-exact, shl-shr, shr-shr}
 pub use lib.Seq.{drop-at, drop-cons, drop-drop, ext-getD, getD-append-add, getD-append-seam, getD-drop, getD-set-other, getD-set-same, getD-take}
 pub use lib.Seq.{length-take-le, take-suc-set}
 pub use mathlib.Core.Bool.{Bool, cond, false, false≢true, not, true, true≢false}
 pub use mathlib.Core.List.{List, [], _++_, _∷_, append-assoc, head-eq-of-cons-eq, map, nil≢cons, tail-eq-of-cons-eq}
-pub use mathlib.Core.Logic.{Iff·rfl, _↔_, _≢_, _⊎_, by-cases, inl, inr, ⊎-elim}
+pub use mathlib.Core.Logic.{Dec·of-iff, Iff·rfl, _↔_, _≢_, _⊎_, by-cases, inl, inr, ⊎-elim}
 pub use mathlib.Core.Option.{Option, Option·none-ne-some, Option·some-injective, Option·some-ne-none, none, some}
 pub use mathlib.Core.Path.{_∙_, _≡_, ap, ap₂, fun-ext, refl, subst, subst⁻¹, subst₂, sym}
 pub use mir.Val.{boolByte}

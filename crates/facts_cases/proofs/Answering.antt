@@ -1,96 +1,15 @@
 -- The cases of K2 hold. Assumes nothing.
-use Rattle.facts.proofs.Words.{_≡_, refl, ap, sym, _∙_, subst, _⊎_, inl, inr, ⊎-elim, _≢_, Iff·rfl, List, [], true, true≢false, some}
-use Rattle.facts.proofs.Words.{Option·none-ne-some, Option·some-injective, ℕ, _+_, _*_, _%_, _^_, _≤_, _<_, le-refl, mod-eq-of-lt, decLt, arith}
+use Rattle.facts.proofs.Words.{_≡_, by-cases, refl, ap, sym, _∙_, subst, _⊎_, inl, inr, ⊎-elim, _≢_, Iff·rfl, true, true≢false, some}
+use Rattle.facts.proofs.Words.{Option·none-ne-some, Option·some-injective, ℕ, _+_, _*_, _%_, _≤_, _<_, le-refl, mod-eq-of-lt, decLt, arith}
 use Rattle.facts.proofs.Words.{WellFormed}
-use Rattle.facts.specs.{Code, BadBase, InUse, _∈_, Facts, Range, IoGrant, fresh, IoFits, Within, Managed, Answers, WhollyUnreserved, FirstGiven}
-use Rattle.facts.specs.{Passed, withWord, withCard, RequestIo, Candidate, NoCandidate, CandidateTaken, SmallestPower, NotAllManaged, baseAsked}
-use Rattle.facts.specs.{ioAheadChecks, baseChecks, ioRequestChecks, ioAsked}
-use Rattle.facts.proofs.{fresh-formed, card-formed, ranges-formed, io-formed, register-stays, smallest-power-unique, request-io-unique}
-use Rattle.facts_cases.specs.{Exactly, done, refused, ports, range, ready, grantingIo, clientPacket, AnsweringCases, boardsPorts, allAdded}
-use Rattle.facts_cases.specs.{alike, linesPacket, removePacket}
-use Rattle.facts_cases.proofs.Ports.{eight}
+use Rattle.facts.specs.{InUse, _∈_, Facts, Range, IoGrant, fresh, IoFits, Within, Managed, Answers, WhollyUnreserved, RangeAnswered, withCard}
+use Rattle.facts.specs.{Candidate, NoCandidate, CandidateTaken, SmallestPower, ioAsked}
+use Rattle.facts.proofs.{fresh-formed, card-formed, ranges-formed, io-formed, register-stays, smallest-power-unique}
+use Rattle.facts_cases.specs.{done, ports, range, ready, grantingIo, clientPacket, AnsweringCases, boardsPorts, allAdded, alike, linesPacket}
+use Rattle.facts_cases.specs.{removePacket}
+use Rattle.facts_cases.proofs.Ports.{eight, named-refused, named-granted, first-given, none-refused}
 use Rattle.facts_cases.proofs.Cases.{adjusts, registers}
-use Rattle.facts_cases.proofs.Permitted.{exactly, as-left, as-kept, _then_, _nor_}
-
--- RequestIO on a table with N8's client and cards, no I/O grant and these ranges
-module _ (rs : List Range) (low high count lines : ℕ) (lined : (1 ≤ lines) × (lines ≤ 16)) (counted : (1 ≤ count) × (count ≤ 2 ^ lines)) where
-  abbrev table : Facts
-  table =
-      record {
-        sockets = ready .sockets;
-        card = ready .card;
-        issued = ready .issued;
-        clients = ready .clients;
-        level = ready .level;
-        ranges = rs;
-        io = ready .io;
-        irq = ready .irq;
-      }
-
-  abbrev packet : List ℕ
-  packet = linesPacket 1 low high count lines
-
-  -- the checks ahead of the base pass
-  ahead : Passed (ioAheadChecks table 1 packet [])
-  ahead =
-      (omega arith)
-      then (λ e. e (record { client = _; listed = inl refl; handle = refl }))
-      then (omega arith nor omega arith)
-      then true≢false
-      then ((λ e. omega arith) nor (λ e. omega arith) nor (λ e. omega (arith, lined)) nor (λ e. omega (arith, lined)))
-      then ((λ e. omega (arith, counted)) nor (λ e. omega (arith, counted)) nor (λ e. e refl))
-      then (λ e. e refl)
-      then tt
-
-  -- then what the base's checks give is given, and where they pass, all pass
-  base-given : {k : Code} → FirstGiven (baseChecks table (ioAsked packet)) k → FirstGiven (ioRequestChecks table 1 packet) k
-  base-given base =
-      let own = ahead .1 .1 .1 .1 in
-      inr (
-        ahead .0,
-        inr (ahead .1 .0, inr (ahead .1 .1 .0, inr (ahead .1 .1 .1 .0, inr (own .0, inr (own .1 .0, inr (own .1 .1 .0, base)))))),
-      )
-
-  base-passed : Passed (baseChecks table (ioAsked packet)) → Passed (ioRequestChecks table 1 packet)
-  base-passed base =
-      let own = ahead .1 .1 .1 .1 in
-      ahead .0 then ahead .1 .0 then ahead .1 .1 .0 then ahead .1 .1 .1 .0 then own .0 then own .1 .0 then own .1 .1 .0 then base
-
-  -- a base that is named and isn't all managed is refused; one that is is granted
-  named-refused : baseAsked packet ≢ 0 → NotAllManaged table (ioAsked packet) → Exactly (RequestIo table 1 packet) (refused BadBase packet table)
-  named-refused named bad =
-      exactly (request-io-unique table 1 packet) (inl (base-given (inl ((named, bad), refl)), as-kept BadBase packet table))
-
-  named-granted : baseAsked packet ≢ 0 → (NotAllManaged table (ioAsked packet) → ⊥) → withWord packet 2 (baseAsked packet) ≡ packet
-      → Exactly (RequestIo table 1 packet) (done 1 packet (grantingIo 1 (ports (baseAsked packet) count lines) table))
-  named-granted named good kept =
-      exactly (request-io-unique table 1 packet)
-      (inr (
-        base-passed ((λ e. good (e .1)) then (λ e. Option·none-ne-some _ (e .1 .held)) then (λ e. named (e .0)) then tt),
-        (
-          refl,
-          record {
-            base = baseAsked packet;
-            taken = inl (named, refl);
-            leaves = record { handle = refl; packet = sym kept; facts = refl };
-          },
-        ),
-      ))
-
-  -- base 0 is given the first candidate; without one it is refused
-  first-given : baseAsked packet ≡ 0 → (b : ℕ) → CandidateTaken table (ioAsked packet) b
-      → Exactly (RequestIo table 1 packet) (done 1 (withWord packet 2 b) (grantingIo 1 (ports b count lines) table))
-  first-given asked b taken =
-      exactly (request-io-unique table 1 packet)
-      (inr (
-        base-passed ((λ e. e .0 asked) then (λ e. e .0 asked) then (λ e. e .1 b (taken .fits)) then tt),
-        (refl, record { base = b; taken = inr (asked, taken); leaves = as-left _ }),
-      ))
-
-  none-refused : baseAsked packet ≡ 0 → NoCandidate table (ioAsked packet) → Exactly (RequestIo table 1 packet) (refused InUse packet table)
-  none-refused asked none =
-      exactly (request-io-unique table 1 packet)
-      (inl (base-given (inr (λ e. e .0 asked, inr (λ e. e .0 asked, inl ((asked, none), refl)))), as-kept InUse packet table))
+use Rattle.facts_cases.proofs.Permitted.{as-kept, _nor_, _past_}
 
 -- 2F8 to 2FF lie in none of the ranges
 board-unmanaged : (F : Facts) → F .ranges ≡ boardsPorts .ranges → Managed F 0x2F8 → ⊥
@@ -103,12 +22,11 @@ six-answers = record { below = omega arith; own = 0x6F8; own-in = omega arith; e
 
 -- every port lies in one of the three, once they are added
 all-managed : (q : ℕ) → q < 0x10000 → Managed allAdded q
-all-managed q l = below-or-above (decLt q 0x2F8) (decLt q 0x300)
-  where
-    below-or-above : Dec (q < 0x2F8) → Dec (q < 0x300) → Managed allAdded q
-    below-or-above (yes a) d = record { range = range 0 0x2F8; listed = inl refl; has = record { from = omega arith; below = a } }
-    below-or-above (no a) (yes d) = record { range = range 0x2F8 8; listed = inr (inl refl); has = record { from = omega arith; below = d } }
-    below-or-above (no a) (no d) = record { range = range 0x300 0xFD00; listed = inr (inr (inl refl)); has = record { from = omega arith; below = omega arith } }
+all-managed q l =
+    by-cases (decLt q 0x2F8) (λ a. record { range = range 0 0x2F8; listed = inl refl; has = record { from = omega arith; below = a } })
+    (λ a. by-cases (decLt q 0x300)
+    (λ d. record { range = range 0x2F8 8; listed = inr (inl refl); has = record { from = omega arith; below = d } })
+    (λ d. record { range = range 0x300 0xFD00; listed = inr (inr (inl refl)); has = record { from = omega arith; below = omega arith } }))
 
 -- the ports from 300 on are managed in both
 upper-managed : (q : ℕ) → 0x300 ≤ q → q < 0x10000 → Managed boardsPorts q
@@ -117,11 +35,8 @@ upper-managed q l h = record { range = range 0x300 0xFD00; listed = inr (inl ref
 -- on `alike` the card answers at managed ports alone, wherever it is given its own
 low-or-high : (q own : ℕ) → q < 0x10000 → q % 0x8000 ≡ own % 0x8000 → (0x300 ≤ own % 0x8000) × (own % 0x8000 < 0x310)
     → ((0x300 ≤ q) × (q < 0x310)) ⊎ ((0x8300 ≤ q) × (q < 0x8310))
-low-or-high q own l e h = below-or-not (decLt q 0x8000)
-  where
-    below-or-not : Dec (q < 0x8000) → ((0x300 ≤ q) × (q < 0x310)) ⊎ ((0x8300 ≤ q) × (q < 0x8310))
-    below-or-not (yes m) = inl (omega (arith, e, h), omega (arith, e, h))
-    below-or-not (no m) = inr (omega (arith, e, h), omega (arith, e, h))
+low-or-high q own l e h =
+    by-cases (decLt q 0x8000) (λ m. inl (omega (arith, e, h), omega (arith, e, h))) (λ m. inr (omega (arith, e, h), omega (arith, e, h)))
 
 alike-managed : (q : ℕ) → ((0x300 ≤ q) × (q < 0x310)) ⊎ ((0x8300 ≤ q) × (q < 0x8310)) → Managed alike q
 alike-managed q (inl l) = record { range = _; listed = inl refl; has = record { from = l .0; below = l .1 } }
@@ -186,11 +101,9 @@ all-barred y c = either-way (managed-alike y (c .managed y first-own))
 
 -- on `boardsPorts` a card of four lines that is given 10 answers at managed ports alone: 2F8 to 2FF are others modulo 16
 ten-managed : (q own : ℕ) → q < 0x10000 → q % 16 ≡ own % 16 → Within own 0x10 8 → Managed boardsPorts q
-ten-managed q own l e w = below-or-not (decLt q 0x2F8)
-  where
-    below-or-not : Dec (q < 0x2F8) → Managed boardsPorts q
-    below-or-not (yes m) = record { range = range 0 0x2F8; listed = inl refl; has = record { from = omega arith; below = m } }
-    below-or-not (no m) = upper-managed q (omega (arith, e, w .from, w .below)) l
+ten-managed q own l e w =
+    by-cases (decLt q 0x2F8) (λ m. record { range = range 0 0x2F8; listed = inl refl; has = record { from = omega arith; below = m } })
+    (λ m. upper-managed q (omega (arith, e, w .from, w .below)) l)
 
 ten-candidate : Candidate boardsPorts (ioAsked (linesPacket 1 0x00 0x00 8 4)) 0x10
 ten-candidate =
@@ -266,57 +179,41 @@ pub answering-cases : AnsweringCases
 answering-cases =
     record {
       unmanaged-refused =
-          named-refused (boardsPorts .ranges) 0xF8 0x06 8 10 (omega arith) (omega arith) (omega arith)
+          named-refused (ready .io) refl (boardsPorts .ranges) 0xF8 0x06 8 10 (omega arith) (omega arith) (omega arith)
           (inr (inr (λ all. board-unmanaged boardsPorts refl (all 0x2F8 six-answers))));
       managed-granted =
-          named-granted (allAdded .ranges) 0xF8 0x06 8 10 (omega arith) (omega arith) (omega arith)
-          ((λ l. omega arith) nor (λ n. n (λ q w. all-managed q (omega (arith, w .below)))) nor (λ n. n (λ q a. all-managed q (a .below)))) refl;
+          named-granted (ready .io) refl (allAdded .ranges) 0xF8 0x06 8 10 (omega arith) (omega arith) (omega arith)
+          ((λ l. omega arith) nor (λ n. n (λ q w. all-managed q (omega (arith, w .below)))) nor (λ n. n (λ q a. all-managed q (a .below))))
+          (λ e. Option·none-ne-some _ (e .held));
       all-lines-granted =
-          named-granted (boardsPorts .ranges) 0xF8 0x06 8 16 (omega arith) (omega arith) (omega arith)
+          named-granted (ready .io) refl (boardsPorts .ranges) 0xF8 0x06 8 16 (omega arith) (omega arith) (omega arith)
           ((λ l. omega arith) nor (λ n. n (λ q w. upper-managed q (omega (arith, w .from)) (omega (arith, w .below))))
-          nor (λ n. n (λ q a. let same = at-home q a in upper-managed q (omega (arith, same, a .own-in .from)) (a .below)))) refl;
-      multiple-passed = first-given (boardsPorts .ranges) 0x00 0x00 8 4 (omega arith) (omega arith) refl 0x10 ten-first;
-      none-left = none-refused (alike .ranges) 0x00 0x00 16 14 (omega arith) (omega arith) refl all-barred;
+          nor (λ n. n (λ q a. let same = at-home q a in upper-managed q (omega (arith, same, a .own-in .from)) (a .below))))
+          (λ e. Option·none-ne-some _ (e .held));
+      multiple-passed = first-given (ready .io) refl (boardsPorts .ranges) 0x00 0x00 8 4 (omega arith) (omega arith) refl 0x10 ten-first;
+      none-left = none-refused (ready .io) refl (alike .ranges) 0x00 0x00 16 14 (omega arith) (omega arith) refl all-barred;
       repeated-kept =
           adjusts (grantingIo 1 (ports 0x6F8 8 10) allAdded) (omega arith) 0x00 0xF8 0x02 8 0x00 16 (omega arith)
           (inr (inl (
             refl,
             inl (
-              inr (
-                omega arith nor omega arith,
-                inr (
-                  omega arith nor omega arith,
-                  inr (
-                    omega arith,
-                    inr (
-                      (λ none. none (range 0x2F8 8) (inr (inl refl), refl, refl)),
-                      inl (
-                        (
-                          range 0x2F8 8,
-                          (inr (inl refl), refl, refl),
-                          record {
-                            seat = 1;
-                            range = _;
-                            held = refl;
-                            port = 0x2F8;
-                            has = omega arith;
-                            answers = six-answers;
-                          },
-                        ),
-                        refl,
-                      ),
-                    ),
-                  ),
-                ),
-              ),
+              (omega arith nor omega arith)
+                  past (omega arith nor omega arith)
+                  past (omega arith)
+                  past (λ none. none (range 0x2F8 8) (inr (inl refl), refl, refl))
+                  past inl ((range 0x2F8 8, (inr (inl refl), refl, refl), repeated), refl),
               as-kept InUse removePacket (grantingIo 1 (ports 0x6F8 8 10) allAdded),
             ),
           )));
-      own-ports-ordered = first-given (alike .ranges) 0x00 0x00 16 15 (omega arith) (omega arith) refl 0x8300 high-first;
+      own-ports-ordered = first-given (ready .io) refl (alike .ranges) 0x00 0x00 16 15 (omega arith) (omega arith) refl 0x8300 high-first;
       unmanaged-unformed = λ w. board-unmanaged (grantingIo 1 (ports 0x6F8 8 10) boardsPorts) refl (w .ios 1 _ refl .answers 0x2F8 six-answers);
       managed-formed = io-formed allAdded all-added-formed 1 _ six-fits (λ t g g′ d e live. absurd (Option·none-ne-some g′ live));
     }
   where
+    -- the card that is given 6F8 answers in the range that is asked for
+    repeated : RangeAnswered (grantingIo 1 (ports 0x6F8 8 10) allAdded) (range 0x2F8 8)
+    repeated = record { seat = 1; range = _; held = refl; port = 0x2F8; has = omega arith; answers = six-answers }
+
     -- at sixteen lines a card answers at its own ports alone
     at-home : (q : ℕ) (a : Answers (ports 0x6F8 8 16) q) → q ≡ a .own
     at-home q a = sym (mod-eq-of-lt (a .below)) ∙ a .equal ∙ mod-eq-of-lt (omega (arith, a .own-in .below))

@@ -6,7 +6,7 @@ use Rattle.facts_cases.specs.Cases.{Cases}
 use Rattle.facts_cases.specs.{Exactly, done, refused, range, managing, ready, twoLevels, threeHeld, bothHeld, oneSharer, twoSharers, halfHeld}
 use Rattle.facts_cases.specs.{unheldRange, oneClient, noClient, clientPacket, addPacket, firstPacket}
 use Rattle.facts.proofs.{register-unique, deregister-unique, sharers-unique, adjust-unique}
-use Rattle.facts_cases.proofs.Permitted.{exactly, as-left, as-kept, _then_, _nor_, listed-alone}
+use Rattle.facts_cases.proofs.Permitted.{exactly, as-left, as-kept, _then_, _nor_, _past_, listed-alone}
 use Rattle.facts_cases.proofs.Ports.{meet-equal, gives-308, half-meets-none, half-leaves-308}
 use Rattle.facts_cases.proofs.Levels.{bits-B0, bits-D0, bits-A3, gives-3, gives-5, gives-none, joins-at, none-to-join, held-fits-not}
 use Rattle.facts_cases.proofs.Levels.{level-fits, only-grant}
@@ -40,12 +40,12 @@ adds low upto =
     ))
 
 adds-not : (low : ℕ) → 0xF8 < low → Exactly (AdjustResourceInfo (fresh 2) 1 (addPacket low)) (refused BadBase (addPacket low) (fresh 2))
-adds-not low past =
+adds-not low over =
     adjusts (fresh 2) tt 0x01 low 0xFF 8 0x00 16 (omega arith)
     (inl (
       refl,
       inl (
-        inr ((λ e. e (inl refl)) nor omega arith, inr (omega arith nor omega arith, inl (omega arith, refl))),
+        ((λ e. e (inl refl)) nor omega arith) past (omega arith nor omega arith) past inl (omega arith, refl),
         as-kept BadBase (addPacket low) (fresh 2),
       ),
     ))

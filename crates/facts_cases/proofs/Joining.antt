@@ -1,11 +1,10 @@
 -- The cases of K1 hold. Assumes nothing.
-use Rattle.facts.proofs.Words.{_≡_, refl, sym, ap, _∙_, _⊎_, inl, inr, ⊎-elim, List, some, Option·none-ne-some, Option·some-injective, ℕ, arith}
+use Rattle.facts.proofs.Words.{_≡_, refl, sym, ap, _∙_, inl, inr, ⊎-elim, List, some, Option·none-ne-some, Option·some-injective, ℕ, arith}
 use Rattle.facts.proofs.Words.{true≢false}
 use Rattle.facts.specs.{Manner, Exclusive, TimeMultiplexed, DynamicLevel, DynamicPulse, Facts, IrqGrant, Holds, typeOf, levelAdded, reserveBit}
-use Rattle.facts.specs.{Lowest, RequestIrq, Fits, Named, Joins, mannerAsked, IrqAsked, irqAsked}
+use Rattle.facts.specs.{Lowest, RequestIrq, Fits, Named, Joins, IrqAsked, irqAsked}
 use Rattle.facts_cases.specs.{Exactly, ready, twoLevels, grantingIrq, JoiningCases, either, sharing, firstShared, alone, fiveHeld, bothShared}
 use Rattle.facts.proofs.{put-is}
-use Rattle.facts_cases.proofs.Permitted.{_nor_}
 use Rattle.facts_cases.proofs.Levels.{granted, bits-B0, bits-A3, plain-good, first-good, managed-are, given, gives-3, three-taken, joins-at}
 use Rattle.facts_cases.proofs.Levels.{only-grant}
 

@@ -1,12 +1,12 @@
 -- The level that RequestIRQ gives where levels 3 and 5 are managed: for N6, N7 and N11, and for the cases of K1. Assumes nothing.
 use Rattle.facts.proofs.Words.{_≡_, refl, sym, ap, _∙_, _⊎_, inl, inr, ⊎-elim, Iff·rfl, List, [], true, false≢true, true≢false, Option, none, some}
 use Rattle.facts.proofs.Words.{Option·none-ne-some, Option·some-injective, ℕ, _<_, le-refl, arith, eqb}
-use Rattle.facts.specs.{BadIrq, Manner, DynamicLevel, Facts, Level, IrqGrant, bit, Lowest, Together, Holds, typeOf, _gives_, Outcome, Passed}
-use Rattle.facts.specs.{socketOf, levelAdded, reserveBit, Fits, Named, NoLevelFits, NoLevelJoined, LevelTaken, RequestIrq, IrqAttributesBad}
-use Rattle.facts.specs.{IrqInfoBad, irqAheadChecks, irqGrant, Joining, Joins, mannerAsked, assigning, withIrq, IrqAsked, irqAsked}
+use Rattle.facts.specs.{BadIrq, Manner, DynamicLevel, Facts, Level, IrqGrant, bit, Lowest, Together, Holds, typeOf, Outcome, Passed, socketOf}
+use Rattle.facts.specs.{levelAdded, reserveBit, Fits, Named, NoLevelFits, NoLevelJoined, LevelTaken, RequestIrq, IrqAttributesBad, IrqInfoBad}
+use Rattle.facts.specs.{irqAheadChecks, levelChecks, irqGrant, Joining, Joins, mannerAsked, assigning, withIrq, IrqAsked, irqAsked}
 use Rattle.facts_cases.specs.{Exactly, done, refused, ready, twoLevels, grantingIrq, irqPacket}
 use Rattle.facts.proofs.{put-is, request-irq-unique}
-use Rattle.facts_cases.proofs.Permitted.{exactly, as-left, as-kept, _then_, _nor_, last-passed, last-refused, alone-chosen}
+use Rattle.facts_cases.proofs.Permitted.{exactly, as-left, as-kept, _then_, _nor_, passed-after, given-after, alone-chosen}
 
 -- what is done where the level l is taken
 abbrev pub granted : Facts → ℕ → List ℕ → ℕ → Outcome
@@ -18,14 +18,14 @@ module _ (F : Facts) (h : ℕ) (p : List ℕ) (ahead : Passed (irqAheadChecks F 
   irq-done l fits taken =
       exactly (request-irq-unique F h p)
       (inr (
-        last-passed (irqAheadChecks F h p []) (NoLevelFits F (irqAsked p) gives BadIrq) ahead (λ none-fits. none-fits l fits),
+        passed-after (irqAheadChecks F h p []) (levelChecks F (irqAsked p)) ahead ((λ none-fits. none-fits l fits) then tt),
         (refl, record { level = l; taken = taken; leaves = as-left _ }),
       ))
 
   irq-refused : NoLevelFits F (irqAsked p) → Exactly (RequestIrq F h p) (refused BadIrq p F)
   irq-refused none-fits =
       exactly (request-irq-unique F h p)
-      (inl (last-refused (irqAheadChecks F h p []) (NoLevelFits F (irqAsked p) gives BadIrq) ahead none-fits, as-kept BadIrq p F))
+      (inl (given-after (irqAheadChecks F h p []) (levelChecks F (irqAsked p)) BadIrq ahead (inl (none-fits, refl)), as-kept BadIrq p F))
 
 -- a held level doesn't fit a manner that its grant's doesn't go together with
 pub held-fits-not : {F : Facts} {p : IrqAsked} {l : ℕ} {g : IrqGrant} (s : ℕ) → F .irq s ≡ some g → g .level ≡ l

@@ -1,10 +1,11 @@
 -- What is permitted: laws of checks that pass, and of a choice alone. Assumes nothing.
-use Rattle.facts.proofs.Words.{_≡_, refl, _⊎_, inl, inr, ⊎-elim, Iff·rfl, List, [], _∷_, _++_, ℕ, le-refl}
+use Rattle.facts.proofs.Words.{_≡_, refl, _⊎_, inr, ⊎-elim, Iff·rfl, List, [], _∷_, _++_, ℕ, le-refl}
 use Rattle.facts.specs.{Code, Facts, _∈_, Check, Outcome, FirstGiven, Passed, Kept, Leaves, Chosen, Coincide}
 use Rattle.facts_cases.specs.{Exactly, refused}
 
 infixr 3 _nor_
 infixr 2 _then_
+infixr 2 _past_
 -- a permitted outcome, where any two coincide
 pub exactly : {O : Type 0} {R : O → Type 0} {o : O} → Coincide R → R o → Exactly R o
 exactly {o = o} u r = record { permitted = r; only = λ o′ r′. u o′ o r′ r }
@@ -23,14 +24,18 @@ a then b = (a, b)
 pub _nor_ : {A B : Type 0} → (A → ⊥) → (B → ⊥) → A ⊎ B → ⊥
 f nor g = ⊎-elim f g
 
--- a last check, after others that pass
-pub last-passed : (cs : List Check) (c : Check) → Passed cs → (c .when → ⊥) → Passed (cs ++ (c ∷ []))
-last-passed [] c p f = (f, tt)
-last-passed (x ∷ cs) c p f = (p .0, last-passed cs c (p .1) f)
+-- a check that doesn't apply, and then the first that does
+pub _past_ : {A B C : Type 0} → (A → ⊥) → B → C ⊎ ((A → ⊥) × B)
+f past g = inr (f, g)
 
-pub last-refused : (cs : List Check) (c : Check) → Passed cs → c .when → FirstGiven (cs ++ (c ∷ [])) (c .code)
-last-refused [] c p w = inl (w, refl)
-last-refused (x ∷ cs) c p w = inr (p .0, last-refused cs c (p .1) w)
+-- checks after others that pass
+pub passed-after : (cs own : List Check) → Passed cs → Passed own → Passed (cs ++ own)
+passed-after [] own p q = q
+passed-after (c ∷ cs) own p q = (p .0, passed-after cs own (p .1) q)
+
+pub given-after : (cs own : List Check) (k : Code) → Passed cs → FirstGiven own k → FirstGiven (cs ++ own) k
+given-after [] own k p g = g
+given-after (c ∷ cs) own k p g = p .0 past given-after cs own k (p .1) g
 
 -- what is in a list of one is that one
 pub listed-alone : {A : Type 0} {x y : A} → x ∈ (y ∷ []) → x ≡ y

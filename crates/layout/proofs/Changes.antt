@@ -1,13 +1,12 @@
 -- What the bytes of a changed table show: other clients or ranges, another card, and a fresh table. Assumes nothing.
-use Rattle.facts.proofs.Words.{_≡_, refl, sym, _∙_, _⊎_, inl, _≢_, List, [], _∷_, Bool, ℕ, _+_, _*_, _≤_, _<_, arith, length, getElem?, set}
-use Rattle.facts.proofs.Words.{replicate}
+use Rattle.facts.proofs.Words.{_≡_, by-cases, decLt, List·getD-eq-default, getD, refl, sym, _∙_, _⊎_, inl, _≢_, List, [], _∷_, Bool, ℕ, _+_, _*_, _≤_}
+use Rattle.facts.proofs.Words.{_<_, arith, length, getElem?, set}
 use Rattle.layout.proofs.Of
-use Rattle.facts.specs.{Facts, Client, Range, fresh, put, byte, withClients, withRanges, withCard, allLevels, mostClients, mostRanges, mostSeats}
-use Rattle.facts.specs.{mostSockets}
-use Rattle.layout.specs.{image, mark, clientBytes, rangeBytes, Accepted, cardSize, cardsAt, clientSize, clientsAt, ioSize, iosAt, irqSize}
-use Rattle.layout.specs.{irqsAt, levelSize, levelsAt, rangeSize, rangesAt, restAt, tableSize}
-use Rattle.layout.proofs.Parts.{record-below, zeros}
-use Rattle.layout.proofs.Image.{part, parts, Stands}
+use Rattle.facts.specs.{Facts, Client, Range, fresh, put, byte, withClients, withRanges, withCard, mostClients, mostRanges, mostSockets}
+use Rattle.layout.specs.{image, mark, clientBytes, rangeBytes, Accepted, cardSize, cardsAt, clientSize, clientsAt, ioSize, irqSize, rangeSize}
+use Rattle.layout.specs.{rangesAt, restAt, tableSize}
+use Rattle.layout.proofs.Parts.{zeros}
+use Rattle.layout.proofs.Image.{Part, part, parts, end, Stands, Shown}
 use Rattle.layout.proofs.Shows.{Shows, shown-changed, wrote-image, put-stands}
 use Rattle.layout.proofs.Entered.{wrote-none, wrote-byte}
 
@@ -59,40 +58,29 @@ card-written b a s v l =
     wrote-image (withCard (a .facts) s v) 0 (λ i. mark (put (a .facts .card) s v i) ∷ []) w wrote (omega arith) (omega arith)
     (put-stands (λ (t : Bool). mark t ∷ []) (a .facts .card) s v cardsAt mostSockets cardSize refl (w .shown .0) wrote) (λ h t. (h, t))
 
+-- parts whose records are zero are shown by zero bytes
+abbrev Zeroed : List Part → Type 0
+Zeroed [] = Unit {0}
+Zeroed (p ∷ ps) = ((i j : ℕ) → getD (p .bytes i) j 0 ≡ 0) × Zeroed ps
+
+zero-shown : (b : List ℕ) (at : ℕ) (ps : List Part) → Zeroed ps → ((q : ℕ) → at ≤ q → byte b q ≡ 0) → Shown b at ps
+zero-shown b at [] z all = λ q l m. all q l
+zero-shown b at (p ∷ ps) z all =
+    ((λ i l j m. all (at + i * p .size + j) (omega arith) ∙ sym (z .0 i j)), zero-shown b (end at p) ps (z .1) (λ q l. all q (omega arith)))
+
 -- a fresh table: the socket count, and zero
 pub fresh-shown : (n : ℕ) (b : List ℕ) → length b ≡ tableSize → byte b 0 ≡ n → ((p : ℕ) → 1 ≤ p → p < tableSize → byte b p ≡ 0)
     → Shows (fresh n) b
 fresh-shown n b size count zero-past =
     record {
       size = size;
-      heads = (
-        count,
-        zero-past 1 (omega arith) (omega arith),
-        zero-past 2 (omega arith) (omega arith),
-        zero-past 3 (omega arith) (omega arith),
-        zero-past 4 (omega arith) (omega arith),
-      );
-      shown = (
-        empty cardsAt mostSockets cardSize (omega arith) (omega arith),
-        (
-          empty levelsAt allLevels levelSize (omega arith) (omega arith),
-          (
-            empty iosAt mostSeats ioSize (omega arith) (omega arith),
-            (
-              empty irqsAt mostSeats irqSize (omega arith) (omega arith),
-              (
-                empty clientsAt mostClients clientSize (omega arith) (omega arith),
-                (
-                  empty rangesAt mostRanges rangeSize (omega arith) (omega arith),
-                  λ q l. zero-past q (omega arith),
-                ),
-              ),
-            ),
-          ),
-        ),
-      );
+      heads = (count, all 1 (omega arith), all 2 (omega arith), all 3 (omega arith), all 4 (omega arith));
+      shown = zero-shown b cardsAt (parts (fresh n)) empty (λ q l. all q (omega arith));
     }
   where
-    -- a part without a fact
-    empty : (at n k : ℕ) → 1 ≤ at → at + n * k ≤ tableSize → Stands b at (part n k (λ i. replicate k 0))
-    empty at n k l h i m j o = zero-past (at + i * k + j) (omega arith) (omega (arith, record-below m o)) ∙ sym (zeros k j)
+    all : (q : ℕ) → 1 ≤ q → byte b q ≡ 0
+    all q l = by-cases (decLt q tableSize) (zero-past q l) (λ h. List·getD-eq-default b 0 (omega (arith, size)))
+
+    empty : Zeroed (parts (fresh n))
+    empty =
+        ((λ s. zeros 1), ((λ l. zeros 2), ((λ s. zeros ioSize), ((λ s. zeros irqSize), ((λ i. zeros clientSize), ((λ i. zeros rangeSize), tt))))))

@@ -48,8 +48,8 @@ entered-image F b attributes events w room left lowa lowe =
       );
       shown = shown-changed b b′ 4 (λ i. clientBytes (getElem? (F .clients ++ (new ∷ [])) i)) cardsAt (parts F) (w .shown)
           (λ q l. ⊎-elim (λ m. kept q l (inl (omega arith))) (λ m. kept q l (inr (omega arith))))
-          (records-more clientBytes clientsAt clientSize mostClients (zeros clientSize) (F .clients) (F .clients ++ (new ∷ [])) b b′ n new (clients-are w)
-          (λ q l m. kept q (omega arith) (inl m)) more (λ j m. past (p + j) (omega arith) ∙ record-written .bytes j m)
+          (records-more clientBytes clientsAt clientSize mostClients (zeros clientSize) (F .clients) (F .clients ++ (new ∷ [])) b b′ n new
+          (clients-are w) (λ q l m. kept q (omega arith) (inl m)) more (λ j m. past (p + j) (omega arith) ∙ record-written .bytes j m)
           (λ q l m. kept (q + clientSize) (omega arith) (inr (omega arith)) ∙ free (q + clientSize) (omega arith) m ∙ sym (free q l (omega arith))));
     })
 
@@ -65,6 +65,6 @@ withdrawn-image b b′ a i h l e first d =
     (λ k x m q r. first k m (Of.handle-of b a k x q (omega arith) ∙ r)) in
     shows-image (withClients (a .facts) (withoutClient h clients)) b′
     (clients-shown (a .facts) b b′ w (d .size) (withoutClient h clients) (omega (arith, d .fewer, Of.clients-in b a, more .longer))
-    (records-fewer clientBytes clientsAt clientSize mostClients (zeros clientSize) clients (withoutClient h clients) b b′ i (clientIn b i) (clients-are w)
-    (λ p m n. d .other p (λ q. omega (arith, q)) (inl n)) more (a .formed .clients-most) (d .moved) (d .last))
+    (records-fewer clientBytes clientsAt clientSize mostClients (zeros clientSize) clients (withoutClient h clients) b b′ i (clientIn b i)
+    (clients-are w) (λ p m n. d .other p (λ q. omega (arith, q)) (inl n)) more (a .formed .clients-most) (d .moved) (d .last))
     (λ p n o. d .other p n (⊎-elim (λ m. inl (omega arith)) inr o)))

@@ -2,9 +2,9 @@
 use Rattle.facts.proofs.Words.{_≡_, refl, ap, sym, _∙_, subst, _⊎_, inl, inr, ⊎-elim, by-cases, List, [], _∷_, _++_, ℕ, _+_, _-_, _/_, _%_, _≤_, _<_}
 use Rattle.facts.proofs.Words.{eq-or-lt-of-le, decLt, arith, length, getD, set, replicate, length-set, length-append, length-replicate}
 use Rattle.facts.proofs.Words.{List·getD-append, getD-append-add, getD-append-seam}
-use Rattle.facts.specs.{byte, withWord}
-use Rattle.layout.specs.{Zero}
-use Rattle.layout.proofs.Parts.{zeros}
+use Rattle.facts.specs.{byte, withWord, withLong}
+use Rattle.layout.specs.{Zero, two, four}
+use Rattle.layout.proofs.Parts.{below-at, zeros}
 use Rattle.layout.proofs.Written.{byte-same, byte-other}
 
 -- from the place on stand the bytes xs, and all others are as before
@@ -63,3 +63,11 @@ wrote-zeros {b} {at} {xs} {b′} w n stood =
     past j l =
         let there : j ≡ length xs + (j - length xs) = omega arith in
         ap (λ (i : ℕ). getD (xs ++ replicate n 0) i 0) there ∙ getD-append-add xs (replicate n 0) (j - length xs) 0 ∙ zeros n (j - length xs)
+
+-- the bytes of a number of four bytes, the lowest first
+pub long-bytes : (b : List ℕ) (at n : ℕ) → at + 3 < length b → n < 4294967296 → (j : ℕ) → j < 4 → byte (withLong b at n) (at + j) ≡ getD (four n) j 0
+long-bytes b at n l h j m =
+    let lower = wrote-word (wrote-none b at) at (n % 65536) (omega arith) (omega arith) (omega arith) in
+    wrote-word lower (at + 2) (n / 65536 % 65536) refl (omega arith) (omega arith) .bytes j m
+    ∙ below-at 4 (λ j. getD (two (n % 65536) ++ two (n / 65536 % 65536)) j 0 ≡ getD (four n) j 0)
+    ((((tt, omega arith), omega arith), omega arith), omega arith) j m

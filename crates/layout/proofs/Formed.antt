@@ -63,11 +63,13 @@ module _ (b : List ℕ) (bytes : Bytes b) (s : Sound b) where
   unfolding factsIn
   level-below l h = below-in allLevels (record { managed = false; reserved = false }) (levelIn b) l h
 
-  level-there : (mark : Level → Bool) → mark (record { managed = false; reserved = false }) ≡ false → (l : ℕ) → mark (factsIn b .level l) ≡ true → l < allLevels
+  level-there : (mark : Level → Bool) → mark (record { managed = false; reserved = false }) ≡ false → (l : ℕ) → mark (factsIn b .level l) ≡ true
+      → l < allLevels
   unfolding factsIn
   level-there mark not l e =
       by-cases (decLt l allLevels) (λ h. h)
-      (λ h. absurd (false≢true (sym not ∙ sym (ap mark (below-past allLevels (record { managed = false; reserved = false }) (levelIn b) l (omega arith))) ∙ e)))
+      (λ h. let past = below-past allLevels (record { managed = false; reserved = false }) (levelIn b) l (omega arith) in
+      absurd (false≢true (sym not ∙ sym (ap mark past) ∙ e)))
 
   level-managed : (l : ℕ) → l < allLevels → byte b (levelPlace l) ≡ 1 → factsIn b .level l .managed ≡ true
   unfolding levelIn

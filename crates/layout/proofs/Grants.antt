@@ -101,8 +101,9 @@ module _ {G : Type 0} (bytes : Option G → List ℕ) (first k : ℕ) (big : 2 �
     where
       there-or-not : (s : ℕ) → s < mostSeats → (o : Option G) → grants s ≡ o → here s ≡ grants s
       there-or-not s l none e =
-          zero-test (word b (first + s * k)) none (some (read s))
-          (omega (arith, first-word b (first + s * k) k (bytes (grants s)) (stands s l) big, none-bytes (grants s) e 0, none-bytes (grants s) e 1)) ∙ sym e
+          let client = first-word b (first + s * k) k (bytes (grants s)) (stands s l) big in
+          let zero-client : word b (first + s * k) ≡ 0 = omega (arith, client, none-bytes (grants s) e 0, none-bytes (grants s) e 1) in
+          zero-test (word b (first + s * k)) none (some (read s)) zero-client ∙ sym e
       there-or-not s l (some g) e =
           let r = are s g e (λ j m. stands s l j m ∙ ap (λ (o : Option G). getD (bytes o) j 0) e) in
           positive-test (word b (first + s * k)) none (some (read s)) (r .0) ∙ ap {B = Option G} some (r .1) ∙ sym e

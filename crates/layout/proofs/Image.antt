@@ -54,19 +54,10 @@ Sized [] = Unit {0}
 Sized (p ∷ ps) = ((i : ℕ) → length (p .bytes i) ≡ p .size) × Sized ps
 
 sized : (F : Facts) → Sized (parts F)
-sized F = (
-  (λ s. refl),
-  (
-    (λ l. refl),
-    (
-      (λ s. io-size (F .io s)),
-      (
-        (λ s. irq-size (F .irq s)),
-        ((λ i. client-size (getElem? (F .clients) i)), ((λ i. range-size (getElem? (F .ranges) i)), tt)),
-      ),
-    ),
-  ),
-)
+sized F =
+    let clients : (i : ℕ) → length (clientBytes (getElem? (F .clients) i)) ≡ clientSize = (λ i. client-size (getElem? (F .clients) i)) in
+    let ranges : (i : ℕ) → length (rangeBytes (getElem? (F .ranges) i)) ≡ rangeSize = (λ i. range-size (getElem? (F .ranges) i)) in
+    ((λ s. refl), ((λ l. refl), ((λ s. io-size (F .io s)), ((λ s. irq-size (F .irq s)), (clients, (ranges, tt))))))
 
 -- the parts one after the other, and what follows them
 abbrev joined : List Part → List ℕ

@@ -22,7 +22,8 @@ pub mod Ios
 pub mod Serve
 pub use Parts.{below-at}
 pub use Lists.{below-in, below-past}
-pub use Written.{byte-same, byte-other, word-length, word-low, word-high, word-other, long-length, long-other, long-bytes}
+pub use Written.{byte-same, byte-other, word-length, word-low, word-high, word-other, long-length, long-other}
+pub use Entered.{long-bytes}
 pub use Image.{image-length}
 pub use Shows.{shows-image}
 pub use Grants.{zero-test, positive-test, used-sound}

@@ -1,9 +1,10 @@
 -- Laws of listed facts: members, places, order, and facts that stand below a bound. Assumes nothing.
-use Rattle.facts.proofs.Words.{_≡_, refl, ap, ap₂, sym, _∙_, subst, subst⁻¹, subst₂, fun-ext, inl, inr, ⊎-elim, by-cases, _≢_, List, [], _∷_, _++_}
-use Rattle.facts.proofs.Words.{map, Bool, cond, Option, none, some, Option·some-injective, Option·none-ne-some, ℕ, zero, suc, _+_, _≤_, _<_, zero-le}
+use Rattle.facts.proofs.Words.{_≡_, refl, ap, ap₂, sym, _∙_, subst, subst⁻¹, fun-ext, inl, inr, ⊎-elim, by-cases, _≢_, List, [], _∷_, _++_, map, Bool}
+use Rattle.facts.proofs.Words.{cond, Option, none, some, Option·some-injective, Option·none-ne-some, ℕ, zero, suc, _+_, _≤_, _<_, zero-le}
 use Rattle.facts.proofs.Words.{not-suc-le-zero, le-of-suc-le-suc, decLt, arith, length, getElem?, length-append, lt-ltb, le-ltb}
 use Rattle.facts.specs.{Client, Range, _∈_, without, Rising, Apart, inserted}
 use Rattle.facts.proofs.{in-left, in-right, in-either, by-number, rising-over, rising-more, inserted-cases}
+use Rattle.facts.proofs.Sets.{apart-over}
 use Rattle.layout.specs.{upTo, below}
 use Rattle.layout.proofs.Parts.{below-or-last}
 
@@ -182,9 +183,8 @@ apart-upTo (suc n) f p h =
 pub apart-next : (lo : ℕ) (rs : List Range) (i : ℕ) (x y : Range) → Apart lo rs → getElem? rs i ≡ some x → getElem? rs (suc i) ≡ some y
     → x .base + x .count ≤ y .base
 apart-next lo [] i x y a e f = absurd (Option·none-ne-some x e)
-apart-next lo (c ∷ []) zero x y a e f = absurd (Option·none-ne-some y f)
-apart-next lo (c ∷ d ∷ rs) zero x y a e f =
-    subst₂ (λ (u v : Range). u .base + u .count ≤ v .base) (Option·some-injective c x e) (Option·some-injective d y f) (a .2 .0)
+apart-next lo (c ∷ rs) zero x y a e f =
+    subst (λ (u : Range). u .base + u .count ≤ y .base) (Option·some-injective c x e) (apart-over (c .base + c .count) rs (a .2) y (at-in rs zero f))
 apart-next lo (c ∷ rs) (suc i) x y a e f = apart-next (c .base + c .count) rs i x y (a .2) e f
 
 -- the later of two clients listed has the greater handle

@@ -34,7 +34,8 @@ record-below {i} {n} {j} {k} h l = omega (arith, mul-le-mul-right k h, suc-mul i
 -- and outside of each other record
 pub record-apart : {i s j k : ℕ} → i ≢ s → j < k → (i * k + j < s * k) ⊎ (s * k + k ≤ i * k + j)
 record-apart {i} {s} {j} {k} d l =
-    by-cases (decLt i s) (λ h. inl (record-below h l)) (λ h. let m : s < i = omega (arith, d) in inr (omega (arith, mul-le-mul-right k m, suc-mul s k)))
+    by-cases (decLt i s) (λ h. inl (record-below h l))
+    (λ h. let m : s < i = omega (arith, d) in inr (omega (arith, mul-le-mul-right k m, suc-mul s k)))
 
 -- each place among n records is a byte of one of them
 pub located : (at k n q : ℕ) → at ≤ q → q < at + n * k → (i : ℕ) × (i < n) × (j : ℕ) × (j < k) × (at + i * k + j ≡ q)

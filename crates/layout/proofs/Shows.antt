@@ -57,21 +57,18 @@ shown-same b b′ at (p ∷ ps) s t q l m =
     subst (λ (o : ℕ). byte b o ≡ byte b′ o) (r .4) (s .0 (r .0) (r .1) (r .2) (r .3) ∙ sym (t .0 (r .0) (r .1) (r .2) (r .3))))
     (λ h. shown-same b b′ (end at p) ps (s .1) (t .1) q (omega arith) m)
 
+heads-same : (b b′ : List ℕ) (F : Facts) → Heads F b → Heads F b′ → (q : ℕ) → q < 5 → byte b q ≡ byte b′ q
+heads-same b b′ F h k =
+    below-at 5 (λ q. byte b q ≡ byte b′ q)
+    (((((tt, h .0 ∙ sym (k .0)), h .1 ∙ sym (k .1)), h .2 ∙ sym (k .2)), h .3 ∙ sym (k .3)), h .4 ∙ sym (k .4))
+
 -- so they are the image
 pub shows-image : (F : Facts) (b : List ℕ) → Shows F b → image F ≡ b
-shows-image F b w = ext-getD 0 (image F) b (v .size ∙ sym (w .size)) (λ q l. same q (subst (λ (n : ℕ). q < n) (v .size) l))
-  where
-    v : Shows F (image F)
-    v = image-shows F
-
-    same : (q : ℕ) → q < tableSize → byte (image F) q ≡ byte b q
-    same q l =
-        by-cases (decLt q 5)
-        (below-at 5 (λ q. byte (image F) q ≡ byte b q) (
-          ((((tt, v .heads .0 ∙ sym (w .heads .0)), v .heads .1 ∙ sym (w .heads .1)), v .heads .2 ∙ sym (w .heads .2)), v .heads .3 ∙ sym (w .heads .3)),
-          v .heads .4 ∙ sym (w .heads .4),
-        ) q)
-        (λ h. shown-same (image F) b cardsAt (parts F) (v .shown) (w .shown) q (omega arith) l)
+shows-image F b w =
+    let v = image-shows F in
+    ext-getD 0 (image F) b (v .size ∙ sym (w .size))
+    (λ q l. by-cases (decLt q 5) (heads-same (image F) b F (v .heads) (w .heads) q)
+    (λ h. shown-same (image F) b cardsAt (parts F) (v .shown) (w .shown) q (omega arith) (subst (λ (n : ℕ). q < n) (v .size) l)))
 
 -- where the cth of the parts begins, those with other records in the cth, and that these stand there
 abbrev pub beginning : ℕ → ℕ → List Part → ℕ

@@ -68,7 +68,8 @@ module _ (b : List ℕ) (w : WellFormed (factsIn b)) (v : Shows (factsIn b) b) w
   mask-sound i l t h =
       let n = word b (maskPlace i t) in
       by-cases (ℕ-discrete n 0) inl
-      (λ u. let is = below-in mostSeats none (λ t. maskOf (word b (maskPlace i t))) t h ∙ positive-test n none (some (n - allEvents)) (omega (arith, u)) in
+      (λ u. let used = positive-test n none (some (n - allEvents)) (omega (arith, u)) in
+      let is = below-in mostSeats none (λ t. maskOf (word b (maskPlace i t))) t h ∙ used in
       let fits = w .clients (clientIn b i) (upTo-in (clientsIn b) (clientIn b) i l) .mask t (n - allEvents) is in
       let said = mask-word b i (clientIn b i) (client-row i l) t h
       ∙ ap (λ (o : Option ℕ). getD (maskBytes o) 0 0 + 256 * getD (maskBytes o) 1 0) is
@@ -183,5 +184,6 @@ module _ (b : List ℕ) (w : WellFormed (factsIn b)) (v : Shows (factsIn b) b) w
         ios = grants-placed ioBytes iosAt ioSize (omega arith) refl b (ioIn b) (IoSound b) (ios-are v) io-sound;
         irqs = grants-placed irqBytes irqsAt irqSize (omega arith) refl b (irqIn b) (IrqSound b) (irqs-are v) irq-sound;
         io-company = λ s t l h x y. w .io-company s t (ioIn b s) (ioIn b t) (λ e. omega (arith, e)) (io-here b s l x) (io-here b t (omega arith) y);
-        irq-company = λ s t l h x y. w .irq-company s t (irqIn b s) (irqIn b t) (λ e. omega (arith, e)) (irq-here b s l x) (irq-here b t (omega arith) y);
+        irq-company =
+            λ s t l h x y. w .irq-company s t (irqIn b s) (irqIn b t) (λ e. omega (arith, e)) (irq-here b s l x) (irq-here b t (omega arith) y);
       }

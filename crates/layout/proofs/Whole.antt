@@ -5,7 +5,7 @@ use Rattle.facts.specs.{Level, byte, word, long, Bytes, allEvents, allLevels, m
 use Rattle.layout.specs.{mark, two, maskBytes, clientBytes, levelBytes, rangeBytes, ioBytes, irqBytes, mannerByte, clientsIn, rangesIn, marked}
 use Rattle.layout.specs.{maskOf, maskPlace, mannerOf, clientPlace, rangePlace, levelPlace, ioPlace, irqPlace, clientIn, rangeIn, levelIn, ioIn}
 use Rattle.layout.specs.{irqIn, ioHere, irqHere, factsIn, MaskSound, IoSound, IrqSound, cardSize, cardsAt, clientSize, clientsAt, ioSize, iosAt}
-use Rattle.layout.specs.{irqSize, irqsAt, levelReservedAt, levelSize, levelsAt, rangeSize, rangesAt}
+use Rattle.layout.specs.{Zero, restAt, tableSize, irqSize, irqsAt, levelReservedAt, levelSize, levelsAt, rangeSize, rangesAt}
 use Rattle.layout.specs.Sound.{Sound}
 use Rattle.layout.proofs.Parts.{below-at, zeros}
 use Rattle.layout.proofs.Lists.{below-in, upTo-length}
@@ -50,18 +50,21 @@ module _ (b : List ℕ) (bytes : Bytes b) where
       let b₁ = bytes (p + o + 1) in
       let b₂ = bytes (p + o + 2) in
       let b₃ = bytes (p + o + 2 + 1) in
-      let last : p + (o + 3) ≡ p + o + 2 + 1 = omega arith in
-      (omega arith, ap (byte b) (sym (add-assoc p o 1)) ∙ omega arith, ap (byte b) (sym (add-assoc p o 2)) ∙ omega arith, ap (byte b) last ∙ omega arith)
+      let last : p + (o + 3) ≡ p + o + 2 + 1 = omega arith in (
+        omega arith,
+        ap (byte b) (sym (add-assoc p o 1)) ∙ omega arith,
+        ap (byte b) (sym (add-assoc p o 2)) ∙ omega arith,
+        ap (byte b) last ∙ omega arith,
+      )
 
   module _ (s : Sound b) where
     card-bytes : Stands b cardsAt (part mostSockets cardSize (λ i. mark (factsIn b .card i) ∷ []))
     unfolding factsIn
     card-bytes i l =
-        below-at 1 (λ j. byte b (cardsAt + i * 1 + j) ≡ getD (mark (factsIn b .card i) ∷ []) j 0) (
-          tt,
-          ap (byte b) (omega arith) ∙ mark-of (byte b (cardsAt + i)) (s .cards i l .mark)
-              ∙ ap mark (sym (below-in mostSockets false (λ s. marked (byte b (cardsAt + s))) i l)),
-        )
+        let place : cardsAt + i * 1 + 0 ≡ cardsAt + i = omega arith in
+        let is = below-in mostSockets false (λ s. marked (byte b (cardsAt + s))) i l in
+        below-at 1 (λ j. byte b (cardsAt + i * 1 + j) ≡ getD (mark (factsIn b .card i) ∷ []) j 0)
+        (tt, ap (byte b) place ∙ mark-of (byte b (cardsAt + i)) (s .cards i l .mark) ∙ ap mark (sym is))
 
     level-bytes : Stands b levelsAt (part allLevels levelSize (λ i. levelBytes (factsIn b .level i)))
     unfolding factsIn levelIn
@@ -135,26 +138,11 @@ module _ (b : List ℕ) (bytes : Bytes b) where
     pub whole : Shows (factsIn b) b
     unfolding factsIn
     whole =
+        let clients = sym (upTo-length (clientsIn b) (clientIn b)) in
+        let ranges = sym (upTo-length (rangesIn b) (rangeIn b)) in
+        let rest : Zero b restAt tableSize = (λ i l m. s .ranges-end i (omega (arith, s .ranges-most)) m) in
         record {
           size = s .size;
-          heads = (refl, sym (upTo-length (clientsIn b) (clientIn b)), sym (upTo-length (rangesIn b) (rangeIn b)), low 0 3, high 0 3);
-          shown = (
-            card-bytes,
-            (
-              level-bytes,
-              (
-                io-bytes,
-                (
-                  irq-bytes,
-                  (
-                    client-bytes,
-                    (
-                      range-bytes,
-                      λ i l m. s .ranges-end i (omega (arith, s .ranges-most)) m,
-                    ),
-                  ),
-                ),
-              ),
-            ),
-          );
+          heads = (refl, clients, ranges, low 0 3, high 0 3);
+          shown = (card-bytes, (level-bytes, (io-bytes, (irq-bytes, (client-bytes, (range-bytes, rest))))));
         }

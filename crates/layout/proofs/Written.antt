@@ -1,9 +1,7 @@
 -- The bytes of a table after a byte, or a number of two or of four bytes, is written. Assumes nothing.
-use Rattle.facts.proofs.Words.{_≡_, ap, sym, _∙_, _⊎_, inl, inr, _≢_, List, ℕ, _+_, _/_, _%_, _≤_, _<_, add-zero, add-assoc, arith, length, getD, set}
-use Rattle.facts.proofs.Words.{length-set, getD-set-same, getD-set-other}
+use Rattle.facts.proofs.Words.{_≡_, _∙_, _⊎_, inl, inr, _≢_, List, ℕ, _+_, _/_, _%_, _≤_, _<_, arith, length, set, length-set, getD-set-same}
+use Rattle.facts.proofs.Words.{getD-set-other}
 use Rattle.facts.specs.{byte, withWord, withLong}
-use Rattle.layout.specs.{four}
-use Rattle.layout.proofs.Parts.{below-at}
 
 pub byte-same : (b : List ℕ) (at v : ℕ) → at < length b → byte (set b at v) at ≡ v
 byte-same b at v l = getD-set-same b at v 0 l
@@ -40,27 +38,3 @@ module _ (b : List ℕ) (at n : ℕ) where
   long-other p (inr l) =
       word-other lower (at + 2) (n / 65536 % 65536) p (λ e. omega (arith, e)) (λ e. omega (arith, e))
       ∙ word-other b at (n % 65536) p (λ e. omega (arith, e)) (λ e. omega (arith, e))
-
-  -- its bytes, the lowest first
-  pub long-bytes : at + 3 < length b → n < 4294967296 → (j : ℕ) → j < 4 → byte (withLong b at n) (at + j) ≡ getD (four n) j 0
-  long-bytes l h =
-      below-at 4 (λ j. byte (withLong b at n) (at + j) ≡ getD (four n) j 0) (
-        (
-          (
-            (
-              tt,
-              ap (byte (withLong b at n)) (add-zero at)
-                  ∙ word-other lower (at + 2) (n / 65536 % 65536) at (λ e. omega (arith, e)) (λ e. omega (arith, e))
-                  ∙ word-low b at (n % 65536) (omega arith)
-                  ∙ omega arith,
-            ),
-            word-other lower (at + 2) (n / 65536 % 65536) (at + 1) (λ e. omega (arith, e)) (λ e. omega (arith, e))
-                ∙ word-high b at (n % 65536) (omega arith)
-                ∙ omega arith,
-          ),
-          word-low lower (at + 2) (n / 65536 % 65536) (omega (arith, word-length b at (n % 65536))) ∙ omega arith,
-        ),
-        ap (byte (withLong b at n)) (sym (add-assoc at 2 1))
-            ∙ word-high lower (at + 2) (n / 65536 % 65536) (omega (arith, word-length b at (n % 65536)))
-            ∙ omega arith,
-      )
