@@ -1,22 +1,18 @@
 -- How far a boot list comes: each record that is added is a level or a range more, and a table has no more than so many. Assumes nothing.
-use Rattle.facts.proofs.Words.{_≡_, by-cases, refl, ap, _∙_, _≢_, List, [], _∷_, Bool, true, false, ℕ, zero, suc, _+_, _≤_, _<_}
+use Rattle.facts.proofs.Words.{_≡_, cond, by-cases, refl, ap, _∙_, _≢_, List, [], _∷_, Bool, true, ℕ, zero, suc, _+_, _≤_, _<_}
 use Rattle.facts.proofs.Words.{not-suc-le-zero, decLt, ℕ-discrete, arith, eqb, length, WellFormed}
 use Rattle.facts.specs.{Code, Record, Facts, Level, put, Passed, reserveBit, Booted, ended, refused, added, recordAdded, recordChecks}
 use Rattle.facts.specs.{allLevels, mostRanges}
 use Rattle.facts.specs.Boot.{Boot}
-use Rattle.facts.proofs.Sets.{put-same, put-other}
+use Rattle.facts.proofs.Sets.{cond-cases, put-same, put-other}
+use Rattle.facts.proofs.Sharing.{at-most-one}
 use Rattle.facts.proofs.Told.{told}
 use Rattle.facts.proofs.Boot.{by-resource}
 use Rattle.facts.proofs.ResourcesStay.{inserted-more, boot-stays}
 
 -- one for a managed level, and how many of the first n are
 abbrev one : Bool → ℕ
-one true = 1
-one false = 0
-
-one-most : (t : Bool) → one t ≤ 1
-one-most true = omega arith
-one-most false = omega arith
+one t = cond t 1 0
 
 levelsBelow : ℕ → (ℕ → Level) → ℕ
 levelsBelow zero level = 0
@@ -25,15 +21,11 @@ levelsBelow (suc n) level = levelsBelow n level + one (level n .managed)
 levels-most : (n : ℕ) (level : ℕ → Level) → levelsBelow n level ≤ n
 unfolding levelsBelow
 levels-most zero level = omega arith
-levels-most (suc n) level = omega (arith, levels-most n level, one-most (level n .managed))
+levels-most (suc n) level = omega (arith, levels-most n level, at-most-one (level n .managed))
 
 module _ (level : ℕ → Level) (l : ℕ) (v : Level) (now : v .managed ≡ true) (free : level l .managed ≢ true) where
   unmanaged : one (level l .managed) ≡ 0
-  unmanaged = marked-or-not (level l .managed) free
-    where
-      marked-or-not : (t : Bool) → t ≢ true → one t ≡ 0
-      marked-or-not true d = absurd (d refl)
-      marked-or-not false d = refl
+  unmanaged = cond-cases (λ n. n ≡ 0) (level l .managed) 1 0 (λ e. absurd (free e)) (λ e. refl)
 
   levels-same : (n : ℕ) → n ≤ l → levelsBelow n (put level l v) ≡ levelsBelow n level
   unfolding levelsBelow

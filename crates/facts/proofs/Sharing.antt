@@ -2,7 +2,7 @@
 use Rattle.facts.proofs.Words.{Bool, cond, true, false, Option, none, some, ℕ, zero, suc, _≤_, arith, eqb, WellFormed}
 use Rattle.facts.specs.{Facts, IrqGrant, sharer, sharersBelow, mostSockets}
 
-at-most-one : (t : Bool) → cond t 1 0 ≤ 1
+pub at-most-one : (t : Bool) → cond t 1 0 ≤ 1
 at-most-one true = omega arith
 at-most-one false = omega arith
 

@@ -29,14 +29,20 @@ first-not-passed [] k r p = r
 first-not-passed (c ∷ cs) k (inl r) p = p .0 (r .0)
 first-not-passed (c ∷ cs) k (inr r) p = first-not-passed cs k (r .1) (p .1)
 
+-- of two that are each the one or the other: where they are not of different kinds
+both-ways : {A A′ B B′ E : Type 0} → (A → B′ → ⊥) → (B → A′ → ⊥) → (A → A′ → E) → (B → B′ → E) → A ⊎ B → A′ ⊎ B′ → E
+both-ways f g h k (inl a) (inl a′) = h a a′
+both-ways f g h k (inl a) (inr b′) = absurd (f a b′)
+both-ways f g h k (inr b) (inl a′) = absurd (g b a′)
+both-ways f g h k (inr b) (inr b′) = k b b′
+
 -- whatever kind of outcome has the code: any two that checks decide coincide, if any two kept do, and any two done
 module _ {O : Type 0} (code : O → Code) (cs : List Check) {kept : O → Type 0}
     (kept-same : (o o′ : O) → code o ≡ code o′ → kept o → kept o′ → o ≡ o′) where
   pub decided-then-coincide : {rest : O → Type 0} → Coincide rest → Coincide (λ (o : O). DecidedThen cs (code o) (kept o) (rest o))
-  decided-then-coincide u o o′ (inl r) (inl r′) = kept-same o o′ (first-unique cs (code o) (code o′) (r .0) (r′ .0)) (r .1) (r′ .1)
-  decided-then-coincide u o o′ (inl r) (inr r′) = absurd (first-not-passed cs (code o) (r .0) (r′ .0))
-  decided-then-coincide u o o′ (inr r) (inl r′) = absurd (first-not-passed cs (code o′) (r′ .0) (r .0))
-  decided-then-coincide u o o′ (inr r) (inr r′) = u o o′ (r .1) (r′ .1)
+  decided-then-coincide u o o′ =
+      both-ways (λ r r′. first-not-passed cs (code o) (r .0) (r′ .0)) (λ r r′. first-not-passed cs (code o′) (r′ .0) (r .0))
+      (λ r r′. kept-same o o′ (first-unique cs (code o) (code o′) (r .0) (r′ .0)) (r .1) (r′ .1)) (λ r r′. u o o′ (r .1) (r′ .1))
 
   pub decided-coincide : {done : O → Type 0} → ((o o′ : O) → code o ≡ code o′ → done o → done o′ → o ≡ o′)
       → Coincide (λ (o : O). Decided cs (code o) (kept o) (done o))
@@ -72,20 +78,15 @@ module _ (cs : List Check) {F : Facts} {p : List ℕ} where
 -- two rules of which no two outcomes are both permitted
 pub either-coincide : {R S : Outcome → Type 0} → ((o o′ : Outcome) → R o → S o′ → ⊥) → Coincide R → Coincide S
     → Coincide (λ (o : Outcome). R o ⊎ S o)
-either-coincide apart u v o o′ (inl r) (inl r′) = u o o′ r r′
-either-coincide apart u v o o′ (inl r) (inr r′) = absurd (apart o o′ r r′)
-either-coincide apart u v o o′ (inr r) (inl r′) = absurd (apart o′ o r′ r)
-either-coincide apart u v o o′ (inr r) (inr r′) = v o o′ r r′
+either-coincide apart u v o o′ = both-ways (apart o o′) (λ r r′. apart o′ o r′ r) (u o o′) (v o o′)
 
 pub under-coincide : {A : Type 0} {R : Outcome → Type 0} → Coincide R → Coincide (λ (o : Outcome). A × R o)
 under-coincide u o o′ r r′ = u o o′ (r .1) (r′ .1)
 
 -- the choices
 before-both : (Early : ℕ → Type 0) (x y : ℕ) → Before Early x y → Before Early y x → x ≡ y
-before-both Early x y (inl b) (inl b′) = absurd (b .1 (b′ .0))
-before-both Early x y (inl b) (inr b′) = absurd (b .1 (b′ .0 .1 (b .0)))
-before-both Early x y (inr b) (inl b′) = absurd (b′ .1 (b .0 .1 (b′ .0)))
-before-both Early x y (inr b) (inr b′) = omega arith
+before-both Early x y =
+    both-ways (λ b b′. b .1 (b′ .0 .1 (b .0))) (λ b b′. b′ .1 (b .0 .1 (b′ .0))) (λ b b′. absurd (b .1 (b′ .0))) (λ b b′. omega arith)
 
 pub chosen-unique : {Fit Early : ℕ → Type 0} {x y : ℕ} → Chosen Fit Early x → Chosen Fit Early y → x ≡ y
 chosen-unique {Fit} {Early} {x} {y} c d = before-both Early x y (c .first y (d .fits)) (d .first x (c .fits))
@@ -95,17 +96,13 @@ lowest-unique {Fit} {x} {y} c d = omega (arith, c .least y (d .fits), d .least x
 
 -- the level that is taken is one
 level-taken-unique : (F : Facts) (q : IrqAsked) (x y : ℕ) → LevelTaken F q x → LevelTaken F q y → x ≡ y
-level-taken-unique F q x y (inl t) (inl t′) = lowest-unique t t′
-level-taken-unique F q x y (inl t) (inr t′) = absurd (t′ .0 x (t .fits))
-level-taken-unique F q x y (inr t) (inl t′) = absurd (t .0 y (t′ .fits))
-level-taken-unique F q x y (inr t) (inr t′) = chosen-unique (t .1) (t′ .1)
+level-taken-unique F q x y =
+    both-ways (λ t t′. t′ .0 x (t .fits)) (λ t t′. t .0 y (t′ .fits)) lowest-unique (λ t t′. chosen-unique (t .1) (t′ .1))
 
 -- the base that is taken is one
 base-taken-unique : (F : Facts) (q : IoAsked) (x y : ℕ) → BaseTaken F q x → BaseTaken F q y → x ≡ y
-base-taken-unique F q x y (inl b) (inl b′) = cc
-base-taken-unique F q x y (inl b) (inr b′) = absurd (b .0 (b′ .0))
-base-taken-unique F q x y (inr b) (inl b′) = absurd (b′ .0 (b .0))
-base-taken-unique F q x y (inr b) (inr b′) = chosen-unique (b .1) (b′ .1)
+base-taken-unique F q x y =
+    both-ways (λ b b′. b .0 (b′ .0)) (λ b b′. b′ .0 (b .0)) (λ b b′. b .1 ∙ sym (b′ .1)) (λ b b′. chosen-unique (b .1) (b′ .1))
 
 -- of ranges apart from each other there is one at a base
 pub range-unique : (lo : ℕ) (rs : List Range) (r r′ : Range) → Apart lo rs → r ∈ rs → r′ ∈ rs → r .base ≡ r′ .base → r ≡ r′

@@ -11,7 +11,7 @@ pub use lib.Dec.{T, eqb, eqb→eq, leb, lit<, ltb, ltb→lt, nltb→le}
 pub use lib.ListN.{List·getD-append, List·getD-eq-default, drop, drop-of-length-le, getD, getD-replicate, getElem?, length, length-append}
 pub use lib.ListN.{length-drop, length-replicate, length-set, replicate, set, take, take-append-drop}
 pub use lib.Pow.{field, high, mod-mod-pow, ones-lt, ones-split, pow-add, pow-lt, pow-mono, pow-pos, shl-exact, shl-shr, shr-shr}
-pub use lib.Seq.{drop-at, drop-cons, drop-drop, ext-getD, getD-append-add, getD-append-seam, getD-drop, getD-set-other, getD-set-same, getD-take}
+pub use lib.Seq.{drop-at, drop-cons, drop-drop, ext-getD, getD-append-add, getD-append-seam, getD-drop, getD-set-other, getD-set-same}
 pub use lib.Seq.{length-take-le, take-suc-set}
 pub use mathlib.Core.Bool.{Bool, cond, false, false≢true, not, true, true≢false}
 pub use mathlib.Core.List.{List, [], _++_, _∷_, append-assoc, head-eq-of-cons-eq, map, nil≢cons, tail-eq-of-cons-eq}

@@ -87,17 +87,15 @@ high-first =
 
 -- a card of fourteen lines has no candidate there: it would answer 4000 above its own ports, too, where nothing is managed
 all-barred : NoCandidate alike (ioAsked (linesPacket 1 0x00 0x00 16 14))
-all-barred y c = either-way (managed-alike y (c .managed y first-own))
+all-barred y c =
+    ⊎-elim (λ l. ⊎-elim (λ m. omega (arith, l, m)) (λ m. omega (arith, l, m)) (image (omega (arith, l))))
+    (λ l. ⊎-elim (λ m. omega (arith, l, m)) (λ m. omega (arith, l, m)) (image (omega (arith, l)))) (managed-alike y (c .managed y first-own))
   where
     first-own : Within y y 16
     first-own = record { from = omega arith; below = omega arith }
 
     image : y < 0xC000 → ((0x300 ≤ y + 0x4000) × (y + 0x4000 < 0x310)) ⊎ ((0x8300 ≤ y + 0x4000) × (y + 0x4000 < 0x8310))
     image l = managed-alike _ (c .answers (y + 0x4000) (record { below = omega arith; own = y; own-in = first-own; equal = omega arith }))
-
-    either-way : ((0x300 ≤ y) × (y < 0x310)) ⊎ ((0x8300 ≤ y) × (y < 0x8310)) → ⊥
-    either-way (inl l) = ⊎-elim (λ m. omega (arith, l, m)) (λ m. omega (arith, l, m)) (image (omega (arith, l)))
-    either-way (inr l) = ⊎-elim (λ m. omega (arith, l, m)) (λ m. omega (arith, l, m)) (image (omega (arith, l)))
 
 -- on `boardsPorts` a card of four lines that is given 10 answers at managed ports alone: 2F8 to 2FF are others modulo 16
 ten-managed : (q own : ℕ) → q < 0x10000 → q % 16 ≡ own % 16 → Within own 0x10 8 → Managed boardsPorts q

@@ -1,54 +1,13 @@
--- What the bytes of a changed table show: other clients or ranges, another card, and a fresh table. Assumes nothing.
-use Rattle.facts.proofs.Words.{_≡_, by-cases, decLt, List·getD-eq-default, getD, refl, sym, _∙_, _⊎_, inl, _≢_, List, [], _∷_, Bool, ℕ, _+_, _*_, _≤_}
-use Rattle.facts.proofs.Words.{_<_, arith, length, getElem?, set}
+-- A table with another card, and a fresh table. Assumes nothing.
+use Rattle.facts.proofs.Words.{_≡_, by-cases, decLt, List·getD-eq-default, getD, refl, sym, _∙_, List, [], _∷_, Bool, ℕ, _+_, _*_, _≤_, _<_, arith}
+use Rattle.facts.proofs.Words.{length, set}
 use Rattle.layout.proofs.Of
-use Rattle.facts.specs.{Facts, Client, Range, fresh, put, byte, withClients, withRanges, withCard, mostClients, mostRanges, mostSockets}
-use Rattle.layout.specs.{image, mark, clientBytes, rangeBytes, Accepted, cardSize, cardsAt, clientSize, clientsAt, ioSize, irqSize, rangeSize}
-use Rattle.layout.specs.{rangesAt, restAt, tableSize}
-use Rattle.layout.proofs.Parts.{zeros}
-use Rattle.layout.proofs.Image.{Part, part, parts, end, Stands, Shown}
-use Rattle.layout.proofs.Shows.{Shows, shown-changed, wrote-image, put-stands}
+use Rattle.facts.specs.{fresh, put, byte, withCard, mostSockets}
+use Rattle.layout.specs.{image, mark, Accepted, cardSize, cardsAt, clientSize, ioSize, irqSize, rangeSize, tableSize}
+use Rattle.layout.proofs.Parts.{below-at, zeros}
+use Rattle.layout.proofs.Image.{Part, parts, end, Shown}
+use Rattle.layout.proofs.Shows.{Shows, headBytes, wrote-image, put-stands}
 use Rattle.layout.proofs.Entered.{wrote-none, wrote-byte}
-
--- other clients in place of those listed, or other ranges: their records and their number
-module _ (F : Facts) (b b′ : List ℕ) (w : Shows F b) (size : length b′ ≡ length b) where
-  pub clients-shown : (cs : List Client) → byte b′ 1 ≡ length cs
-      → Stands b′ clientsAt (part mostClients clientSize (λ i. clientBytes (getElem? cs i)))
-      → ((p : ℕ) → p ≢ 1 → (p < clientsAt) ⊎ (rangesAt ≤ p) → byte b′ p ≡ byte b p)
-      → Shows (withClients F cs) b′
-  clients-shown cs count records other =
-      let h = w .heads in
-      let kept : (q : ℕ) → q ≢ 1 → q < 5 → byte b′ q ≡ byte b q = (λ q d l. other q d (inl (omega arith))) in
-      record {
-        size = size ∙ w .size;
-        heads = (
-          kept 0 (λ e. omega (arith, e)) (omega arith) ∙ h .0,
-          count,
-          kept 2 (λ e. omega (arith, e)) (omega arith) ∙ h .2,
-          kept 3 (λ e. omega (arith, e)) (omega arith) ∙ h .3,
-          kept 4 (λ e. omega (arith, e)) (omega arith) ∙ h .4,
-        );
-        shown = shown-changed b b′ 4 (λ i. clientBytes (getElem? cs i)) cardsAt (parts F) (w .shown) (λ q l. other q (λ e. omega (arith, e))) records;
-      }
-
-  pub ranges-shown : (rs : List Range) → byte b′ 2 ≡ length rs
-      → Stands b′ rangesAt (part mostRanges rangeSize (λ i. rangeBytes (getElem? rs i)))
-      → ((p : ℕ) → p ≢ 2 → (p < rangesAt) ⊎ (restAt ≤ p) → byte b′ p ≡ byte b p)
-      → Shows (withRanges F rs) b′
-  ranges-shown rs count records other =
-      let h = w .heads in
-      let kept : (q : ℕ) → q ≢ 2 → q < 5 → byte b′ q ≡ byte b q = (λ q d l. other q d (inl (omega arith))) in
-      record {
-        size = size ∙ w .size;
-        heads = (
-          kept 0 (λ e. omega (arith, e)) (omega arith) ∙ h .0,
-          kept 1 (λ e. omega (arith, e)) (omega arith) ∙ h .1,
-          count,
-          kept 3 (λ e. omega (arith, e)) (omega arith) ∙ h .3,
-          kept 4 (λ e. omega (arith, e)) (omega arith) ∙ h .4,
-        );
-        shown = shown-changed b b′ 5 (λ i. rangeBytes (getElem? rs i)) cardsAt (parts F) (w .shown) (λ q l. other q (λ e. omega (arith, e))) records;
-      }
 
 -- a card's byte
 pub card-written : (b : List ℕ) (a : Accepted b) (s : ℕ) (v : Bool) → s < mostSockets → image (withCard (a .facts) s v) ≡ set b (cardsAt + s) (mark v)
@@ -74,7 +33,8 @@ pub fresh-shown : (n : ℕ) (b : List ℕ) → length b ≡ tableSize → byte b
 fresh-shown n b size count zero-past =
     record {
       size = size;
-      heads = (count, all 1 (omega arith), all 2 (omega arith), all 3 (omega arith), all 4 (omega arith));
+      heads = below-at 5 (λ j. byte b j ≡ getD (headBytes (fresh n)) j 0)
+          (((((tt, count), all 1 (omega arith)), all 2 (omega arith)), all 3 (omega arith)), all 4 (omega arith));
       shown = zero-shown b cardsAt (parts (fresh n)) empty (λ q l. all q (omega arith));
     }
   where

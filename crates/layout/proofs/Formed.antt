@@ -38,26 +38,6 @@ module _ (b : List ℕ) (bytes : Bytes b) (s : Sound b) where
         mask = λ t m e. mask-formed i t m l e;
       }
 
-  rises : (i : ℕ) → suc i < clientsIn b → clientIn b i .handle < clientIn b (suc i) .handle
-  unfolding clientIn
-  rises i l = s .clients (suc i) l .over
-
-  first-rises : 0 < clientsIn b → 0 < clientIn b 0 .handle
-  unfolding clientIn
-  first-rises l = s .clients 0 l .over
-
-  has-port : (i : ℕ) → i < rangesIn b → 1 ≤ rangeIn b i .count
-  unfolding rangeIn
-  has-port i l = s .ranges i l .port
-
-  lies-apart : (i : ℕ) → suc i < rangesIn b → rangeIn b i .base + rangeIn b i .count ≤ rangeIn b (suc i) .base
-  unfolding rangeIn
-  lies-apart i l = s .ranges (suc i) l .from
-
-  range-formed : (i : ℕ) → i < rangesIn b → rangeIn b i .base + rangeIn b i .count ≤ allPorts
-  unfolding rangeIn
-  range-formed i l = s .ranges i l .within
-
   -- a level below the bound is what its record says, and one past it is not managed
   level-below : (l : ℕ) → l < allLevels → factsIn b .level l ≡ levelIn b l
   unfolding factsIn
@@ -108,7 +88,7 @@ module _ (b : List ℕ) (bytes : Bytes b) (s : Sound b) where
       }
 
   pub formed : WellFormed (factsIn b)
-  unfolding factsIn ioHere irqHere
+  unfolding factsIn clientIn rangeIn ioHere irqHere
   formed =
       record {
         sockets-least = s .sockets-least;
@@ -116,14 +96,14 @@ module _ (b : List ℕ) (bytes : Bytes b) (s : Sound b) where
         cards = card-formed;
         issued = omega (arith, bytes 3, bytes 4);
         clients-most = omega (arith, upTo-length (clientsIn b) (clientIn b), s .clients-most);
-        handles = rising-upTo (clientsIn b) (clientIn b) first-rises rises;
+        handles = rising-upTo (clientsIn b) (clientIn b) (λ l. s .clients 0 l .over) (λ i l. s .clients (suc i) l .over);
         clients = λ c m. let r = in-upTo c (clientsIn b) (clientIn b) m in subst⁻¹ (ClientFits (factsIn b)) (r .2) (client-formed (r .0) (r .1));
         levels = level-there (λ (v : Level). v .managed) refl;
         reserved = level-reserved;
         ranges-most = omega (arith, upTo-length (rangesIn b) (rangeIn b), s .ranges-most);
-        apart = apart-upTo (rangesIn b) (rangeIn b) has-port lies-apart;
+        apart = apart-upTo (rangesIn b) (rangeIn b) (λ i l. s .ranges i l .port) (λ i l. s .ranges (suc i) l .from);
         ranges = λ r m. let i = in-upTo r (rangesIn b) (rangeIn b) m in
-            subst⁻¹ (λ (x : Range). x .base + x .count ≤ allPorts) (i .2) (range-formed (i .0) (i .1));
+            subst⁻¹ (λ (x : Range). x .base + x .count ≤ allPorts) (i .2) (s .ranges (i .0) (i .1) .within);
         ios = λ t g e. let i = grant-there ioBytes iosAt ioSize (omega arith) refl b (ioIn b) (IoSound b) (s .ios) t g e in
             subst (IoFits (factsIn b) t) (i .3) (io-fits t (i .2));
         irqs = λ t g e. let i = grant-there irqBytes irqsAt irqSize (omega arith) refl b (irqIn b) (IrqSound b) (s .irqs) t g e in

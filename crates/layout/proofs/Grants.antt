@@ -90,20 +90,22 @@ module _ {G : Type 0} (bytes : Option G → List ℕ) (first k : ℕ) (big : 2 �
         ∙ none-bytes (below mostSeats none here s) (unused-said s l z) (i - (first + s * k)))) (λ u. inr (u, sound s l u))
 
   -- grants whose records these are, and that are read off them, are what is read
-  pub grants-back : (grants : ℕ → Option G) → Stands b first (part mostSeats k (λ s. bytes (grants s)))
-      → ((s : ℕ) (g : G) → grants s ≡ some g → s < mostSeats)
-      → ((s : ℕ) (g : G) → grants s ≡ some g → ((j : ℕ) → j < k → byte b (first + s * k + j) ≡ getD (bytes (some g)) j 0)
-      → (0 < word b (first + s * k)) × (read s ≡ g))
+  pub grants-back : (client : G → ℕ) → ((s : ℕ) → client (read s) ≡ word b (first + s * k)) → (grants : ℕ → Option G)
+      → Stands b first (part mostSeats k (λ s. bytes (grants s)))
+      → ((s : ℕ) (g : G) → grants s ≡ some g → (s < mostSeats) × (0 < client g))
+      → ((s : ℕ) (g : G) → ((j : ℕ) → j < k → byte b (first + s * k + j) ≡ getD (bytes (some g)) j 0) → read s ≡ g)
       → below mostSeats none here ≡ grants
-  grants-back grants stands seated are =
+  grants-back client said grants stands fits whole =
       below-back mostSeats none here grants (λ s l. there-or-not s l (grants s) refl)
-      (λ s l. absent (grants s) (λ g e. omega (arith, seated s g e)))
+      (λ s l. absent (grants s) (λ g e. omega (arith, fits s g e .0)))
     where
       there-or-not : (s : ℕ) → s < mostSeats → (o : Option G) → grants s ≡ o → here s ≡ grants s
       there-or-not s l none e =
-          let client = first-word b (first + s * k) k (bytes (grants s)) (stands s l) big in
-          let zero-client : word b (first + s * k) ≡ 0 = omega (arith, client, none-bytes (grants s) e 0, none-bytes (grants s) e 1) in
-          zero-test (word b (first + s * k)) none (some (read s)) zero-client ∙ sym e
+          let n = first-word b (first + s * k) k (bytes (grants s)) (stands s l) big in
+          let unsaid : word b (first + s * k) ≡ 0 = omega (arith, n, none-bytes (grants s) e 0, none-bytes (grants s) e 1) in
+          zero-test (word b (first + s * k)) none (some (read s)) unsaid ∙ sym e
       there-or-not s l (some g) e =
-          let r = are s g e (λ j m. stands s l j m ∙ ap (λ (o : Option G). getD (bytes o) j 0) e) in
-          positive-test (word b (first + s * k)) none (some (read s)) (r .0) ∙ ap {B = Option G} some (r .1) ∙ sym e
+          let is = whole s g (λ j m. stands s l j m ∙ ap (λ (o : Option G). getD (bytes o) j 0) e) in
+          positive-test (word b (first + s * k)) none (some (read s)) (omega (arith, ap client is, said s, fits s g e .1))
+          ∙ ap {B = Option G} some is
+          ∙ sym e

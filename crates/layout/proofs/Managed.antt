@@ -1,7 +1,7 @@
 -- A table's ranges stand in order, and no two have a port in common; and a table with a range more, a range less, or a level changed is the image
 -- of the facts with that change. Assumes nothing.
-use Rattle.facts.proofs.Words.{_≡_, refl, ap, sym, _∙_, inl, inr, ⊎-elim, by-cases, _≢_, List, some, Option·some-injective, Option·none-ne-some, ℕ}
-use Rattle.facts.proofs.Words.{zero, suc, _+_, _-_, _≤_, _<_, decLt, arith, getElem?, set}
+use Rattle.facts.proofs.Words.{_≡_, length, refl, ap, sym, _∙_, inl, inr, ⊎-elim, by-cases, _≢_, List, some, Option·some-injective}
+use Rattle.facts.proofs.Words.{Option·none-ne-some, ℕ, zero, suc, _+_, _-_, _≤_, _<_, decLt, arith, getElem?, set}
 use Rattle.layout.proofs.Of
 use Rattle.facts.specs.{Level, Range, put, Within, withLevel, withRanges, inserted, withoutRange, rangeRemoved, allLevels, mostRanges}
 use Rattle.layout.specs.{image, mark, rangeBytes, levelBytes, rangesIn, rangePlace, levelPlace, rangeIn, Accepted, RangesSound, rangeBase}
@@ -9,9 +9,8 @@ use Rattle.layout.specs.{rangeCount, endBefore, TakenOut, PutIn, levelRe
 use Rattle.layout.proofs.Parts.{zeros}
 use Rattle.layout.proofs.Lists.{without-at, inserted-at, at-past, climb}
 use Rattle.layout.proofs.Records.{records-fewer, records-more}
-use Rattle.layout.proofs.Shows.{shows-image, levels-are, ranges-are, wrote-image, put-stands}
+use Rattle.layout.proofs.Shows.{listed-image, levels-are, ranges-are, wrote-image, put-stands}
 use Rattle.layout.proofs.Entered.{wrote-none, wrote-byte}
-use Rattle.layout.proofs.Changes.{ranges-shown}
 
 -- where the ith range ends
 abbrev pub rangeEnd : List ℕ → ℕ → ℕ
@@ -39,12 +38,10 @@ HasPort b i p = Within p (rangeBase b i) (rangeCount b i)
 
 -- a port lies in one range
 pub same-range : (b : List ℕ) → RangesSound b → (p i j : ℕ) → i < rangesIn b → j < rangesIn b → HasPort b i p → HasPort b j p → i ≡ j
-same-range b s p i j l m v w = below-or-above (decLt i j) (decLt j i)
-  where
-    below-or-above : Dec (i < j) → Dec (j < i) → i ≡ j
-    below-or-above (yes k) d = absurd (omega (arith, ends-before b s i j k m, v .below, w .from))
-    below-or-above (no n) (yes k) = absurd (omega (arith, ends-before b s j i k l, w .below, v .from))
-    below-or-above (no n) (no k) = omega arith
+same-range b s p i j l m v w =
+    let not-before : i < j → ⊥ = (λ k. omega (arith, ends-before b s i j k m, v .below, w .from)) in
+    let not-after : j < i → ⊥ = (λ k. omega (arith, ends-before b s j i k l, w .below, v .from)) in
+    omega arith
 
 -- a range that is listed has one of the table's places
 pub range-placed : (b : List ℕ) → Accepted b → (i : ℕ) → i < rangesIn b → i < mostRanges
@@ -67,11 +64,11 @@ module _ (b b′ : List ℕ) (a : Accepted b) where
       let base = rangeBase b i in
       let more = without-at (λ (r : Range). r .base) base ranges i (rangeIn b i) (Of.range-of b a i l) (Of.range-base b a i)
       (λ k y m e q. omega (arith, said k y e (omega arith), q, bases-rise b (Of.sound-in b a .ranges) k i m l)) in
-      shows-image (rangeRemoved (a .facts) base) b′
-      (ranges-shown (a .facts) b b′ w (d .size) (withoutRange base ranges) (omega (arith, d .fewer, Of.ranges-in b a, more .longer))
-      (records-fewer rangeBytes rangesAt rangeSize mostRanges (zeros rangeSize) ranges (withoutRange base ranges) b b′ i (rangeIn b i) (ranges-are w)
-      (λ p m n. d .other p (λ q. omega (arith, q)) (inl n)) more (a .formed .ranges-most) (d .moved) (d .last))
-      (λ p n o. d .other p n (⊎-elim (λ m. inl (omega arith)) inr o)))
+      let fewer = withoutRange base ranges in
+      listed-image b′ (rangeRemoved (a .facts) base) 5 2 (length fewer) (λ k. rangeBytes (getElem? fewer k)) w (d .size) (omega arith)
+      (omega (arith, d .fewer, Of.ranges-in b a, more .longer)) (λ p n o. d .other p n (⊎-elim (λ m. inl (omega arith)) inr o))
+      (records-fewer rangeBytes rangesAt rangeSize mostRanges (zeros rangeSize) ranges fewer b b′ i (rangeIn b i) (ranges-are w)
+      (λ p m n. d .other p (λ q. omega (arith, q)) (inl n)) more (a .formed .ranges-most) (d .moved) (d .last)) (λ h t. (h, t))
 
   -- the range r put in at the place i, after those whose base is not over its own
   pub range-put-in : (r : Range) (i : ℕ) → i ≤ rangesIn b → ((j : ℕ) → j < i → rangeBase b j ≤ r .base)
@@ -84,11 +81,11 @@ module _ (b b′ : List ℕ) (a : Accepted b) where
       (λ n. omega (arith, said j y e n, high j m n))
       (λ n. absurd (Option·none-ne-some y (sym (at-past ranges j (omega (arith, Of.ranges-in b a))) ∙ e)))) in
       let more = inserted-at r ranges i (omega (arith, Of.ranges-in b a)) (λ j y m e. omega (arith, said j y e (omega arith), low j m)) over in
-      shows-image (withRanges (a .facts) (inserted r ranges)) b′
-      (ranges-shown (a .facts) b b′ w (d .size) (inserted r ranges) (omega (arith, d .more, Of.ranges-in b a, more .longer))
-      (records-more rangeBytes rangesAt rangeSize mostRanges (zeros rangeSize) ranges (inserted r ranges) b b′ i r (ranges-are w)
-      (λ p m n. d .other p (λ q. omega (arith, q)) (inl n)) more (d .new) (d .moved))
-      (λ p n o. d .other p n (⊎-elim (λ m. inl (omega arith)) inr o)))
+      let all = inserted r ranges in
+      listed-image b′ (withRanges (a .facts) all) 5 2 (length all) (λ k. rangeBytes (getElem? all k)) w (d .size) (omega arith)
+      (omega (arith, d .more, Of.ranges-in b a, more .longer)) (λ p n o. d .other p n (⊎-elim (λ m. inl (omega arith)) inr o))
+      (records-more rangeBytes rangesAt rangeSize mostRanges (zeros rangeSize) ranges all b b′ i r (ranges-are w)
+      (λ p m n. d .other p (λ q. omega (arith, q)) (inl n)) more (d .new) (d .moved)) (λ h t. (h, t))
 
   -- a level's marks
   pub level-written : (l : ℕ) (v : Level) → l < allLevels

@@ -1,5 +1,5 @@
 -- A client's mask and its word: what the word says, and the table with another word there. Assumes nothing.
-use Rattle.facts.proofs.Words.{_≡_, refl, ap, sym, _∙_, subst, inl, inr, ⊎-elim, by-cases, _≢_, List, Bool, cond, Option, none, some}
+use Rattle.facts.proofs.Words.{_≡_, subst⁻¹, set, refl, ap, sym, _∙_, subst, inl, inr, ⊎-elim, by-cases, _≢_, List, Bool, cond, Option, none, some}
 use Rattle.facts.proofs.Words.{Option·some-injective, Option·none-ne-some, ℕ, _+_, _-_, _<_, decLt, arith, length, getD, getElem?, eqb, eq-eqb}
 use Rattle.facts.proofs.Words.{ne-eqb}
 use Rattle.layout.proofs.Of
@@ -14,7 +14,7 @@ use Rattle.layout.proofs.Lists.{below-in, at-in, in-at, at-below, at-pa
 use Rattle.layout.proofs.RoundTrip.{masks-stand, client-stands}
 use Rattle.layout.proofs.Grants.{zero-test, positive-test}
 use Rattle.layout.proofs.Image.{client-size, mask-size}
-use Rattle.layout.proofs.Shows.{clients-are, wrote-image, put-stands}
+use Rattle.layout.proofs.Shows.{Heads, headBytes, clients-are, wrote-image, put-stands}
 use Rattle.layout.proofs.Entered.{Wrote, wrote-none, wrote-word}
 
 -- the client listed in the place i, whose handle is h
@@ -123,4 +123,4 @@ module _ (b : List ℕ) (a : Accepted b) (i h : ℕ) (l : i < clientsIn b) (e : 
         (omega (arith, listed, client-size (some new)))
         (λ k m j q. put-stands clientBytes (getElem? (a .facts .clients)) i (some new) clientsAt mostClients clientSize (client-size (some new))
         (clients-are (Of.shows-in b a)) record-wrote k m j q ∙ ap (λ (c : Option Client). getD (clientBytes c) j 0) (sym (masked-at k)))
-        (λ h t. ((h .0, h .1 ∙ sym (length-map as-masked (a .facts .clients)), h .2, h .3, h .4), t))
+        (λ h t. (subst⁻¹ (λ (n : ℕ). Heads (set (headBytes (a .facts)) 1 n) changed) (length-map as-masked (a .facts .clients)) h, t))

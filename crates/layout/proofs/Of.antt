@@ -1,6 +1,6 @@
 -- What the bytes of an accepted table say of its facts. Assumes nothing.
-use Rattle.facts.proofs.Words.{_≡_, refl, ap, sym, _∙_, subst, List, false, none, some, Option·some-injective, ℕ, _<_, _+_, decLt, arith, length}
-use Rattle.facts.proofs.Words.{getElem?, WellFormed}
+use Rattle.facts.proofs.Words.{_≡_, refl, ap, sym, _∙_, subst, List, false, none, some, Option·some-injective, ℕ, _<_, _+_, arith, length, getElem?}
+use Rattle.facts.proofs.Words.{WellFormed}
 use Rattle.facts.specs.{Facts, Client, Range, _∈_, Managed, byte, Live, allLevels, mostSeats, mostSockets}
 use Rattle.layout.specs.{socketsIn, clientsIn, rangesIn, issuedIn, handleIn, clientIn, ioIn, upTo, marked, levelIn, rangeIn, factsIn, Accepted}
 use Rattle.layout.specs.{LiveIn, ManagedIn, IoUsed, rangeBase, rangeCount, cardsAt, tableSize}
@@ -27,16 +27,16 @@ module _ (b : List ℕ) (a : Accepted b) where
   size-in = shows-in .size
 
   pub sockets-in : socketsIn b ≡ a .facts .sockets
-  sockets-in = shows-in .heads .0
+  sockets-in = shows-in .heads 0 (omega arith)
 
   pub clients-in : clientsIn b ≡ length (a .facts .clients)
-  clients-in = shows-in .heads .1
+  clients-in = shows-in .heads 1 (omega arith)
 
   pub ranges-in : rangesIn b ≡ length (a .facts .ranges)
-  ranges-in = shows-in .heads .2
+  ranges-in = shows-in .heads 2 (omega arith)
 
   pub issued-in : issuedIn b ≡ a .facts .issued
-  issued-in = omega (arith, shows-in .heads .3, shows-in .heads .4)
+  issued-in = omega (arith, shows-in .heads 3 (omega arith), shows-in .heads 4 (omega arith))
 
   -- the ith client
   pub client-at : (i : ℕ) → i < clientsIn b → getElem? (a .facts .clients) i ≡ some (clientIn b i)
@@ -60,12 +60,10 @@ module _ (b : List ℕ) (a : Accepted b) where
   -- handles differ: a client with the handle of the ith is the ith
   pub same-client : (i j : ℕ) (x y : Client) → getElem? (a .facts .clients) i ≡ some x → getElem? (a .facts .clients) j ≡ some y
       → x .handle ≡ y .handle → i ≡ j
-  same-client i j x y p q e = below-or-above (decLt i j) (decLt j i)
-    where
-      below-or-above : Dec (i < j) → Dec (j < i) → i ≡ j
-      below-or-above (yes l) d = absurd (omega (arith, e, rising-before 0 (a .facts .clients) i j x y (a .formed .handles) l p q))
-      below-or-above (no l) (yes m) = absurd (omega (arith, e, rising-before 0 (a .facts .clients) j i y x (a .formed .handles) m q p))
-      below-or-above (no l) (no m) = omega arith
+  same-client i j x y p q e =
+      let not-before : i < j → ⊥ = (λ l. omega (arith, e, rising-before 0 (a .facts .clients) i j x y (a .formed .handles) l p q)) in
+      let not-after : j < i → ⊥ = (λ l. omega (arith, e, rising-before 0 (a .facts .clients) j i y x (a .formed .handles) l q p)) in
+      omega arith
 
   -- a seat's I/O grant is the one that its record says, or none
   pub io-said : (s : ℕ) → s < mostSeats → IoUsed b s → a .facts .io s ≡ some (ioIn b s)

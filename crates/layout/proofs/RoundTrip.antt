@@ -1,6 +1,6 @@
 -- What is read off the image of a well-formed set is that set, so no two sets share an image. Assumes nothing.
-use Rattle.facts.proofs.Words.{_≡_, refl, ap, ap₂, sym, _∙_, subst, subst⁻¹, by-cases, List, _++_, Bool, true, false, Option, none, some, ℕ, _+_, _*_}
-use Rattle.facts.proofs.Words.{_-_, _/_, _%_, _≤_, _<_, add-assoc, decLt, arith, length, getD, getElem?, WellFormed}
+use Rattle.facts.proofs.Words.{_≡_, refl, ap, ap₂, sym, _∙_, subst, by-cases, List, _++_, Bool, true, false, Option, none, some, ℕ, _+_, _*_, _-_}
+use Rattle.facts.proofs.Words.{_/_, _%_, _≤_, _<_, add-assoc, decLt, arith, length, getD, getElem?, WellFormed}
 use Rattle.layout.proofs.Image
 use Rattle.facts.specs.{Manner, Exclusive, TimeMultiplexed, DynamicLevel, DynamicPulse, Facts, Client, Range, IoGrant, IrqGrant, byte, word, Live}
 use Rattle.facts.specs.{allEvents, allLevels, mostSeats, mostSockets}
@@ -149,18 +149,14 @@ module _ (F : Facts) (w : WellFormed F) {b : List ℕ} (v : Shows F b) where
   ios-back : below mostSeats none (ioHere b) ≡ F .io
   unfolding ioHere ioIn
   ios-back =
-      grants-back ioBytes iosAt ioSize (omega arith) refl b (ioIn b) (F .io) (ios-are v)
-      (λ s g e. omega (arith, w .ios s g e .socket, w .sockets-most))
-      (λ s g e at. let is = io-whole b s g at in
-      (subst⁻¹ (λ (x : IoGrant). 0 < x .client) is (live-positive w (w .ios s g e .client)), is))
+      grants-back ioBytes iosAt ioSize (omega arith) refl b (ioIn b) (λ g. g .client) (λ s. refl) (F .io) (ios-are v)
+      (λ s g e. let f = w .ios s g e in (omega (arith, f .socket, w .sockets-most), live-positive w (f .client))) (io-whole b)
 
   irqs-back : below mostSeats none (irqHere b) ≡ F .irq
   unfolding irqHere irqIn
   irqs-back =
-      grants-back irqBytes irqsAt irqSize (omega arith) refl b (irqIn b) (F .irq) (irqs-are v)
-      (λ s g e. omega (arith, w .irqs s g e .socket, w .sockets-most))
-      (λ s g e at. let is = irq-whole b s g at in
-      (subst⁻¹ (λ (x : IrqGrant). 0 < x .client) is (live-positive w (w .irqs s g e .client)), is))
+      grants-back irqBytes irqsAt irqSize (omega arith) refl b (irqIn b) (λ g. g .client) (λ s. refl) (F .irq) (irqs-are v)
+      (λ s g e. let f = w .irqs s g e in (omega (arith, f .socket, w .sockets-most), live-positive w (f .client))) (irq-whole b)
 
   -- the ith client's record is the ith client, and the ith range's the ith range
   client-is : (i : ℕ) (c : Client) → getElem? (F .clients) i ≡ some c → i < length (F .clients) → clientIn b i ≡ c
@@ -177,14 +173,14 @@ module _ (F : Facts) (w : WellFormed F) {b : List ℕ} (v : Shows F b) where
   unfolding factsIn
   shown-back =
       let head = v .heads in
-      let issued : word b 3 ≡ F .issued = omega (arith, head .3, head .4) in
+      let issued : word b 3 ≡ F .issued = omega (arith, head 3 (omega arith), head 4 (omega arith)) in
       λ k. record {
-        sockets = head .0 k;
+        sockets = head 0 (omega arith) k;
         card = cards-back k;
         issued = issued k;
-        clients = (ap (λ (n : ℕ). upTo n (clientIn b)) (head .1) ∙ listed (F .clients) (clientIn b) client-is) k;
+        clients = (ap (λ (n : ℕ). upTo n (clientIn b)) (head 1 (omega arith)) ∙ listed (F .clients) (clientIn b) client-is) k;
         level = levels-back k;
-        ranges = (ap (λ (n : ℕ). upTo n (rangeIn b)) (head .2) ∙ listed (F .ranges) (rangeIn b) range-is) k;
+        ranges = (ap (λ (n : ℕ). upTo n (rangeIn b)) (head 2 (omega arith)) ∙ listed (F .ranges) (rangeIn b) range-is) k;
         io = ios-back k;
         irq = irqs-back k;
       }

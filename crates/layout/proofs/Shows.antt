@@ -1,6 +1,6 @@
 -- Bytes that show a set of facts, part by part, are its image; and what is shown by bytes that are changed in one part. Assumes nothing.
-use Rattle.facts.proofs.Words.{_≡_, refl, ap, sym, _∙_, subst, _⊎_, inl, inr, ⊎-elim, by-cases, List, [], _∷_, ℕ, zero, suc, _+_, _*_, _/_, _%_, _≤_}
-use Rattle.facts.proofs.Words.{_<_, decLt, arith, length, getD, getElem?, ext-getD}
+use Rattle.facts.proofs.Words.{_≡_, _≢_, subst⁻¹, set, ℕ-discrete, getD-set-same, getD-set-other, refl, ap, sym, _∙_, subst, _⊎_, inl, inr, ⊎-elim}
+use Rattle.facts.proofs.Words.{by-cases, List, [], _∷_, ℕ, zero, suc, _+_, _*_, _/_, _%_, _≤_, _<_, decLt, arith, length, getD, getElem?, ext-getD}
 use Rattle.facts.specs.{Facts, put, byte, allLevels, mostClients, mostRanges, mostSockets, mostSeats}
 use Rattle.facts.proofs.Sets.{put-all}
 use Rattle.layout.specs.{mark, clientBytes, levelBytes, rangeBytes, ioBytes, irqBytes, head, image, cardsAt, clientSize, clientsAt, ioSize}
@@ -10,20 +10,26 @@ use Rattle.layout.proofs.Image.{Part, part, parts, end, Stands, Shown, 
 use Rattle.layout.proofs.Entered.{Wrote}
 
 -- the five bytes of the head
-abbrev pub Heads : Facts → List ℕ → Type 0
-Heads F b =
-    (byte b 0 ≡ F .sockets) × (byte b 1 ≡ length (F .clients)) × (byte b 2 ≡ length (F .ranges)) × (byte b 3 ≡ F .issued % 256)
-    × (byte b 4 ≡ F .issued / 256)
+abbrev pub headBytes : Facts → List ℕ
+headBytes F = F .sockets ∷ length (F .clients) ∷ length (F .ranges) ∷ F .issued % 256 ∷ F .issued / 256 ∷ []
+
+abbrev pub Heads : List ℕ → List ℕ → Type 0
+Heads xs b = (j : ℕ) → j < 5 → byte b j ≡ getD xs j 0
 
 pub record Shows (F : Facts) (b : List ℕ) : Type 0 where
   pub size : length b ≡ tableSize
-  pub heads : Heads F b
+  pub heads : Heads (headBytes F) b
   pub shown : Shown b cardsAt (parts F)
 
 -- the image shows its set
 pub image-shows : (F : Facts) → Shows F (image F)
 unfolding image head
-image-shows F = record { size = image-length F; heads = (refl, refl, refl, refl, refl); shown = image-shown F }
+image-shows F =
+    record {
+      size = image-length F;
+      heads = below-at 5 (λ j. byte (image F) j ≡ getD (headBytes F) j 0) (((((tt, refl), refl), refl), refl), refl);
+      shown = image-shown F;
+    }
 
 -- what each part shows
 module _ {F : Facts} {b : List ℕ} (w : Shows F b) where
@@ -57,17 +63,12 @@ shown-same b b′ at (p ∷ ps) s t q l m =
     subst (λ (o : ℕ). byte b o ≡ byte b′ o) (r .4) (s .0 (r .0) (r .1) (r .2) (r .3) ∙ sym (t .0 (r .0) (r .1) (r .2) (r .3))))
     (λ h. shown-same b b′ (end at p) ps (s .1) (t .1) q (omega arith) m)
 
-heads-same : (b b′ : List ℕ) (F : Facts) → Heads F b → Heads F b′ → (q : ℕ) → q < 5 → byte b q ≡ byte b′ q
-heads-same b b′ F h k =
-    below-at 5 (λ q. byte b q ≡ byte b′ q)
-    (((((tt, h .0 ∙ sym (k .0)), h .1 ∙ sym (k .1)), h .2 ∙ sym (k .2)), h .3 ∙ sym (k .3)), h .4 ∙ sym (k .4))
-
 -- so they are the image
 pub shows-image : (F : Facts) (b : List ℕ) → Shows F b → image F ≡ b
 shows-image F b w =
     let v = image-shows F in
     ext-getD 0 (image F) b (v .size ∙ sym (w .size))
-    (λ q l. by-cases (decLt q 5) (heads-same (image F) b F (v .heads) (w .heads) q)
+    (λ q l. by-cases (decLt q 5) (λ h. v .heads q h ∙ sym (w .heads q h))
     (λ h. shown-same (image F) b cardsAt (parts F) (v .shown) (w .shown) q (omega arith) (subst (λ (n : ℕ). q < n) (v .size) l)))
 
 -- where the cth of the parts begins, those with other records in the cth, and that these stand there
@@ -110,25 +111,34 @@ module _ (b b′ : List ℕ) where
     shown-changed c f (end at p) ps (s .1) (λ q l. kept q (omega arith)) new,
   )
 
--- the bytes of the head, where they are not changed
-pub heads-kept : {F : Facts} {b : List ℕ} → Shows F b → (b′ : List ℕ) → ((q : ℕ) → q < 5 → byte b′ q ≡ byte b q) → Heads F b′
-heads-kept w b′ kept =
-    let h = w .heads in
-    (kept 0 (omega arith) ∙ h .0, kept 1 (omega arith) ∙ h .1, kept 2 (omega arith) ∙ h .2, kept 3 (omega arith) ∙ h .3, kept 4 (omega arith) ∙ h .4)
-
 -- only bytes of the cth part are written, which has other records then: the table is the image of the facts G that have those
 pub wrote-image : {F : Facts} {b b′ : List ℕ} {p : ℕ} {x : List ℕ} (G : Facts) (c : ℕ) (f : ℕ → List ℕ) → Shows F b → Wrote b p x b′
     → beginning c cardsAt (parts F) ≤ p
     → p + length x ≤ beginning (suc c) cardsAt (parts F)
     → Changed b′ c f cardsAt (parts F)
-    → (Heads F b′ → Shown b′ cardsAt (changing c f (parts F)) → Heads G b′ × Shown b′ cardsAt (parts G))
+    → (Heads (headBytes F) b′ → Shown b′ cardsAt (changing c f (parts F)) → Heads (headBytes G) b′ × Shown b′ cardsAt (parts G))
     → image G ≡ b′
 wrote-image {F} {b} {b′} G c f w wrote from to new so =
-    let heads = heads-kept w b′ (λ q l. wrote .other q (inl (omega (arith, begins-past c cardsAt (parts F))))) in
-    let shown = shown-changed b b′ c f cardsAt (parts F) (w .shown)
-    (λ q l. ⊎-elim (λ m. wrote .other q (inl (omega arith))) (λ m. wrote .other q (inr (omega arith)))) new in
-    let r = so heads shown in
+    let r = so (λ j l. wrote .other j (inl (omega (arith, begins-past c cardsAt (parts F)))) ∙ w .heads j l)
+    (shown-changed b b′ c f cardsAt (parts F) (w .shown)
+    (λ q l. ⊎-elim (λ m. wrote .other q (inl (omega arith))) (λ m. wrote .other q (inr (omega arith)))) new) in
     shows-image G b′ (record { size = wrote .size ∙ w .size; heads = r .0; shown = r .1 })
+
+-- the cth part has other records, and the number at n in the head is v
+pub listed-image : {F : Facts} {b : List ℕ} (b′ : List ℕ) (G : Facts) (c n v : ℕ) (f : ℕ → List ℕ) → Shows F b → length b′ ≡ length b → n < 5
+    → byte b′ n ≡ v
+    → ((p : ℕ) → p ≢ n → (p < beginning c cardsAt (parts F)) ⊎ (beginning (suc c) cardsAt (parts F) ≤ p) → byte b′ p ≡ byte b p)
+    → Changed b′ c f cardsAt (parts F)
+    → (Heads (set (headBytes F) n v) b′ → Shown b′ cardsAt (changing c f (parts F)) → Heads (headBytes G) b′ × Shown b′ cardsAt (parts G))
+    → image G ≡ b′
+listed-image {F} {b} b′ G c n v f w size low number other new so =
+    let head = headBytes F in
+    let there = number ∙ sym (getD-set-same head n v 0 low) in
+    let r = so
+    (λ j l. by-cases (ℕ-discrete j n) (λ e. subst⁻¹ (λ (i : ℕ). byte b′ i ≡ getD (set head n v) i 0) e there)
+    (λ d. other j d (inl (omega (arith, begins-past c cardsAt (parts F)))) ∙ w .heads j l ∙ sym (getD-set-other head n j v 0 d)))
+    (shown-changed b b′ c f cardsAt (parts F) (w .shown) (λ q l. other q (λ e. omega (arith, e))) new) in
+    shows-image G b′ (record { size = size ∙ w .size; heads = r .0; shown = r .1 })
 
 -- the record of x is written in the place s: the part has x there
 pub put-stands : {A : Type 0} (bytes : A → List ℕ) (f : ℕ → A) (s : ℕ) (x : A) (at n k : ℕ) {b b′ : List ℕ} → length (bytes x) ≡ k

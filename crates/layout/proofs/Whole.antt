@@ -10,7 +10,7 @@ use Rattle.layout.specs.Sound.{Sound}
 use Rattle.layout.proofs.Parts.{below-at, zeros}
 use Rattle.layout.proofs.Lists.{below-in, upTo-length}
 use Rattle.layout.proofs.Image.{part, Stands}
-use Rattle.layout.proofs.Shows.{Shows}
+use Rattle.layout.proofs.Shows.{Shows, headBytes}
 use Rattle.layout.proofs.Records.{listed-stand}
 use Rattle.layout.proofs.Grants.{zero-test, positive-test, grants-stand}
 use Rattle.layout.proofs.RoundTrip.{client-stands}
@@ -143,6 +143,6 @@ module _ (b : List ℕ) (bytes : Bytes b) where
         let rest : Zero b restAt tableSize = (λ i l m. s .ranges-end i (omega (arith, s .ranges-most)) m) in
         record {
           size = s .size;
-          heads = (refl, clients, ranges, low 0 3, high 0 3);
+          heads = below-at 5 (λ j. byte b j ≡ getD (headBytes (factsIn b)) j 0) (((((tt, refl), clients), ranges), low 0 3), high 0 3);
           shown = (card-bytes, (level-bytes, (io-bytes, (irq-bytes, (client-bytes, (range-bytes, rest))))));
         }
