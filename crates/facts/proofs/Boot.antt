@@ -60,10 +60,9 @@ module _ (b : List ℕ) where
   end-whole e = ap codeAfter (eq-eqb (length b % recordSize) 0 e)
 
   pub end-more : recordSize ≤ length b → endOf b ≡ endOf (drop recordSize b)
-  end-more full = ap (λ (n : ℕ). codeAfter (eqb n 0)) same
-    where
-      same : length b % recordSize ≡ length (drop recordSize b) % recordSize
-      same = omega (arith, length-drop recordSize b)
+  end-more full =
+      let same : length b % recordSize ≡ length (drop recordSize b) % recordSize = omega (arith, length-drop recordSize b) in
+      ap (λ (n : ℕ). codeAfter (eqb n 0)) same
 
   pub whole-end : endOf b ≡ Success → length b % recordSize ≡ 0
   whole-end e = told (ℕ-discrete (length b % recordSize) 0) (λ d. omega (arith, ap numberOf (sym (end-broken d) ∙ e)))

@@ -154,17 +154,18 @@ module _ (F : Facts) (w : WellFormed F) where
       still-irq : G .level ≡ F .level → (t : ℕ) (g : IrqGrant) → IrqFits F t g → IrqFits G t g
       still-irq level t g f = irq-fits F G sockets t g (still-lives (f .client)) (ap (λ (v : ℕ → Level). v (g .level) .managed) level ∙ f .managed) f
 
-  levels-formed : LevelsFormed F
-  levels-formed = (w .levels, w .reserved)
+  -- levels and ranges that are kept are well formed
+  levels-kept : LevelsFormed F
+  levels-kept = (w .levels, w .reserved)
 
-  all-ranges : RangesFormed F
-  all-ranges = (w .ranges-most, w .apart, w .ranges)
+  ranges-kept : RangesFormed F
+  ranges-kept = (w .ranges-most, w .apart, w .ranges)
 
   pub card-formed : (s : ℕ) (v : Bool) → s < F .sockets → WellFormed (withCard F s v)
   card-formed s v l =
       let G = withCard F s v in
       by-parts G refl (put-all (λ (t : ℕ) (x : Bool). x ≡ true → t < F .sockets) (F .card) s v (λ e. l) (λ t d. w .cards t))
-      (clients-kept G refl refl refl) levels-formed all-ranges ((λ t g e. still-io G refl refl refl t g (w .ios t g e)), w .io-company)
+      (clients-kept G refl refl refl) levels-kept ranges-kept ((λ t g e. still-io G refl refl refl t g (w .ios t g e)), w .io-company)
       ((λ t g e. still-irq G refl refl refl t g (w .irqs t g e)), w .irq-company)
 
   -- other clients: each fits, and those of the grants are among them
@@ -175,7 +176,7 @@ module _ (F : Facts) (w : WellFormed F) where
         → WellFormed (listing F n cs)
     clients-formed issued most rising fit io-live irq-live =
         let G = listing F n cs in
-        by-parts G refl (w .cards) (issued, most, rising, fit) levels-formed all-ranges
+        by-parts G refl (w .cards) (issued, most, rising, fit) levels-kept ranges-kept
         ((λ t g e. io-stays F G refl t g (io-live t g e) (λ r m. m) (w .ios t g e)), w .io-company)
         ((λ t g e. let f = w .irqs t g e in irq-fits F G refl t g (irq-live t g e) (f .managed) f), w .irq-company)
 
@@ -188,7 +189,7 @@ module _ (F : Facts) (w : WellFormed F) where
       by-parts G refl (w .cards) (clients-kept G refl refl refl) (
         put-all (λ (k : ℕ) (x : Level). x .managed ≡ true → k < allLevels) (F .level) l v (λ e. below) (λ k d. w .levels k),
         put-all (λ (k : ℕ) (x : Level). x .reserved ≡ true → x .managed ≡ true) (F .level) l v reserved (λ k d. w .reserved k),
-      ) all-ranges ((λ t g e. still-io G refl refl refl t g (w .ios t g e)), w .io-company) (
+      ) ranges-kept ((λ t g e. still-io G refl refl refl t g (w .ios t g e)), w .io-company) (
         (λ t g e. let f = w .irqs t g e in irq-fits F G refl t g (still-lives G refl refl (f .client)) (managed t g e (f .managed)) f),
         w .irq-company,
       )
@@ -204,7 +205,7 @@ module _ (F : Facts) (w : WellFormed F) where
       → WellFormed (withRanges F rs)
   ranges-formed rs most apart within stays =
       let G = withRanges F rs in
-      by-parts G refl (w .cards) (clients-kept G refl refl refl) levels-formed (most, apart, within) (
+      by-parts G refl (w .cards) (clients-kept G refl refl refl) levels-kept (most, apart, within) (
         (λ t g e. let f = w .ios t g e in
             io-fits F G refl t g (still-lives G refl refl (f .client))
             (λ p h. let m = f .managed p h in stays t g e p (own-answers (g .ports) p (managed-below F w p m) h) m)
@@ -218,7 +219,7 @@ module _ (F : Facts) (w : WellFormed F) where
       → WellFormed (withIo F s o)
   io-formed s o fits company =
       let G = withIo F s o in
-      by-parts G refl (w .cards) (clients-kept G refl refl refl) levels-formed all-ranges (
+      by-parts G refl (w .cards) (clients-kept G refl refl refl) levels-kept ranges-kept (
         put-all (λ (t : ℕ) (x : Option IoGrant). (g : IoGrant) → x ≡ some g → IoFits G t g) (F .io) s o
             (λ g e. still-io G refl refl refl s g (fits g e)) (λ t d g e. still-io G refl refl refl t g (w .ios t g e)),
         put-pairs IoCompany io-turned (F .io) s o (w .io-company) company,
@@ -230,7 +231,7 @@ module _ (F : Facts) (w : WellFormed F) where
       → WellFormed (withIrq F s o)
   irq-formed s o fits company =
       let G = withIrq F s o in
-      by-parts G refl (w .cards) (clients-kept G refl refl refl) levels-formed all-ranges
+      by-parts G refl (w .cards) (clients-kept G refl refl refl) levels-kept ranges-kept
       ((λ t g e. still-io G refl refl refl t g (w .ios t g e)), w .io-company) (
         put-all (λ (t : ℕ) (x : Option IrqGrant). (g : IrqGrant) → x ≡ some g → IrqFits G t g) (F .irq) s o
             (λ g e. still-irq G refl refl refl s g (fits g e)) (λ t d g e. still-irq G refl refl refl t g (w .irqs t g e)),

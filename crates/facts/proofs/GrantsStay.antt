@@ -1,13 +1,13 @@
 -- RequestIRQ, ReleaseIRQ, RequestIO and ReleaseIO leave a well-formed set well formed. Assumes nothing.
-use Rattle.facts.proofs.Words.{_≡_, sym, subst, inl, inr, ⊎-elim, List, none, some, Option·some-injective, Option·none-ne-some, ℕ, _^_, _≤_}
-use Rattle.facts.proofs.Words.{decLe, arith, WellFormed}
-use Rattle.facts.specs.{irqReleaseChecks, ioReleaseChecks, Facts, IoGrant, IrqGrant, Bytes, Meet, AllManaged, AnswersManaged, IoFits, IrqFits}
-use Rattle.facts.specs.{IoCompany, IrqCompany, Together, Holds, Outcome, Passed, socketOf, requestChecks, RequestIrq, ReleaseIrq, GrantsIrq}
+use Rattle.facts.proofs.Words.{_≡_, sym, subst, subst⁻¹, inl, inr, ⊎-elim, List, none, some, Option·some-injective, Option·none-ne-some, ℕ}
+use Rattle.facts.proofs.Words.{_^_, _≤_, decLe, arith, WellFormed}
+use Rattle.facts.specs.{Fits, irqReleaseChecks, ioReleaseChecks, Facts, IoGrant, IrqGrant, Bytes, Meet, AllManaged, AnswersManaged, IoFits}
+use Rattle.facts.specs.{IrqFits, IoCompany, IrqCompany, Holds, Outcome, Passed, socketOf, requestChecks, RequestIrq, ReleaseIrq, GrantsIrq}
 use Rattle.facts.specs.{ownIrqChecks, levelChecks, irqGrant, mannerAsked, requestIrqLength, RequestIo, ReleaseIo, GrantsIo, BaseTaken}
 use Rattle.facts.specs.{ownIoChecks, baseChecks, ioGrant, portsAt, requestIoLength, countAsked, linesAsked, mostLines, ioAsked, irqAsked, Seat}
 use Rattle.facts.specs.{HeldPorts, Held}
 use Rattle.facts.proofs.Company.{together-symmetric}
-use Rattle.facts.proofs.Joining.{joined-together}
+use Rattle.facts.proofs.Joining.{taken-fits}
 use Rattle.facts.proofs.Told.{told, both-told, true-told, managed-told}
 use Rattle.facts.proofs.Formed.{io-formed, irq-formed, leaves-stays}
 use Rattle.facts.proofs.ClientsStay.{live-passed, socket-passed, request-passed}
@@ -29,22 +29,23 @@ module _ (F : Facts) (h : ℕ) (p : List ℕ) (o : Outcome) (w : WellFormed F) w
       new : IrqGrant
       new = irqGrant h (irqAsked p) (granted .level)
 
+      level-fits : Fits F (irqAsked p) (granted .level)
+      level-fits = taken-fits F w (irqAsked p) (granted .level) (granted .taken)
+
       fits : IrqFits F (socketOf p) new
       fits =
           record {
             client = live-passed requestIrqLength F h p (ownIrqChecks F p (levelChecks F (irqAsked p))) passed;
             socket = socket-passed requestIrqLength F h p (ownIrqChecks F p (levelChecks F (irqAsked p))) passed;
-            managed = ⊎-elim (λ joined. joined .fits .managed) (λ old. old .1 .fits .managed) (granted .taken);
+            managed = level-fits .managed;
           }
 
-      -- the level is joined, or it has no grant, or all its grants go together with this manner
-      together : (t : ℕ) (g : IrqGrant) → Holds F (granted .level) t g → Together (g .manner) (mannerAsked p)
-      together t g holds =
-          ⊎-elim (λ joined. joined-together F w (irqAsked p) (granted .level) (joined .fits) t g holds)
-          (λ old. ⊎-elim (λ free. absurd (free t g holds)) (λ all. all .1 t g holds) (old .1 .fits .free)) (granted .taken)
-
+      -- the level has no grant, or all its grants go together with this manner
       company : (t : ℕ) (g : IrqGrant) → F .irq t ≡ some g → IrqCompany new g
-      company t g e q = together-symmetric (g .manner) (mannerAsked p) (together t g (record { live = e; at = sym q }))
+      company t g e q =
+          let holds : Holds F (granted .level) t g = record { live = e; at = sym q } in
+          together-symmetric (g .manner) (mannerAsked p)
+          (⊎-elim (λ free. absurd (free t g holds)) (λ all. all .1 t g holds) (level-fits .free))
 
   pub release-irq-stays : ReleaseIrq F h p o → WellFormed (o .facts)
   release-irq-stays =
@@ -74,35 +75,28 @@ module _ (F : Facts) (h : ℕ) (p : List ℕ) (o : Outcome) (w : WellFormed F) w
       own = request-passed requestIoLength F h p (ownIoChecks F p (baseChecks F (ioAsked p))) passed
 
       -- the base and its ports: the one named, or a candidate
-      positive : BaseTaken F (ioAsked p) base → 1 ≤ base
-      positive (inl named) = omega (arith, named .0, named .1)
-      positive (inr chosen) = chosen .1 .fits .positive
-
-      all-managed : BaseTaken F (ioAsked p) base → AllManaged F base (countAsked p)
-      all-managed (inl named) =
-          subst (λ (b : ℕ). AllManaged F b (countAsked p)) (sym (named .1))
-          (λ q h. told (managed-told F q) (λ d. own .1 .1 .1 .0 (named .0, inr (inl (λ all. d (all q h))))))
-      all-managed (inr chosen) = chosen .1 .fits .managed
-
-      answers-managed : BaseTaken F (ioAsked p) base → AnswersManaged F (portsAt (ioAsked p) base)
-      answers-managed (inl named) =
-          subst (λ (b : ℕ). AnswersManaged F (portsAt (ioAsked p) b)) (sym (named .1))
-          (λ q a. told (managed-told F q) (λ d. own .1 .1 .1 .0 (named .0, inr (inr (λ all. d (all q a))))))
-      answers-managed (inr chosen) = chosen .1 .fits .answers
+      base-good : BaseTaken F (ioAsked p) base → (1 ≤ base) × AllManaged F base (countAsked p) × AnswersManaged F (portsAt (ioAsked p) base)
+      base-good (inl named) =
+          subst⁻¹ (λ (b : ℕ). (1 ≤ b) × AllManaged F b (countAsked p) × AnswersManaged F (portsAt (ioAsked p) b)) (named .1) (
+            omega (arith, named .0),
+            (λ q h. told (managed-told F q) (λ d. own .1 .1 .1 .0 (named .0, inr (inl (λ all. d (all q h)))))),
+            (λ q a. told (managed-told F q) (λ d. own .1 .1 .1 .0 (named .0, inr (inr (λ all. d (all q a)))))),
+          )
+      base-good (inr chosen) = let c = chosen .1 .fits in (c .positive, c .managed, c .answers)
 
       fits : IoFits F (socketOf p) new
       fits =
           record {
             client = live-passed requestIoLength F h p (ownIoChecks F p (baseChecks F (ioAsked p))) passed;
             socket = socket-passed requestIoLength F h p (ownIoChecks F p (baseChecks F (ioAsked p))) passed;
-            base = positive (granted .taken);
+            base = base-good (granted .taken) .0;
             line = told (decLe 1 (linesAsked p)) (λ d. own .0 (inr (inr (inl (omega arith)))));
             lines = told (decLe (linesAsked p) mostLines) (λ d. own .0 (inr (inr (inr (omega arith)))));
             port = told (decLe 1 (countAsked p)) (λ d. own .1 .0 (inl (omega arith)));
             asked = omega (arith, bytes 4);
             decoded = told (decLe (countAsked p) (2 ^ linesAsked p)) (λ d. own .1 .0 (inr (inl (omega arith))));
-            managed = all-managed (granted .taken);
-            answers = answers-managed (granted .taken);
+            managed = base-good (granted .taken) .1;
+            answers = base-good (granted .taken) .2;
           }
 
       -- a base named meets a live grant only if both share; a candidate meets none

@@ -29,7 +29,7 @@ first-not-passed [] k r p = r
 first-not-passed (c ∷ cs) k (inl r) p = p .0 (r .0)
 first-not-passed (c ∷ cs) k (inr r) p = first-not-passed cs k (r .1) (p .1)
 
--- of two that are each the one or the other: where they are not of different kinds
+-- two, each of one kind or the other, and never of different kinds
 both-ways : {A A′ B B′ E : Type 0} → (A → B′ → ⊥) → (B → A′ → ⊥) → (A → A′ → E) → (B → B′ → E) → A ⊎ B → A′ ⊎ B′ → E
 both-ways f g h k (inl a) (inl a′) = h a a′
 both-ways f g h k (inl a) (inr b′) = absurd (f a b′)

@@ -1,8 +1,8 @@
 -- The cases of K1 hold. Assumes nothing.
 use Rattle.facts.proofs.Words.{_≡_, refl, sym, ap, _∙_, inl, inr, ⊎-elim, List, some, Option·none-ne-some, Option·some-injective, ℕ, arith}
 use Rattle.facts.proofs.Words.{true≢false}
-use Rattle.facts.specs.{Manner, Exclusive, TimeMultiplexed, DynamicLevel, DynamicPulse, Facts, IrqGrant, Holds, typeOf, levelAdded, reserveBit}
-use Rattle.facts.specs.{Lowest, RequestIrq, Fits, Named, Joins, IrqAsked, irqAsked}
+use Rattle.facts.specs.{Manner, TimeMultiplexed, DynamicLevel, DynamicPulse, Facts, IrqGrant, Holds, typeOf, levelAdded, reserveBit, Lowest}
+use Rattle.facts.specs.{RequestIrq, Fits, Named, Joins, IrqAsked, irqAsked}
 use Rattle.facts_cases.specs.{Exactly, ready, twoLevels, grantingIrq, JoiningCases, either, sharing, firstShared, alone, fiveHeld, bothShared}
 use Rattle.facts.proofs.{put-is}
 use Rattle.facts_cases.proofs.Levels.{granted, bits-B0, bits-A3, plain-good, first-good, managed-are, given, gives-3, three-taken, joins-at}
@@ -24,13 +24,6 @@ joined-five m p l j =
       sym (j .holds .at) ∙ ap (λ (g : IrqGrant). g .level) only,
       sym (ap (λ (g : IrqGrant). g .manner) only) ∙ j .manner,
     )
-
--- dynamic pulse is another manner than dynamic level
-abbrev pulses : Manner → ℕ
-pulses Exclusive = 0
-pulses TimeMultiplexed = 0
-pulses DynamicLevel = 0
-pulses DynamicPulse = 1
 
 -- a dynamic request from the socket 1 that names both leaves 5 where that is of another manner
 left : (m : Manner) → (m ≡ DynamicLevel → ⊥) → Exactly (RequestIrq (fiveHeld m) 1 (either 1 sharing 0)) (granted (fiveHeld m) 1 (either 1 sharing 0) 3)
@@ -89,7 +82,7 @@ joining-cases =
       lowest-joined = both-joined 0 reserveBit;
       lowest-reserved = both-joined reserveBit 0;
       time-multiplexed-left = left TimeMultiplexed (λ e. omega (arith, ap typeOf e));
-      pulse-left = left DynamicPulse (λ e. omega (arith, ap pulses e));
+      pulse-left = left DynamicPulse (λ e. let z : _≡_ {A = ℕ} 0 1 = cc in omega arith);
       first-shared =
           given 0 reserveBit (fiveHeld DynamicLevel .irq) 1 firstShared bits-B0 (omega arith) (first-good 1 0xB0 0x28 refl) refl refl 3
           (three-fits DynamicLevel refl) (three-taken (λ l j. true≢false (j .joining .not-first)) (three-fits DynamicLevel refl));

@@ -39,7 +39,7 @@ module _ {A : Type 0} (bytes : Option A → List ℕ) (first k n : ℕ) (zero-no
       by-cases (decLt (r .0) (length xs)) (λ h. absurd (omega (arith, ahead h (r .3), r .4))) (λ h. omega arith) in
       ap (byte b) (sym (r .4)) ∙ is (r .0) (r .1) (r .2) (r .3) ∙ past-zero xs (r .0) (r .2) past
 
-  -- and so those of what f gives are there, where those of the first m are, and zero bytes past them
+  -- where the first m records are those of what f gives, and zero bytes follow, all are
   pub listed-stand : (m : ℕ) (f : ℕ → A) (b : List ℕ)
       → ((i : ℕ) → i < m → (j : ℕ) → j < k → byte b (place i + j) ≡ getD (bytes (some (f i))) j 0)
       → Zero b (place m) (place n)

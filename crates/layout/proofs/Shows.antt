@@ -71,7 +71,7 @@ shows-image F b w =
     (λ q l. by-cases (decLt q 5) (λ h. v .heads q h ∙ sym (w .heads q h))
     (λ h. shown-same (image F) b cardsAt (parts F) (v .shown) (w .shown) q (omega arith) (subst (λ (n : ℕ). q < n) (v .size) l)))
 
--- where the cth of the parts begins, those with other records in the cth, and that these stand there
+-- where the cth of the parts begins; the parts, with other records in the cth; and that these stand there
 abbrev pub beginning : ℕ → ℕ → List Part → ℕ
 beginning zero at ps = at
 beginning (suc c) at [] = at
