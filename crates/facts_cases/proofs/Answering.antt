@@ -1,13 +1,12 @@
 -- The cases of K2 hold. Assumes nothing.
 use Rattle.facts.proofs.Words.{_≡_, by-cases, refl, ap, sym, _∙_, subst, _⊎_, inl, inr, ⊎-elim, _≢_, Iff·rfl, true, true≢false, some}
-use Rattle.facts.proofs.Words.{Option·none-ne-some, Option·some-injective, ℕ, _+_, _*_, _%_, _≤_, _<_, le-refl, mod-eq-of-lt, decLt, arith}
-use Rattle.facts.proofs.Words.{WellFormed}
-use Rattle.facts.specs.{InUse, _∈_, Facts, Range, IoGrant, fresh, IoFits, Within, Managed, Answers, WhollyUnreserved, RangeAnswered, withCard}
-use Rattle.facts.specs.{Candidate, NoCandidate, CandidateTaken, SmallestPower, ioAsked}
+use Rattle.facts.proofs.Words.{Option·none-ne-some, Option·some-injective, ℕ, _+_, _*_, _%_, _≤_, _<_, le-refl, decLt, arith, WellFormed}
+use Rattle.facts.specs.{InUse, _∈_, Facts, Range, IoGrant, IoFits, Within, Managed, Answers, WhollyUnreserved, RangeAnswered, Candidate, NoCandidate}
+use Rattle.facts.specs.{CandidateTaken, SmallestPower, ioAsked}
 use Rattle.facts.proofs.{fresh-formed, card-formed, ranges-formed, io-formed, register-stays, smallest-power-unique}
 use Rattle.facts_cases.specs.{done, ports, range, ready, grantingIo, clientPacket, AnsweringCases, boardsPorts, allAdded, alike, linesPacket}
 use Rattle.facts_cases.specs.{removePacket}
-use Rattle.facts_cases.proofs.Ports.{eight, named-refused, named-granted, first-given, none-refused}
+use Rattle.facts_cases.proofs.Ports.{eight, at-home, named-refused, named-granted, first-given, none-refused}
 use Rattle.facts_cases.proofs.Cases.{adjusts, registers}
 use Rattle.facts_cases.proofs.Permitted.{as-kept, _nor_, _past_}
 
@@ -141,14 +140,9 @@ ten-first =
 -- the table with all ports added is well formed, and a grant of 6F8 fits it
 ready-formed : WellFormed ready
 ready-formed =
-    register-stays (withCard two 2 true) 0 clientPacket (done 1 clientPacket ready) (card-formed two two-formed 2 true (omega arith))
-    (registers (withCard two 2 true) (omega arith) .permitted)
-  where
-    two : Facts
-    two = withCard (withCard (fresh 3) 0 true) 1 true
-
-    two-formed : WellFormed two
-    two-formed = card-formed _ (card-formed _ (fresh-formed 3 (omega arith) (omega arith)) 0 true (omega arith)) 1 true (omega arith)
+    let one = card-formed _ (fresh-formed 3 (omega arith) (omega arith)) 0 true (omega arith) in
+    let three = card-formed _ (card-formed _ one 1 true (omega arith)) 2 true (omega arith) in
+    register-stays _ 0 clientPacket (done 1 clientPacket ready) three (registers _ (omega arith) .permitted)
 
 all-added-formed : WellFormed allAdded
 all-added-formed =
@@ -186,7 +180,7 @@ answering-cases =
       all-lines-granted =
           named-granted (ready .io) refl (boardsPorts .ranges) 0xF8 0x06 8 16 (omega arith) (omega arith) (omega arith)
           ((λ l. omega arith) nor (λ n. n (λ q w. upper-managed q (omega (arith, w .from)) (omega (arith, w .below))))
-          nor (λ n. n (λ q a. let same = at-home q a in upper-managed q (omega (arith, same, a .own-in .from)) (a .below))))
+          nor (λ n. n (λ q a. let same = at-home (omega arith) a in upper-managed q (omega (arith, same, a .own-in .from)) (a .below))))
           (λ e. Option·none-ne-some _ (e .held));
       multiple-passed = first-given (ready .io) refl (boardsPorts .ranges) 0x00 0x00 8 4 (omega arith) (omega arith) refl 0x10 ten-first;
       none-left = none-refused (ready .io) refl (alike .ranges) 0x00 0x00 16 14 (omega arith) (omega arith) refl all-barred;
@@ -211,7 +205,3 @@ answering-cases =
     -- the card that is given 6F8 answers in the range that is asked for
     repeated : RangeAnswered (grantingIo 1 (ports 0x6F8 8 10) allAdded) (range 0x2F8 8)
     repeated = record { seat = 1; range = _; held = refl; port = 0x2F8; has = omega arith; answers = six-answers }
-
-    -- at sixteen lines a card answers at its own ports alone
-    at-home : (q : ℕ) (a : Answers (ports 0x6F8 8 16) q) → q ≡ a .own
-    at-home q a = sym (mod-eq-of-lt (a .below)) ∙ a .equal ∙ mod-eq-of-lt (omega (arith, a .own-in .below))

@@ -26,10 +26,8 @@ eight n sized =
     }
 
 -- at sixteen lines a card answers at its own ports alone
-at-home : (r : Range) (n : ℕ) → (r .base ≤ 0x308) × (0x308 + n ≤ r .base + r .count) → n ≤ 8 → (x : ℕ) → Answers (ports 0x308 n 16) x → Has r x
-at-home r n inside sized x a =
-    let same : x ≡ a .own = sym (mod-eq-of-lt (a .below)) ∙ a .equal ∙ mod-eq-of-lt (omega (arith, a .own-in .below)) in
-    record { from = omega (arith, same, a .own-in .from, inside .0); below = omega (arith, same, a .own-in .below, inside .1) }
+pub at-home : {b n x : ℕ} → b + n ≤ 0x10000 → (a : Answers (ports b n 16) x) → x ≡ a .own
+at-home l a = sym (mod-eq-of-lt (a .below)) ∙ a .equal ∙ mod-eq-of-lt (omega (arith, a .own-in .below))
 
 -- a table with N8's client and cards, the I/O grants io and the managed ranges rs
 abbrev pub ioTable : (ℕ → Option IoGrant) → List Range → Facts
@@ -136,7 +134,7 @@ module _ (io : ℕ → Option IoGrant) (r : Range) (n : ℕ) (sized : (4 < n) ×
         multiple = refl;
         positive = omega arith;
         managed = λ x w. record { range = r; listed = inl refl; has = omega arith };
-        answers = λ x a. record { range = r; listed = inl refl; has = at-home r n inside (sized .1) x a };
+        answers = λ x a. let same = at-home (omega arith) a in record { range = r; listed = inl refl; has = omega (arith, same, a .own-in) };
         within = omega arith;
         meets-none = meets-none;
       } in
