@@ -12,6 +12,7 @@ use Rattle.facts.specs.{deregisterClient, adjustResourceInfo, requestIrq
 use Rattle.facts.specs.{releaseSocketMask, ruleOf, Call}
 use Rattle.facts.specs.Boot.{Boot}
 use Rattle.facts.proofs.Boot.{by-resource}
+use Rattle.facts.proofs.Sets.{cond-cases}
 
 module _ {F : Facts} {p : List ℕ} where
   pub ruled-then-keeps : (cs : List Check) {rest : Outcome → Type 0} → RefusalKeeps F p rest → RefusalKeeps F p (RuledThen cs rest F p)
@@ -80,11 +81,10 @@ noSuccess (c ∷ cs) = cond (eqb (numberOf (c .code)) 0) false (noSuccess cs)
 
 pub none-succeeds : (cs : List Check) → T (noSuccess cs) → NoSuccess cs
 none-succeeds [] t = tt
-none-succeeds (c ∷ cs) t = ((λ e. rw e at t), none-succeeds cs (rest (eqb (numberOf (c .code)) 0) t))
-  where
-    rest : (zero : Bool) → T (cond zero false (noSuccess cs)) → T (noSuccess cs)
-    rest true t = absurd t
-    rest false t = t
+none-succeeds (c ∷ cs) t = (
+  (λ e. rw e at t),
+  none-succeeds cs (cond-cases (λ b. T b → T (noSuccess cs)) (eqb (numberOf (c .code)) 0) false (noSuccess cs) (λ e z. absurd z) (λ e z. z) t),
+)
 
 pub first-not-success : (cs : List Check) (k : Code) → NoSuccess cs → FirstGiven cs k → k ≢ Success
 first-not-success [] k n r e = r

@@ -62,15 +62,10 @@ apart-inserted r lo (x ∷ xs) l c clear a =
     (λ b. (a .0, a .1, apart-inserted r (x .base + x .count) xs (after b) c (λ y m. clear y (inr m)) (a .2)))
   where
     before : r .base < x .base → r .base + r .count ≤ x .base
-    before b =
-        told (decLe (r .base + r .count) (x .base))
-        (λ d. clear x (inl refl) (x .base) (record { from = omega arith; below = omega arith })
-        (record { from = omega arith; below = omega (arith, a .1) }))
+    before b = told (decLe (r .base + r .count) (x .base)) (λ d. clear x (inl refl) (x .base) (omega arith) (omega (arith, a .1)))
 
     after : x .base ≤ r .base → x .base + x .count ≤ r .base
-    after b =
-        told (decLe (x .base + x .count) (r .base))
-        (λ d. clear x (inl refl) (r .base) (record { from = omega arith; below = omega arith }) (record { from = omega arith; below = omega arith }))
+    after b = told (decLe (x .base + x .count) (r .base)) (λ d. clear x (inl refl) (r .base) (omega arith) (omega arith))
 
 module _ (F : Facts) (w : WellFormed F) (base count attributes lines : ℕ) where
   pub range-added-formed : Passed (addRangeChecks F base count attributes lines) → WellFormed (rangeAdded F base count attributes)

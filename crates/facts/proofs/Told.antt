@@ -40,12 +40,8 @@ pub run-told : (P : ℕ → Type 0) → ((x : ℕ) → Dec (P x)) → (base n : 
 run-told P d base zero = yes (λ x w. absurd (omega (arith, w .from, w .below)))
 run-told P d base (suc n) =
     Dec·of-iff (
-      (λ a x w. by-cases (ℕ-discrete x (base + n)) (λ e. subst⁻¹ P e (a .1))
-          (λ f. a .0 x (record { from = w .from; below = omega (arith, w .below, f) }))),
-      (λ h. (
-        (λ x w. h x (record { from = w .from; below = omega (arith, w .below) })),
-        h (base + n) (record { from = omega arith; below = omega arith }),
-      )),
+      (λ a x w. by-cases (ℕ-discrete x (base + n)) (λ e. subst⁻¹ P e (a .1)) (λ f. a .0 x (omega (arith, w, f)))),
+      (λ h. ((λ x w. h x (omega (arith, w))), h (base + n) (omega arith))),
     ) (both-told (run-told P d base n) (d (base + n)))
 
 -- a live client, managed ports, those of unreserved ranges, attributes

@@ -248,17 +248,13 @@ module _ (F : Facts) (h : ℕ) (p : List ℕ) where
 -- the host's calls
 pub card-unique : (present : Bool) (F : Facts) (s : ℕ) → Coincide (CardTo present F s)
 card-unique present F s =
-    decided-coincide (λ (o : CardOutcome). o .code) (cardChecks F s) (λ o o′ e k k′. same e (k ∙ sym k′)) (λ o o′ e d d′. same e (d ∙ sym d′))
-  where
-    same : {o o′ : CardOutcome} → o .code ≡ o′ .code → o .facts ≡ o′ .facts → o ≡ o′
-    same e f = λ i. record { code = e i; facts = f i }
+    decided-coincide (λ (o : CardOutcome). o .code) (cardChecks F s) (λ o o′ e k k′ i. record { code = e i; facts = (k ∙ sym k′) i })
+    (λ o o′ e d d′ i. record { code = e i; facts = (d ∙ sym d′) i })
 
 pub sharers-unique : (F : Facts) (l : ℕ) → Coincide (Sharers F l)
 sharers-unique F l =
-    decided-coincide (λ (o : Count). o .code) (sharersChecks l) (λ o o′ e k k′. same e (k ∙ sym k′)) (λ o o′ e d d′. same e (d ∙ sym d′))
-  where
-    same : {o o′ : Count} → o .code ≡ o′ .code → o .count ≡ o′ .count → o ≡ o′
-    same e f = λ i. record { code = e i; count = f i }
+    decided-coincide (λ (o : Count). o .code) (sharersChecks l) (λ o o′ e k k′ i. record { code = e i; count = (k ∙ sym k′) i })
+    (λ o o′ e d d′ i. record { code = e i; count = (d ∙ sym d′) i })
 
 module _ (e : Code) where
   pub boot-unique : (F : Facts) (rs : List Record) (i : ℕ) → Coincide (Boot e F rs i)

@@ -22,29 +22,28 @@ six-answers = record { below = omega arith; own = 0x6F8; own-in = omega arith; e
 -- every port lies in one of the three, once they are added
 all-managed : (q : ℕ) → q < 0x10000 → Managed allAdded q
 all-managed q l =
-    by-cases (decLt q 0x2F8) (λ a. record { range = range 0 0x2F8; listed = inl refl; has = record { from = omega arith; below = a } })
+    by-cases (decLt q 0x2F8) (λ a. record { range = range 0 0x2F8; listed = inl refl; has = omega arith })
     (λ a. by-cases (decLt q 0x300)
-    (λ d. record { range = range 0x2F8 8; listed = inr (inl refl); has = record { from = omega arith; below = d } })
-    (λ d. record { range = range 0x300 0xFD00; listed = inr (inr (inl refl)); has = record { from = omega arith; below = omega arith } }))
+    (λ d. record { range = range 0x2F8 8; listed = inr (inl refl); has = omega arith })
+    (λ d. record { range = range 0x300 0xFD00; listed = inr (inr (inl refl)); has = omega arith }))
 
 -- the ports from 300 on are managed in both
 upper-managed : (q : ℕ) → 0x300 ≤ q → q < 0x10000 → Managed boardsPorts q
-upper-managed q l h = record { range = range 0x300 0xFD00; listed = inr (inl refl); has = record { from = l; below = h } }
+upper-managed q l h = record { range = range 0x300 0xFD00; listed = inr (inl refl); has = omega arith }
 
 -- on `alike` the card answers at managed ports alone, wherever it is given its own
 low-or-high : (q own : ℕ) → q < 0x10000 → q % 0x8000 ≡ own % 0x8000 → (0x300 ≤ own % 0x8000) × (own % 0x8000 < 0x310)
     → ((0x300 ≤ q) × (q < 0x310)) ⊎ ((0x8300 ≤ q) × (q < 0x8310))
 low-or-high q own l e h =
-    by-cases (decLt q 0x8000) (λ m. inl (omega (arith, e, h), omega (arith, e, h))) (λ m. inr (omega (arith, e, h), omega (arith, e, h)))
+    by-cases (decLt q 0x8000) (λ m. inl (omega (arith, e, h))) (λ m. inr (omega (arith, e, h)))
 
 alike-managed : (q : ℕ) → ((0x300 ≤ q) × (q < 0x310)) ⊎ ((0x8300 ≤ q) × (q < 0x8310)) → Managed alike q
-alike-managed q (inl l) = record { range = _; listed = inl refl; has = record { from = l .0; below = l .1 } }
-alike-managed q (inr l) = record { range = _; listed = inr (inl refl); has = record { from = l .0; below = l .1 } }
+alike-managed q (inl l) = record { range = _; listed = inl refl; has = omega (arith, l) }
+alike-managed q (inr l) = record { range = _; listed = inr (inl refl); has = omega (arith, l) }
 
 managed-alike : (q : ℕ) → Managed alike q → ((0x300 ≤ q) × (q < 0x310)) ⊎ ((0x8300 ≤ q) × (q < 0x8310))
 managed-alike q m =
-    ⊎-elim (λ e. inl (let h = rw e at (m .has) in (h .from, h .below)))
-    (⊎-elim (λ e. inr (let h = rw e at (m .has) in (h .from, h .below))) absurd) (m .listed)
+    ⊎-elim (λ e. inl (omega (arith, rw e at (m .has)))) (⊎-elim (λ e. inr (omega (arith, rw e at (m .has)))) absurd) (m .listed)
 
 sixteen : SmallestPower 16 16
 sixteen = record { power = 4; is = refl; not-below = omega arith; smallest = λ k l. l }
@@ -65,10 +64,9 @@ high-candidate =
     }
 
 candidates-are : (y : ℕ) → Candidate alike (ioAsked (linesPacket 1 0x00 0x00 16 15)) y → (y ≡ 0x300) ⊎ (y ≡ 0x8300)
-candidates-are y c = ⊎-elim (λ l. inl (omega (arith, l, is))) (λ l. inr (omega (arith, l, is))) (managed-alike y (c .managed y (record { from = omega arith; below = omega arith })))
-  where
-    is : y ≡ c .times * 16
-    is = rw (smallest-power-unique 16 16 (c .step) sixteen (c .align)) (c .multiple)
+candidates-are y c =
+    let is : y ≡ c .times * 16 = rw (smallest-power-unique 16 16 (c .step) sixteen (c .align)) (c .multiple) in
+    ⊎-elim (λ l. inl (omega (arith, l, is))) (λ l. inr (omega (arith, l, is))) (managed-alike y (c .managed y (omega arith)))
 
 -- of these, the ports at 8300 alone lie wholly in unreserved ranges
 high-first : CandidateTaken alike (ioAsked (linesPacket 1 0x00 0x00 16 15)) 0x8300
@@ -80,7 +78,7 @@ high-first =
 
     reserved : WhollyUnreserved alike 0x300 16 → ⊥
     reserved all =
-        let u = all 0x300 (record { from = omega arith; below = omega arith }) in
+        let u = all 0x300 (omega arith) in
         ⊎-elim (λ e. true≢false (sym (ap (λ (r : Range). r .reserved) e) ∙ u .1))
         (⊎-elim (λ e. omega (arith, rw e at (u .0 .has) .from)) absurd) (u .0 .listed)
 
@@ -91,7 +89,7 @@ all-barred y c =
     (λ l. ⊎-elim (λ m. omega (arith, l, m)) (λ m. omega (arith, l, m)) (image (omega (arith, l)))) (managed-alike y (c .managed y first-own))
   where
     first-own : Within y y 16
-    first-own = record { from = omega arith; below = omega arith }
+    first-own = omega arith
 
     image : y < 0xC000 → ((0x300 ≤ y + 0x4000) × (y + 0x4000 < 0x310)) ⊎ ((0x8300 ≤ y + 0x4000) × (y + 0x4000 < 0x8310))
     image l = managed-alike _ (c .answers (y + 0x4000) (record { below = omega arith; own = y; own-in = first-own; equal = omega arith }))
@@ -99,7 +97,7 @@ all-barred y c =
 -- on `boardsPorts` a card of four lines that is given 10 answers at managed ports alone: 2F8 to 2FF are others modulo 16
 ten-managed : (q own : ℕ) → q < 0x10000 → q % 16 ≡ own % 16 → Within own 0x10 8 → Managed boardsPorts q
 ten-managed q own l e w =
-    by-cases (decLt q 0x2F8) (λ m. record { range = range 0 0x2F8; listed = inl refl; has = record { from = omega arith; below = m } })
+    by-cases (decLt q 0x2F8) (λ m. record { range = range 0 0x2F8; listed = inl refl; has = omega arith })
     (λ m. upper-managed q (omega (arith, e, w .from, w .below)) l)
 
 ten-candidate : Candidate boardsPorts (ioAsked (linesPacket 1 0x00 0x00 8 4)) 0x10
@@ -130,7 +128,7 @@ ten-first =
     not-eight : (y : ℕ) → Candidate boardsPorts (ioAsked (linesPacket 1 0x00 0x00 8 4)) y → y ≢ 8
     not-eight y c e =
         board-unmanaged boardsPorts refl
-        (c .answers 0x2F8 (record { below = omega arith; own = 8; own-in = record { from = omega (arith, e); below = omega (arith, e) }; equal = refl }))
+        (c .answers 0x2F8 (record { below = omega arith; own = 8; own-in = omega (arith, e); equal = refl }))
 
     unreserved : (y : ℕ) → Candidate boardsPorts (ioAsked (linesPacket 1 0x00 0x00 8 4)) y → WhollyUnreserved boardsPorts y 8
     unreserved y c q w =
