@@ -1,5 +1,5 @@
 -- Each way in which AdjustResourceInfo ends is the rule's. Assumes nothing.
-use Rattle.facts.proofs.Words.{_≡_, refl, ap, sym, _∙_, subst, _⊎_, inl, inr, List, [], _∷_, ℕ, _≤_, _<_, ℕ-discrete, arith, length}
+use Rattle.facts.proofs.Words.{_≡_, refl, ap, sym, _∙_, subst, _⊎_, inl, inr, List, [], _∷_, ℕ, _≤_, _<_, ℕ-discrete, arith, length, by-cases}
 use Rattle.service_answers.specs.declared.Answer.the-variants as answer
 use Rattle.managed_holders.specs.declared.Holders.the-variants as holders
 use Rattle.managed_levels.specs.declared.NextLevel.the-variants as level
@@ -24,7 +24,6 @@ use Rattle.managed_changes.specs.declared.Change.the-variants.{Made, Refused}
 use Rattle.managed_changes.specs.{Changes}
 use Rattle.managed_levels.specs.{NextLevelIs}
 use Rattle.managed_ranges.specs.{NextIs, NextRangeIs}
-use Rattle.table_read.proofs.{so-or-not}
 use Rattle.managed_changes.proofs.{served-as}
 use Rattle.managed_packets.specs.{NamesBoth, FromIs, Written, attributesShown, handleShown, answerOf}
 use Rattle.managed_adjust.specs.{ServesBy, Reached, Shows}
@@ -118,7 +117,7 @@ module _ {b : List ℕ} (p : List ℕ) (a : Accepted b) {from : ℕ} where
 
 -- First or Next
 pub first-or-next : {p : List ℕ} {action : ℕ} → Shows p action → (actionOf p ≡ first) ⊎ (actionOf p ≡ next)
-first-or-next {p} s = so-or-not (ℕ-discrete (actionOf p) first) inl (λ d. inr (omega arith))
+first-or-next {p} s = by-cases (ℕ-discrete (actionOf p) first) inl (λ d. inr (omega arith))
 
 -- refused by the head
 module _ {b p : List ℕ} (a : Accepted b) {h : ℕ} where

@@ -1,8 +1,7 @@
 -- The lowest of what the numbers below a bound say, and one number more: what a loop over the seats knows of the holders. Assumes nothing.
-use Rattle.facts.proofs.Words.{_≡_, subst, _⊎_, inl, inr, ⊎-elim, ℕ, _+_, _≤_, min, eq-or-lt-of-le, decLt, arith}
+use Rattle.facts.proofs.Words.{_≡_, subst, _⊎_, inl, inr, ⊎-elim, ℕ, _+_, _≤_, min, eq-or-lt-of-le, decLt, arith, by-cases}
 use Rattle.facts.specs.{Lowest}
 use Rattle.table_read.specs.{SomeBelow}
-use Rattle.table_read.proofs.{so-or-not}
 use Rattle.managed_holders.specs.declared.Holders.{Holders}
 use Rattle.managed_holders.specs.declared.Holders.the-variants as holders
 use Rattle.managed_holders.specs.{HereIs, AreBelow, together}
@@ -29,7 +28,7 @@ module _ (n : ℕ) (Q : ℕ → ℕ → Type 0) where
     lowest-more : {w : ℕ} → Lowest (SomeBelow n Q) w → Lowest (SomeBelow (n + 1) Q) (min w x)
     lowest-more {w} low =
         record {
-          fits = so-or-not (decLt x w) (λ l. subst (SomeBelow (n + 1) Q) (omega arith) (n, omega arith, q))
+          fits = by-cases (decLt x w) (λ l. subst (SomeBelow (n + 1) Q) (omega arith) (n, omega arith, q))
               (λ l. subst (SomeBelow (n + 1) Q) (omega arith) (wider (low .fits)));
           least = λ y f. ⊎-elim (λ p. omega (arith, low .least y p)) (λ p. omega (arith, only y p)) (below-or-here y f);
         }

@@ -1,17 +1,17 @@
 -- What is shown of all holders is what the rules say. Assumes nothing.
 use Rattle.facts.proofs.Words.{_≡_, refl, ap, sym, _∙_, subst, Bool, true, false, Option·some-injective, ℕ, _+_, _<_, ℕ-discrete, arith, WellFormed}
+use Rattle.facts.proofs.Words.{by-cases}
 use Rattle.managed_holders.specs.declared.Holders.{Holders}
 use Rattle.managed_holders.specs.declared.Holders.the-variants as holders
 use Rattle.facts.specs.{Facts, Range, HeldPorts, IrqGrant, Lowest, Holds, Held, typeOf, LevelHeld, LevelHolder, RangeHeld, RangeHolder, LowestHolder}
 use Rattle.facts.specs.{RangeShown, of-type, one-alone, all-share, heldBit, sharedBit, mostSeats}
-use Rattle.table_read.proofs.{so-or-not}
 use Rattle.managed_holders.specs.{LevelHolds, shown, PortsHold, AreBelow, HoldLevel, HoldRange}
 
 module _ (F : Facts) (formed : WellFormed F) where
   -- two grants of one level have one manner
   same-manner : {l s t : ℕ} {g g′ : IrqGrant} → Holds F l s g → Holds F l t g′ → g .manner ≡ g′ .manner
   same-manner {l} {s} {t} {g} {g′} x y =
-      so-or-not (ℕ-discrete s t) (λ e. ap (λ (g : IrqGrant). g .manner) (Option·some-injective g g′ (sym (x .live) ∙ ap (F .irq) e ∙ y .live)))
+      by-cases (ℕ-discrete s t) (λ e. ap (λ (g : IrqGrant). g .manner) (Option·some-injective g g′ (sym (x .live) ∙ ap (F .irq) e ∙ y .live)))
       (λ d. formed .irq-company s t g g′ d (x .live) (y .live) (x .at ∙ sym (y .at)) .equal)
 
   -- of a level

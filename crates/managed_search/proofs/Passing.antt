@@ -1,11 +1,11 @@
 -- A walk past the managed ports, one range after the other, decides whether a run of ports is managed. Assumes nothing.
-use Rattle.facts.proofs.Words.{_≡_, sym, ap, subst, ⊎-elim, List, ℕ, _+_, _≤_, _<_, eq-or-lt-of-le, decLt, arith, leb-true, leb-false, leb}
+use Rattle.facts.proofs.Words.{_≡_, sym, ap, subst, ⊎-elim, List, ℕ, _+_, _≤_, _<_, eq-or-lt-of-le, decLt, arith, leb-true, leb-false, leb, by-cases}
 use Rattle.facts.proofs.Words.{Says}
 use Rattle.facts.specs.{Within}
 use Rattle.layout.specs.{rangesIn, ManagedIn, RangesSound, rangeBase, rangeCount}
 use Rattle.layout.proofs.{rangeEnd, ends-before}
 use Rattle.managed_search.specs.{Skipped}
-use Rattle.table_read.proofs.{so-or-not, All, all-none, all-more}
+use Rattle.table_read.proofs.{All, all-none, all-more}
 
 -- from base on every port before p is managed, and p is in none of the first i ranges
 pub record Passed (b : List ℕ) (base p i : ℕ) : Type 0 where
@@ -31,7 +31,7 @@ module _ (b : List ℕ) (base p i : ℕ) (g : Passed b base p i) where
 
   module _ (s : RangesSound b) (h : i < rangesIn b) (w : Within p (rangeBase b i) (rangeCount b i)) where
     behind-end : (q : ℕ) → base ≤ q → q < rangeEnd b i → ManagedIn b q
-    behind-end q f l = so-or-not (decLt q p) (g .behind q f) (λ n. (i, h, omega arith))
+    behind-end q f l = by-cases (decLt q p) (g .behind q f) (λ n. (i, h, omega arith))
 
     clear-end : All i (λ j. Within (rangeEnd b i) (rangeBase b j) (rangeCount b j) → ⊥)
     clear-end j l v = omega (arith, ends-before b s j i l h, v .below)
@@ -57,7 +57,7 @@ module _ (b : List ℕ) (base p i : ℕ) (g : Passed b base p i) where
 -- a range starts past p, so those that follow it do
 pub passed-stop : (b : List ℕ) (base p i : ℕ) → Passed b base p i → RangesSound b → i < rangesIn b → p < rangeBase b i → Passed b base p (rangesIn b)
 passed-stop b base p i g s h l =
-    record { from = g .from; behind = g .behind; clear = λ j m v. so-or-not (decLt j i) (λ n. g .clear j n v) (λ n. later j m v (omega arith)) }
+    record { from = g .from; behind = g .behind; clear = λ j m v. by-cases (decLt j i) (λ n. g .clear j n v) (λ n. later j m v (omega arith)) }
   where
     later : (j : ℕ) → j < rangesIn b → Within p (rangeBase b j) (rangeCount b j) → i ≤ j → ⊥
     later j m v k = ⊎-elim (λ e. omega (arith, ap (rangeBase b) e, v .from)) (λ n. omega (arith, ends-before b s i j n m, v .from)) (eq-or-lt-of-le k)

@@ -1,12 +1,12 @@
 -- The blocks of ports: where the ports of a grant stand, and that grants which meet answer in a block in common. Assumes nothing.
 use Rattle.facts.proofs.Words.{_≡_, refl, sym, ap, _∙_, subst, _⊎_, inl, inr, ⊎-elim, List, ℕ, _+_, _-_, _/_, _%_, _^_, _≤_, _<_, min-eq-left}
-use Rattle.facts.proofs.Words.{min-eq-right, ℕ-discrete, decLt, arith, bitAnd, bitOr, field, Ports}
+use Rattle.facts.proofs.Words.{min-eq-right, ℕ-discrete, decLt, arith, bitAnd, bitOr, field, Ports, by-cases}
 use Rattle.facts.specs.{mostAsked, bit, Within}
 use Rattle.layout.specs.{ioIn, IoUsed, IoPairSound}
 use Rattle.io_ranges.proofs.{mod-fewer}
 use Rattle.table_read.specs.{Covers}
 use Rattle.facts.proofs.{one-bit}
-use Rattle.table_read.proofs.{so-or-not, or-left, or-right}
+use Rattle.table_read.proofs.{or-left, or-right}
 use Rattle.table_grants.specs.{blockOf, BlocksWithin, AnswersInBlock}
 use Rattle.table_grants.proofs.Covering.{none-common}
 
@@ -14,7 +14,7 @@ use Rattle.table_grants.proofs.Covering.{none-common}
 module _ (base count : ℕ) (port : 1 ≤ count) (asked : count ≤ mostAsked) where
   first-or-last : (p : ℕ) → Within p base count → (blockOf base ≡ blockOf p) ⊎ (blockOf (base + count - 1) ≡ blockOf p)
   first-or-last p w =
-      so-or-not (ℕ-discrete (base / 256) (p / 256)) (λ e. inl (ap (λ (n : ℕ). n % 64) e))
+      by-cases (ℕ-discrete (base / 256) (p / 256)) (λ e. inl (ap (λ (n : ℕ). n % 64) e))
       (λ n. let e : (base + count - 1) / 256 ≡ p / 256 = omega (arith, n, w .from, w .below) in inr (ap (λ (m : ℕ). m % 64) e))
 
   pub blocks-within : BlocksWithin (bitOr (2 ^ blockOf base) (2 ^ blockOf (base + count - 1))) base count

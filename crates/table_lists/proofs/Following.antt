@@ -1,10 +1,10 @@
 -- Ranges that follow one another are sound where the last lies within the ports: what a loop that passes them knows. Assumes nothing.
-use Rattle.facts.proofs.Words.{_≡_, refl, sym, ap, _∙_, List, ℕ, zero, suc, _+_, _≤_, _<_, decLt, arith, bitOr, eqb, Says}
+use Rattle.facts.proofs.Words.{_≡_, refl, sym, ap, _∙_, List, ℕ, zero, suc, _+_, _≤_, _<_, decLt, arith, bitOr, eqb, Says, by-cases}
 use Rattle.facts.specs.{allPorts, Bytes}
 use Rattle.facts.proofs.{says-as}
 use Rattle.layout.specs.{rangesIn, rangePlace, RangesSound, rangeBase, rangeCount, endBefore}
 use Rattle.layout.proofs.{end-next}
-use Rattle.table_read.proofs.{so-or-not, All, all-none, all-more}
+use Rattle.table_read.proofs.{All, all-none, all-more}
 use Rattle.table_lists.specs.{RangeFollows, RangeMarked}
 use Rattle.table_lists.proofs.Flaws.{Flawless, flawless-none, flawless-more}
 
@@ -52,6 +52,6 @@ module _ (b : List ℕ) where
       where
         ends : (k : ℕ) → k < rangesIn b → rangeBase b k + rangeCount b k ≤ allPorts
         ends k l =
-            so-or-not (decLt (k + 1) i)
+            by-cases (decLt (k + 1) i)
             (λ n. omega (arith, end-next b k, p .follow (k + 1) n .from, known (rangePlace (k + 1)), known (rangePlace (k + 1) + 1)))
             (λ n. let at : k + 1 ≡ i = omega arith in omega (arith, end-next b k, ap (endBefore b) at, p .last, h))

@@ -1,9 +1,8 @@
 -- A client's masks are sound exactly if each is formed, the first four and the last four, and none is there for a socket from the count on.
 -- Assumes nothing.
-use Rattle.facts.proofs.Words.{_≡_, subst, inl, inr, ⊎-elim, List, ℕ, _+_, _-_, _/_, _≤_, _<_, eq-or-lt-of-le, decLt, arith}
+use Rattle.facts.proofs.Words.{_≡_, subst, inl, inr, ⊎-elim, List, ℕ, _+_, _-_, _/_, _≤_, _<_, eq-or-lt-of-le, decLt, arith, by-cases}
 use Rattle.facts.specs.{mostSockets, byte, word}
 use Rattle.layout.specs.{socketsIn, clientPlace, maskPlace, Zero, clientMasksAt}
-use Rattle.table_read.proofs.{so-or-not}
 use Rattle.table_lists.specs.{MaskFormed, FourFormed, MasksFormed, MasksEnd, MasksSound}
 
 module _ (b : List ℕ) (i : ℕ) where
@@ -15,7 +14,7 @@ module _ (b : List ℕ) (i : ℕ) where
   formed-last m k l = subst (λ (p : ℕ). MaskFormed (word b p)) (omega arith) (m (4 + k) (omega arith))
 
   pub formed-both : FourFormed b (clientPlace i + clientMasksAt) → FourFormed b (maskPlace i 4) → MasksFormed b i
-  formed-both f g s l = so-or-not (decLt s 4) (f s) (λ h. subst (λ (p : ℕ). MaskFormed (word b p)) (omega arith) (g (s - 4) (omega arith)))
+  formed-both f g s l = by-cases (decLt s 4) (f s) (λ h. subst (λ (p : ℕ). MaskFormed (word b p)) (omega arith) (g (s - 4) (omega arith)))
 
   pub sound-formed : MasksSound b i → MasksFormed b i
   sound-formed m s l = ⊎-elim inl (λ p. inr (p .0, p .1)) (m s l)
@@ -25,7 +24,7 @@ module _ (b : List ℕ) (i : ℕ) where
 
   pub formed-sound : MasksFormed b i → MasksEnd b i → MasksSound b i
   formed-sound m e s l =
-      so-or-not (decLt s (socketsIn b)) (λ h. ⊎-elim inl (λ p. inr (p .0, p .1, h)) (m s l)) (λ h. inl (e s (omega arith) l))
+      by-cases (decLt s (socketsIn b)) (λ h. ⊎-elim inl (λ p. inr (p .0, p .1, h)) (m s l)) (λ h. inl (e s (omega arith) l))
 
   -- the masks from the nth on are 0 exactly if their bytes are
   module _ (n : ℕ) where

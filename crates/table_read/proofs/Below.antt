@@ -2,11 +2,6 @@
 use Rattle.facts.proofs.Words.{_≡_, sym, subst, ⊎-elim, Bool, true, false, not, ℕ, _+_, _≤_, _<_, eq-or-lt-of-le, arith, Says}
 use Rattle.facts.proofs.{says-true, says-yes, says-false-by}
 
--- what holds in either case of a decision
-pub so-or-not : {A B : Type 0} → Dec A → (A → B) → ((A → ⊥) → B) → B
-so-or-not (yes a) f g = f a
-so-or-not (no n) f g = g n
-
 abbrev pub All : ℕ → (ℕ → Type 0) → Type 0
 All n P = (i : ℕ) → i < n → P i
 

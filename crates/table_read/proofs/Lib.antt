@@ -5,7 +5,7 @@ pub mod Sets
 pub mod Some
 pub mod Zeros
 pub mod Quarters
-pub use Below.{so-or-not, All, all-none, all-more, SoFar, so-far-none, so-far-more, so-far-next, so-far-stop, so-far-end}
+pub use Below.{All, all-none, all-more, SoFar, so-far-none, so-far-more, so-far-next, so-far-stop, so-far-end}
 pub use Bits.{lowest-bit, higher-bit, no-bit}
 pub use Sets.{one-shifted, or-left, or-right, exactly-none, exactly-empty, exactly-one, bit-and}
 pub use Sets.{exactly-both, exactly-as, exactly-more}

@@ -1,10 +1,9 @@
 -- Sets with a bit for each number: of none, of one, shifted, and what two of them have, together or both. Assumes nothing.
-use Rattle.facts.proofs.Words.{_≡_, sym, ap, _∙_, subst, _⊎_, inl, inr, ⊎-elim, ℕ, _+_, _*_, _/_, _%_, _^_, _<_, min, max, one-mul}
+use Rattle.facts.proofs.Words.{_≡_, sym, ap, _∙_, subst, _⊎_, inl, inr, ⊎-elim, ℕ, _+_, _*_, _/_, _%_, _^_, _<_, min, max, one-mul, by-cases}
 use Rattle.facts.proofs.Words.{eq-or-lt-of-le, ℕ-discrete, arith, bitAnd, bitOr, and-shr, and-step, or-shr, or-step, shl-exact}
 use Rattle.facts.specs.{bit}
 use Rattle.facts.proofs.{one-bit, one-only}
 use Rattle.table_read.specs.{HasJust, SomeBelow}
-use Rattle.table_read.proofs.Below.{so-or-not}
 use Rattle.table_read.proofs.Bits.{no-bit}
 
 -- the set of one number, which a one that is shifted is
@@ -23,7 +22,7 @@ module _ (x y k : ℕ) where
   or-right e = omega (arith, bit-or)
 
   pub or-either : bit (bitOr x y) k ≡ 1 → (bit x k ≡ 1) ⊎ (bit y k ≡ 1)
-  or-either e = so-or-not (ℕ-discrete (bit x k) 1) inl (λ f. inr (omega (arith, bit-or, f)))
+  or-either e = by-cases (ℕ-discrete (bit x k) 1) inl (λ f. inr (omega (arith, bit-or, f)))
 
 -- the set of no number
 pub exactly-none : {P : ℕ → Type 0} → ((k : ℕ) → P k → ⊥) → HasJust 0 P

@@ -1,10 +1,9 @@
 -- Numbers or-ed together are zero exactly if each of them is, and so are bytes; and a record of a grant is used or zero. Assumes nothing.
 use Rattle.facts.proofs.Words.{_≡_, _∙_, ap, _⊎_, inr, ⊎-elim, _≢_, List, Bool, false, ℕ, _+_, _≤_, ℕ-discrete, decLt, arith, eq-eqb, ne-eqb}
-use Rattle.facts.proofs.Words.{bitOr, or-add-and, and-le-l, and-le-r, eqb, Says}
+use Rattle.facts.proofs.Words.{bitOr, or-add-and, and-le-l, and-le-r, eqb, Says, by-cases}
 use Rattle.facts.specs.{byte}
 use Rattle.facts.proofs.{told, says-true, says-false, says-as, says-eq}
 use Rattle.layout.specs.{Zero, LiveIn, ClientsSound}
-use Rattle.table_read.proofs.Below.{so-or-not}
 
 -- a number is zero where what its being zero says is so
 pub zero-where : (n : ℕ) {P : Type 0} → Says (eqb n 0) P → P → n ≡ 0
@@ -19,7 +18,7 @@ or-says x y p q =
 -- a stretch of two parts is zero exactly if both are
 module _ (b : List ℕ) (from mid to : ℕ) (f : from ≤ mid) (l : mid ≤ to) where
   pub zero-joined : Zero b from mid → Zero b mid to → Zero b from to
-  zero-joined z z′ i h m = so-or-not (decLt i mid) (z i h) (λ n. z′ i (omega arith) m)
+  zero-joined z z′ i h m = by-cases (decLt i mid) (z i h) (λ n. z′ i (omega arith) m)
 
 -- the number is zero exactly if the bytes from one place up to another are
 pub record Gathered (b : List ℕ) (from to all : ℕ) : Type 0 where
