@@ -63,15 +63,16 @@ refused managed_boot lib.rt 'return Booted::Stopped(place, code)' 'return Booted
 refused keeper lib.rt 'managed_boot::pack(managed_boot::boot(table, records))' \
     'service_answers::pack(managed_boot::boot(table, records))' Answer Booted
 refused socket_masks lib.rt 'write(t, i, seat, 0)' 'write(t, seat, i, 0)' usize Seat
-refused irq_services lib.rt 'grant_of(t, seat, h, level)' 'grant_of(t, h, seat, level)' Seat Handle
-refused irq_services lib.rt 'enter(t, seat, h, level, irq_levels::manner_byte(manner))' \
-    'enter(t, seat, level, h, irq_levels::manner_byte(manner))' Handle usize
+refused irq_services lib.rt 'grants::level_of(t, seat, h, level)' 'grants::level_of(t, h, seat, level)' Seat Handle
+refused irq_services lib.rt 'grants::enter_level(t, seat, h, level, irq_levels::manner_byte(manner))' \
+    'grants::enter_level(t, seat, level, h, irq_levels::manner_byte(manner))' Handle usize
 refused irq_fitting lib.rt 'levels_at(t, asked, Seat(s))' 'levels_at(t, asked, s)' Seat usize
 refused keeper lib.rt 'irq_services::request(table, h, packet)' \
     'irq_services::request(table, handle, packet)' Handle u16
 refused io_bars lib.rt 'seats::held(t, Seat(s))' 'seats::held(t, s)' Seat usize
 refused io_bases lib.rt 'stands(t, asked, Seat(s))' 'stands(t, asked, s)' Seat usize
-refused io_services lib.rt 'grant_of(t, seat, h, base, count)' 'grant_of(t, h, seat, base, count)' Seat Handle
+refused io_services lib.rt 'grants::ports_of(t, seat, h, base, count)' \
+    'grants::ports_of(t, h, seat, base, count)' Seat Handle
 refused io_services lib.rt 'enter_asked(t, seat, h, base, asked, p)' \
     'enter_asked(t, seat, base, h, asked, p)' Handle usize
 refused keeper lib.rt 'io_services::request(table, h, packet)' \

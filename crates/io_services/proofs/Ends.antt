@@ -1,16 +1,16 @@
 -- Each way in which RequestIO and ReleaseIO end is the rule's. Assumes nothing.
-use Rattle.facts.proofs.Words.{_≡_, refl, ap, sym, _∙_, inl, inr, _≢_, List, [], _∷_, none, some, Option·none-ne-some, ℕ, _+_, _≤_, _<_, decLe}
-use Rattle.facts.proofs.Words.{arith, set, Ports, subst, Option·some-injective}
+use Rattle.facts.proofs.Words.{_≡_, refl, sym, _∙_, inl, inr, _≢_, List, [], _∷_, none, some, Option·none-ne-some, ℕ, _≤_, _<_, decLe}
+use Rattle.facts.proofs.Words.{arith}
 use Rattle.layout.proofs.Of
 use Rattle.facts.specs.{Code, Success, BadAttribute, BadBase, BadSize, InUse, Facts, withWord, _gives_, FirstGiven, Passed, Leaves}
 use Rattle.facts.specs.{socketOf, requestIoLength, releaseIoLength, baseAsked, countAsked, linesAsked, secondCount, withIo, ioGrant, GrantsIo, IoHeld}
-use Rattle.facts.specs.{IoAttributesBad, IoSizeBad, BaseTaken, ownIoChecks, baseChecks, RequestIo, ReleaseIo, mostLines, ioAsked, IoAsked, HeldPorts}
-use Rattle.layout.specs.{ioPlace, ioIn, Accepted, IoUsed, ServedBy, ioEntered, ioBaseAt, ioCountAt, ioLinesAt, ioSharedAt, factsIn}
+use Rattle.facts.specs.{IoAttributesBad, IoSizeBad, BaseTaken, ownIoChecks, baseChecks, RequestIo, ReleaseIo, mostLines, ioAsked, IoAsked}
+use Rattle.layout.specs.{ioIn, Accepted, IoUsed, ServedBy, ioEntered, factsIn}
 use Rattle.layout.proofs.{granted-image, released-image, left}
 use Rattle.service_checks.specs.{BegunAt}
 use Rattle.service_checks.specs.declared.CardNeed.{CardNeed}
 use Rattle.service_checks.specs.declared.CardNeed.the-variants.{Needed, Ignored}
-use Rattle.service_checks.proofs.{seat-named, in-seats, positive, Service, refused-own, done-own}
+use Rattle.service_checks.proofs.{seat-named, in-seats, Service, refused-own, done-own}
 use Rattle.io_bases.specs.{BaseIs}
 use Rattle.io_bases.specs.declared.Base.{Base}
 use Rattle.io_bases.specs.declared.Base.the-variants as taken
@@ -50,27 +50,6 @@ count-good p good = within-or-not (decLe 1 (countAsked p))
 pub base-fits : (b : List ℕ) (q : IoAsked) (r : Base) → BaseIs b q r → BaseFits r
 base-fits b q (taken.At x) is = is .0
 base-fits b q (taken.Refused k) is = omega arith
-
--- a record's writes, one after the other: two numbers of two bytes, then three bytes
-pub enters : (b b₁ b₂ : List ℕ) (at s client base : ℕ) → at ≡ ioPlace s → b₁ ≡ withWord b at client → b₂ ≡ withWord b₁ (at + ioBaseAt) base
-    → (count lines shared : ℕ)
-    → set (set (set b₂ (at + ioCountAt) count) (at + ioLinesAt) lines) (at + ioSharedAt) shared ≡ ioEntered b s client base count lines shared
-unfolding ioEntered
-enters b b₁ b₂ at s client base place put₁ put₂ count lines shared = rw (put₂, put₁, place)
-
--- what is held at a seat: whether it is this client's, at that base and of that count
-module _ (F : Facts) (h s base count : ℕ) where
-  pub none-held : F .io s ≡ none → IoHeld F h s base count → ⊥
-  none-held e x = Option·none-ne-some (x .range) (sym e ∙ x .held)
-
-  module _ (y : HeldPorts) (e : F .io s ≡ some y) where
-    pub range-held : IoHeld F h s base count → (y .client ≡ h) × (y .ports .base ≡ base) × (y .ports .count ≡ count)
-    range-held x =
-        subst (λ (z : HeldPorts). (z .client ≡ h) × (z .ports .base ≡ base) × (z .ports .count ≡ count))
-        (Option·some-injective (x .range) y (sym (x .held) ∙ e)) (x .client, x .base-is, x .count-is)
-
-    pub held-range : y .client ≡ h → y .ports .base ≡ base → y .ports .count ≡ count → IoHeld F h s base count
-    held-range c d n = record { range = y; held = e; client = c; base-is = d; count-is = n }
 
 -- the service has begun: the seat's grant
 module _ {b p : List ℕ} {n h i s : ℕ} {need : CardNeed} (a : Accepted b) (begun : BegunAt b p n h need i s) where

@@ -1,4 +1,4 @@
 -- Each end of RequestIO and ReleaseIO. Assumes nothing.
 pub mod Ends
-pub use Ends.{none-held, range-held, held-range, requesting, releasing, lines-good, count-good, enters, request-attributes, request-sizes}
+pub use Ends.{requesting, releasing, lines-good, count-good, request-attributes, request-sizes}
 pub use Ends.{request-held, base-fits, settled, release-second, release-unheld, release-done}

@@ -6,7 +6,7 @@ use Rattle.facts.specs.declared.Code.the-variants.{Success}
 use Rattle.facts.specs.Packets.{withWord}
 use Rattle.facts.specs.declared.IoAsked.{IoAsked}
 use Rattle.facts.specs.Table.{Facts, Seat}
-use Rattle.facts.specs.Io.{IoHeld, RequestIo, ReleaseIo}
+use Rattle.facts.specs.Io.{RequestIo, ReleaseIo}
 use Rattle.layout.specs.Served.{ServedBy}
 use Rattle.layout.specs.Layout.{mark}
 use Rattle.layout.specs.Changed.{ioEntered}
@@ -14,8 +14,6 @@ use Rattle.service_answers.specs.declared.Answer.{Answer}
 use Rattle.service_answers.specs.Answers.{codeOf, handleOf}
 use Rattle.io_bases.specs.declared.Base.{Base}
 use Rattle.io_bases.specs.declared.Base.the-variants as base
-use Rattle.io_services.specs.declared.Grant.{Grant}
-use Rattle.io_services.specs.declared.Grant.the-variants as grant
 
 -- the record of the grant that is asked for, at a base
 abbrev pub askedEntered : List ℕ → Seat → ℕ → ℕ → IoAsked → List ℕ
@@ -33,11 +31,6 @@ BaseFits r = baseOf r < 65536
 abbrev pub Granted : Seat → ℕ → IoAsked → Base → List ℕ → List ℕ → List ℕ → List ℕ → Answer → Type 0
 Granted s h q (base.At x) p p′ b b′ r = (b′ ≡ askedEntered b s h x q) × (p′ ≡ withWord p 2 x) × (codeOf r ≡ Success) × (handleOf r ≡ h)
 Granted s h q (base.Refused k) p p′ b b′ r = (b′ ≡ b) × (p′ ≡ p) × (codeOf r ≡ k) × (handleOf r ≡ 0)
-
--- the client h holds that base and count at the seat, or it doesn't
-abbrev pub GrantIs : Facts → ℕ → Seat → ℕ → ℕ → Grant → Type 0
-GrantIs F h s base count grant.Held = IoHeld F h s base count
-GrantIs F h s base count grant.Other = IoHeld F h s base count → ⊥
 
 -- RequestIO is served as its rule says: it answers r, and leaves the packet p′ and the table b′
 abbrev pub RequestServed : ℕ → List ℕ → List ℕ → List ℕ → List ℕ → Answer → Type 0

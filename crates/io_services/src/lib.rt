@@ -3,16 +3,13 @@ use facts::Code;
 use facts::Handle;
 use facts::IoAsked;
 use facts::Seat;
+use grants::Ports;
 use io_bases::Base;
 use io_packets::Attributes;
 use io_packets::BASE_AT;
 use io_packets::LENGTH;
 use io_packets::Second;
 use io_packets::Sizes;
-use layout::IO_BASE_AT;
-use layout::IO_COUNT_AT;
-use layout::IO_LINES_AT;
-use layout::IO_SHARED_AT;
 use layout::MARKED;
 use seats::IoSeat;
 use seats::NOBODY;
@@ -26,33 +23,9 @@ ghost use Rattle.facts.specs.Table;
 ghost use Rattle.facts.specs.Packets.{withWord};
 ghost use Rattle.facts.specs.Io.{requestIoLength};
 ghost use Rattle.layout.specs.Layout.{tableSize, mark};
-ghost use Rattle.layout.specs.Reading.{factsIn};
 ghost use Rattle.layout.specs.Sound.{Accepted};
-ghost use Rattle.layout.specs.Changed.{ioEntered};
 ghost use Rattle.io_bases.specs.Bases.{AskedFits};
-ghost use Rattle.io_services.specs.Granting.{askedEntered, BaseFits, Granted, GrantIs, RequestServed, ReleaseServed};
-
-// The record of the seat's I/O grant: client, base, count, lines and shared mark; of none it is nobody's, and zeros.
-fn enter(
-    t: &mut [u8],
-    seat: Seat,
-    h: Handle,
-    base: usize,
-    count: usize,
-    lines: usize,
-    shared: usize,
-)
-    requires { ⌜ (length (now t) ≡ tableSize) × (seat .0 < Table.mostSeats) × (base < 65536) × (count < 256) × (lines < 256) × (shared < 256) ⌝ }
-    ensures { λ _. ⌜ now (t .exit) ≡ ioEntered (now (t .entry)) (seat .0) (h .0) base count lines shared ⌝ }
-{
-    let at = seats::io_place(seat);
-    let client = h.0;
-    table_write::put_word(t, at, client as usize);
-    table_write::put_word(t, at + IO_BASE_AT, base);
-    t[at + IO_COUNT_AT] = count as u8;
-    t[at + IO_LINES_AT] = lines as u8;
-    t[at + IO_SHARED_AT] = shared as u8;
-}
+ghost use Rattle.io_services.specs.Granting.{askedEntered, BaseFits, Granted, RequestServed, ReleaseServed};
 
 // The mark of what is shared, or not.
 fn mark_of(shared: bool) -> usize
@@ -67,7 +40,7 @@ fn enter_asked(t: &mut [u8], seat: Seat, h: Handle, base: usize, asked: IoAsked,
     ensures { λ _. ⌜ now (t .exit) ≡ askedEntered (now (t .entry)) (seat .0) (h .0) base asked ⌝ }
     ensures { λ _. ⌜ now (p .exit) ≡ withWord (now (p .entry)) 2 base ⌝ }
 {
-    enter(
+    grants::enter_ports(
         t,
         seat,
         h,
@@ -122,32 +95,6 @@ pub fn request(t: &mut [u8], h: Handle, p: &mut [u8]) -> Answer
     }
 }
 
-// "BAD_BASE unless this client holds that base and count on this socket."
-pub enum Grant {
-    Held,
-    Other,
-}
-
-fn grant_of(t: &[u8], seat: Seat, h: Handle, base: usize, count: usize) -> Grant
-    requires { ⌜ (length (now t) ≡ tableSize) × (seat .0 < Table.mostSeats) ⌝ }
-    ensures { λ r. ⌜ GrantIs (factsIn (now (t .entry))) (h .0) (seat .0) base count r ⌝ }
-{
-    let IoSeat::Held(x) = seats::held(t, seat) else {
-        return Grant::Other;
-    };
-    let holder = x.client;
-    if holder.0 != h.0 {
-        return Grant::Other;
-    }
-    if x.base != base {
-        return Grant::Other;
-    }
-    if x.count != count {
-        return Grant::Other;
-    }
-    Grant::Held
-}
-
 pub fn release(t: &mut [u8], h: Handle, p: &[u8]) -> Answer
     requires { ⌜ Accepted (now t) ⌝ }
     ensures { λ r. ⌜ ReleaseServed (h .0) (now (p .entry)) (now (t .entry)) (now (t .exit)) r ⌝ }
@@ -160,10 +107,10 @@ pub fn release(t: &mut [u8], h: Handle, p: &[u8]) -> Answer
             };
             let base = io_packets::base_asked(p);
             let count = io_packets::count_asked(p);
-            let Grant::Held = grant_of(t, seat, h, base, count) else {
+            let Ports::Held = grants::ports_of(t, seat, h, base, count) else {
                 return Answer::Refused(Code::BadBase);
             };
-            enter(t, seat, Handle(NOBODY), 0, 0, 0, 0);
+            grants::enter_ports(t, seat, Handle(NOBODY), 0, 0, 0, 0);
             Answer::Done(h)
         }
         Begun::Refused(code) => Answer::Refused(code),

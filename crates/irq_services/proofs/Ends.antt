@@ -1,12 +1,11 @@
 -- Each way in which RequestIRQ and ReleaseIRQ end is the rule's. Assumes nothing.
-use Rattle.facts.proofs.Words.{_≡_, refl, ap, sym, _∙_, inl, inr, _≢_, List, [], _∷_, none, some, Option·none-ne-some, ℕ, _+_, _<_}
-use Rattle.facts.proofs.Words.{Option·some-injective, set}
+use Rattle.facts.proofs.Words.{_≡_, refl, ap, sym, _∙_, inl, inr, _≢_, List, [], _∷_, none, some, Option·none-ne-some, ℕ, _<_}
 use Rattle.layout.proofs.Of
-use Rattle.facts.specs.{Code, Success, BadAttribute, BadIrq, BadArgs, InUse, Manner, Facts, IrqGrant, withWord, typeOf, Check, _gives_, Leaves}
+use Rattle.facts.specs.{Code, Success, BadAttribute, BadIrq, BadArgs, InUse, Manner, Facts, IrqGrant, typeOf, Check, _gives_, Leaves}
 use Rattle.facts.specs.{socketOf, seatOf, irqAsked, RequestIrq, ReleaseIrq, requestIrqLength, releaseIrqLength, typeAsked, assignedIrq, mannerAsked}
 use Rattle.facts.specs.{assigning, withIrq, irqGrant, GrantsIrq, IrqHeld, IrqAttributesBad, IrqInfoBad, LevelTaken, NoLevelFits, ownIrqChecks, levelChecks}
 use Rattle.facts.proofs.{taken-fits}
-use Rattle.layout.specs.{mannerByte, irqPlace, factsIn, Accepted, ServedBy, irqEntered, irqLevelAt, irqMannerAt}
+use Rattle.layout.specs.{mannerByte, factsIn, Accepted, ServedBy, irqEntered}
 use Rattle.layout.proofs.{left}
 use Rattle.layout.proofs.Irqs.{granted-image, released-image}
 use Rattle.service_checks.specs.{BegunAt}
@@ -18,9 +17,10 @@ use Rattle.seats.specs.declared.HeldLevel.{HeldLevel}
 use Rattle.seats.specs.declared.IrqSeat.{IrqSeat}
 use Rattle.seats.specs.declared.IrqSeat.the-variants as seat
 use Rattle.seats.proofs.{irq-held}
-use Rattle.irq_services.specs.declared.Grant.{Grant}
-use Rattle.irq_services.specs.declared.Grant.the-variants as held
-use Rattle.irq_services.specs.{GrantIs}
+use Rattle.grants.specs.{LevelOf}
+use Rattle.grants.specs.declared.Level.{Level}
+use Rattle.grants.specs.declared.Level.the-variants as held
+use Rattle.grants.proofs.{level-is}
 
 -- a release's own checks
 abbrev unheld : Facts → ℕ → List ℕ → Check
@@ -42,30 +42,12 @@ releasing =
       done = λ F h p. Leaves h p (withIrq F (seatOf (socketOf p)) none);
     }
 
--- a record's writes, one after the other
-pub enters : (b b₁ : List ℕ) (at s client : ℕ) → at ≡ irqPlace s → b₁ ≡ withWord b at client → (level manner : ℕ)
-    → set (set b₁ (at + irqLevelAt) level) (at + irqMannerAt) manner ≡ irqEntered b s client level manner
-unfolding irqEntered
-enters b b₁ at s client place put level manner = rw (put, place)
-
--- what is held at a seat: nothing, or one grant
-module _ (F : Facts) (h s l : ℕ) where
-  pub none-held : F .irq s ≡ none → (g : IrqGrant) → IrqHeld F h s l g → ⊥
-  none-held e g x = Option·none-ne-some g (sym e ∙ x .live)
-
-  pub held-is : (y : IrqGrant) → F .irq s ≡ some y → (g : IrqGrant) → IrqHeld F h s l g → y ≡ g
-  held-is y e g x = Option·some-injective y g (sym e ∙ x .live)
-
-  pub so-held : (y : IrqGrant) → F .irq s ≡ some y → y .client ≡ h → y .level ≡ l
-      → IrqHeld F h s l (record { client = h; level = l; manner = y .manner })
-  so-held y e client level = record { live = rw (← client, ← level) e; client = refl; level = refl }
-
 -- the service has begun: what is read of its seat is so of the packet's socket
 module _ {b p : List ℕ} {n h i s : ℕ} {need : CardNeed} (a : Accepted b) (begun : BegunAt b p n h need i s) where
   read : (r : IrqSeat) → LevelHeldIs b s r → a .facts .irq (seatOf (socketOf p)) ≡ irqAt r
   read r is = rw (← seat-named a begun) (irq-held b s (in-seats a begun) a r is)
 
-  granted : (l : ℕ) (r : Grant) → GrantIs (factsIn b) h s l r → GrantIs (a .facts) h (seatOf (socketOf p)) l r
+  granted : (l : ℕ) (r : Level) → LevelOf (factsIn b) h s l r → LevelOf (a .facts) h (seatOf (socketOf p)) l r
   granted l r x = rw (Of.facts-in b a, ← seat-named a begun) x
 
 module _ {b p : List ℕ} {h i s : ℕ} (a : Accepted b) (begun : BegunAt b p requestIrqLength h Needed i s) where
@@ -107,19 +89,19 @@ module _ {b p : List ℕ} {h i s : ℕ} (a : Accepted b) (begun : BegunAt b p re
   abbrev Released : List ℕ → Code → ℕ → Type 0
   Released b′ k handle = ServedBy (λ (F : Facts). ReleaseIrq F h p) b b′ p k handle
 
-  pub release-unheld : GrantIs (factsIn b) h s (assignedIrq p) held.Other → Released b BadIrq 0
+  pub release-unheld : LevelOf (factsIn b) h s (assignedIrq p) held.Other → Released b BadIrq 0
   release-unheld d = refused-own releasing a begun BadIrq (inl (granted a begun _ held.Other d, refl))
 
   -- the client holds the level, in this manner
-  module _ (m : Manner) (x : GrantIs (factsIn b) h s (assignedIrq p) (held.Held m)) where
-    holds : GrantIs (a .facts) h (seatOf (socketOf p)) (assignedIrq p) (held.Held m)
+  module _ (m : Manner) (x : LevelOf (factsIn b) h s (assignedIrq p) (held.Held m)) where
+    holds : LevelOf (a .facts) h (seatOf (socketOf p)) (assignedIrq p) (held.Held m)
     holds = granted a begun _ (held.Held m) x
 
     pub release-differs : typeOf m ≢ typeAsked p → Released b BadAttribute 0
     release-differs d = refused-own releasing a begun BadAttribute (inr ((λ n. n _ holds), inl ((_, holds, d), refl)))
 
     alike : typeOf m ≡ typeAsked p → differs (a .facts) h p .when → ⊥
-    alike same y = y .2 (ap (λ (g : IrqGrant). typeOf (g .manner)) (sym (held-is _ _ _ _ _ (holds .live) (y .0) (y .1))) ∙ same)
+    alike same y = y .2 (ap (λ (g : IrqGrant). typeOf (g .manner)) (sym (level-is _ _ _ _ _ (holds .live) (y .0) (y .1))) ∙ same)
 
     pub release-done : typeOf m ≡ typeAsked p → Released (irqEntered b s 0 0 0) Success h
     release-done same =

@@ -4,21 +4,14 @@ use mathlib.Core.Logic.{_≢_}
 use mathlib.Core.List.{List}
 use Prim.Native.Nat.{ℕ}
 use Rattle.facts.specs.declared.Manner.{Manner}
-use Rattle.facts.specs.Table.{Facts, Seat, IrqGrant}
+use Rattle.facts.specs.Table.{Facts}
 use Rattle.facts.specs.Levels.{typeOf}
-use Rattle.facts.specs.Irq.{typeAsked, IrqHeld, RequestIrq, ReleaseIrq}
+use Rattle.facts.specs.Irq.{typeAsked, RequestIrq, ReleaseIrq}
 use Rattle.layout.specs.Served.{ServedBy}
 use Rattle.service_answers.specs.declared.Answer.{Answer}
 use Rattle.service_answers.specs.Answers.{codeOf, handleOf}
-use Rattle.irq_services.specs.declared.Grant.{Grant}
-use Rattle.irq_services.specs.declared.Grant.the-variants as grant
 use Rattle.irq_services.specs.declared.Kind.{Kind}
 use Rattle.irq_services.specs.declared.Kind.the-variants as kind
-
--- the client h holds the level l at the seat, in this manner; or it doesn't
-abbrev pub GrantIs : Facts → ℕ → Seat → ℕ → Grant → Type 0
-GrantIs F h s l (grant.Held m) = IrqHeld F h s l (record { client = h; level = l; manner = m })
-GrantIs F h s l grant.Other = (g : IrqGrant) → IrqHeld F h s l g → ⊥
 
 -- the packet's type bits are those of the manner, or others
 abbrev pub KindIs : List ℕ → Manner → Kind → Type 0

@@ -1,3 +1,3 @@
 -- What the contracts of `irq_services` cite. Assumes nothing.
 pub mod Granting
-pub use Granting.{GrantIs, KindIs}
+pub use Granting.{KindIs}

@@ -6,8 +6,8 @@ use Rattle.layout.specs.{factsIn}
 use Rattle.service_checks.specs.{BegunAt}
 use Rattle.service_checks.specs.declared.CardNeed.the-variants.{Ignored}
 use Rattle.service_checks.proofs.{in-table, refused-ahead}
-use Rattle.io_services.specs.{GrantIs}
-use Rattle.io_services.specs.declared.Grant.{Grant}
+use Rattle.grants.specs.{PortsOf}
+use Rattle.grants.specs.declared.Ports.{Ports}
 use Rattle.io_services.proofs.{releasing, release-second, release-unheld, release-done}
 use Rattle.io_services.proofs.release.Tie as tie
 
@@ -40,18 +40,18 @@ no-second c = let tried = c .before .before in rw (c .enum-told .given .1) at (t
 abbrev second-of-count : tie.After-count-asked → tie.After-enum-told
 second-of-count c = c .before .before
 
-abbrev second-of-look : tie.After-grant-of → tie.After-enum-told
+abbrev second-of-look : tie.After-ports-of → tie.After-enum-told
 second-of-look c = second-of-count (c .before .before)
 
-abbrev seat-of-look : tie.After-grant-of → tie.After-known-told
+abbrev seat-of-look : tie.After-ports-of → tie.After-known-told
 seat-of-look c = seat-of-second (second-of-look c)
 
-granted : (c : tie.After-grant-of) {r : Grant} → c .grant-of .result ≡ r → let k = seat-of-look c in let s = start-of-seat k in
-    GrantIs (factsIn (now (s .args .t))) (s .args .h .0) (seat k) (baseAsked (now (s .args .p))) (countAsked (now (s .args .p))) r
+granted : (c : tie.After-ports-of) {r : Ports} → c .ports-of .result ≡ r → let k = seat-of-look c in let s = start-of-seat k in
+    PortsOf (factsIn (now (s .args .t))) (s .args .h .0) (seat k) (baseAsked (now (s .args .p))) (countAsked (now (s .args .p))) r
 granted c e =
     let count = c .before .before in
     let base = count .before in
-    rw (base .base-asked .ensures .0, count .count-asked .ensures .0) at (rw e at (c .grant-of .ensures))
+    rw (base .base-asked .ensures .0, count .count-asked .ensures .0) at (rw e at (c .ports-of .ensures))
 
 returns : tie.Need-returns
 returns c =
@@ -59,8 +59,8 @@ returns c =
     let k = tried .before in
     release-second (start-of-seat k .pre) (begun k) (rw (c .enum-told2 .given .1) at (tried .second-asked .ensures))
 
-grant-of-requires : tie.Need-grant-of-requires
-grant-of-requires c κs = let k = seat-of-second (second-of-count (c .before)) in in-table (start-of-seat k .pre) (begun k)
+ports-of-requires : tie.Need-ports-of-requires
+ports-of-requires c κs = let k = seat-of-second (second-of-count (c .before)) in in-table (start-of-seat k .pre) (begun k)
 
 returns-2 : tie.Need-returns-2
 returns-2 c =
@@ -68,8 +68,8 @@ returns-2 c =
     let k = seat-of-look look in
     release-unheld (start-of-seat k .pre) (begun k) (no-second (second-of-look look)) (granted look (c .enum-told4 .given .1))
 
-enter-requires : tie.Need-enter-requires
-enter-requires c κs =
+enter-ports-requires : tie.Need-enter-ports-requires
+enter-ports-requires c κs =
     let look = c .before .before .before in
     let k = seat-of-look look in
     let t = in-table (start-of-seat k .pre) (begun k) in
@@ -81,7 +81,7 @@ returns-3 c =
     let told = entered .before .before in
     let look = told .before .before in
     let k = seat-of-look look in
-    rw (entered .enter .ensures)
+    rw (entered .enter-ports .ensures)
     (release-done (start-of-seat k .pre) (begun k) (no-second (second-of-look look)) (granted look (told .enum-told3 .given .1)))
 
 returns-4 : tie.Need-returns-4
@@ -94,4 +94,4 @@ returns-4 c =
 pub release-spec : {M : Type 1} → Rattle.io_services.proofs.release.Statement.statement M
 release-spec =
     tie.close
-    (tie.spec (λ c κs. search needs) (λ c. search needs) (λ c κs. begun c .size) (λ c. search needs) (λ c. search needs) (λ c. search needs) returns (λ c κs. begun (seat-of-second c) .size) (λ c κs. begun (seat-of-second (c .before)) .size) grant-of-requires (λ c. search needs) (λ c. search needs) (λ c. search needs) returns-2 enter-requires (λ c. search needs) (λ c. search needs) returns-3 (λ c. search needs) returns-4)
+    (tie.spec (λ c κs. search needs) (λ c. search needs) (λ c κs. begun c .size) (λ c. search needs) (λ c. search needs) (λ c. search needs) returns (λ c κs. begun (seat-of-second c) .size) (λ c κs. begun (seat-of-second (c .before)) .size) ports-of-requires (λ c. search needs) (λ c. search needs) (λ c. search needs) returns-2 enter-ports-requires (λ c. search needs) (λ c. search needs) returns-3 (λ c. search needs) returns-4)

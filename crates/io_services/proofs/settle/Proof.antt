@@ -1,7 +1,6 @@
 -- `io_services::settle` meets its contract: the grant is entered, or nothing is done.
 -- Assumes nothing.
 use Rattle.facts.proofs.Words.{refl, needs}
-use Rattle.io_services.specs.{Granted}
 use Rattle.io_services.proofs.settle.Tie as tie
 
 -- where the call began

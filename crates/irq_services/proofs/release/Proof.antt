@@ -6,9 +6,9 @@ use Rattle.layout.specs.{factsIn}
 use Rattle.service_checks.specs.{BegunAt}
 use Rattle.service_checks.specs.declared.CardNeed.the-variants.{Ignored}
 use Rattle.service_checks.proofs.{in-table, refused-ahead}
-use Rattle.irq_services.specs.{GrantIs}
-use Rattle.irq_services.specs.declared.Grant.{Grant}
-use Rattle.irq_services.specs.declared.Grant.the-variants as grant
+use Rattle.grants.specs.{LevelOf}
+use Rattle.grants.specs.declared.Level.{Level}
+use Rattle.grants.specs.declared.Level.the-variants as grant
 use Rattle.irq_services.proofs.{releasing, release-unheld, release-differs, release-done}
 use Rattle.irq_services.proofs.release.Tie as tie
 
@@ -31,18 +31,18 @@ begun : (c : tie.After-known-told) → let s = start-of-seat c in
 begun c = let tried = c .before .before .before in rw (c .before .begun .given .1) at (tried .begin .ensures)
 
 -- the grant is looked at: whether the client holds this level
-abbrev level-of-look : tie.After-grant-of → tie.After-byte
+abbrev level-of-look : tie.After-level-of → tie.After-byte
 level-of-look c = c .before .before
 
-abbrev seat-of-look : tie.After-grant-of → tie.After-known-told
+abbrev seat-of-look : tie.After-level-of → tie.After-known-told
 seat-of-look c = level-of-look c .before
 
-granted : (c : tie.After-grant-of) {r : Grant} → c .grant-of .result ≡ r → let k = seat-of-look c in let s = start-of-seat k in
-    GrantIs (factsIn (now (s .args .t))) (s .args .h .0) (seat k) (assignedIrq (now (s .args .p))) r
-granted c e = rw (level-of-look c .byte .ensures .0) at (rw e at (c .grant-of .ensures))
+granted : (c : tie.After-level-of) {r : Level} → c .level-of .result ≡ r → let k = seat-of-look c in let s = start-of-seat k in
+    LevelOf (factsIn (now (s .args .t))) (s .args .h .0) (seat k) (assignedIrq (now (s .args .p))) r
+granted c e = rw (level-of-look c .byte .ensures .0) at (rw e at (c .level-of .ensures))
 
 -- it does, in this manner
-abbrev look-of-grant : tie.After-known-told2 → tie.After-grant-of
+abbrev look-of-grant : tie.After-known-told2 → tie.After-level-of
 look-of-grant c = c .before .before .before
 
 abbrev seat-of-grant : tie.After-known-told2 → tie.After-known-told
@@ -52,11 +52,11 @@ abbrev manner : tie.After-known-told2 → Manner
 manner c = c .before .manner .given .0 .0
 
 held : (c : tie.After-known-told2) → let k = seat-of-grant c in let s = start-of-seat k in
-    GrantIs (factsIn (now (s .args .t))) (s .args .h .0) (seat k) (assignedIrq (now (s .args .p))) (grant.Held (manner c))
+    LevelOf (factsIn (now (s .args .t))) (s .args .h .0) (seat k) (assignedIrq (now (s .args .p))) (grant.Held (manner c))
 held c = granted (look-of-grant c) (c .before .manner .given .1)
 
-grant-of-requires : tie.Need-grant-of-requires
-grant-of-requires c κs = let read = c .before in let k = read .before in in-table (start-of-seat k .pre) (begun k)
+level-of-requires : tie.Need-level-of-requires
+level-of-requires c κs = let read = c .before in let k = read .before in in-table (start-of-seat k .pre) (begun k)
 
 returns : tie.Need-returns
 returns c =
@@ -71,8 +71,8 @@ returns-2 c =
     let k = seat-of-grant told in
     release-differs (start-of-seat k .pre) (begun k) (manner told) (held told) (rw (c .enum-told3 .given .1) at (look .kind-of .ensures))
 
-enter-requires : tie.Need-enter-requires
-enter-requires c κs =
+enter-level-requires : tie.Need-enter-level-requires
+enter-level-requires c κs =
     let look = c .before .before .before in
     let k = seat-of-grant (look .before) in
     let t = in-table (start-of-seat k .pre) (begun k) in
@@ -85,7 +85,7 @@ returns-3 c =
     let look = same .before .before in
     let told = look .before in
     let k = seat-of-grant told in
-    rw (entered .enter .ensures)
+    rw (entered .enter-level .ensures)
     (release-done (start-of-seat k .pre) (begun k) (manner told) (held told) (rw (same .enum-told2 .given .1) at (look .kind-of .ensures)))
 
 returns-4 : tie.Need-returns-4
@@ -98,4 +98,4 @@ returns-4 c =
 pub release-spec : {M : Type 1} → Rattle.irq_services.proofs.release.Statement.statement M
 release-spec =
     tie.close
-    (tie.spec (λ c κs. search needs) (λ c. search needs) (λ c κs. omega (arith, begun c .size)) grant-of-requires (λ c. search needs) (λ c. search needs) (λ c. search needs) returns (λ c κs. omega (arith, begun (seat-of-grant c) .size)) (λ c. search needs) (λ c. search needs) (λ c. search needs) returns-2 enter-requires (λ c. search needs) (λ c. search needs) returns-3 (λ c. search needs) returns-4)
+    (tie.spec (λ c κs. search needs) (λ c. search needs) (λ c κs. omega (arith, begun c .size)) level-of-requires (λ c. search needs) (λ c. search needs) (λ c. search needs) returns (λ c κs. omega (arith, begun (seat-of-grant c) .size)) (λ c. search needs) (λ c. search needs) (λ c. search needs) returns-2 enter-level-requires (λ c. search needs) (λ c. search needs) returns-3 (λ c. search needs) returns-4)

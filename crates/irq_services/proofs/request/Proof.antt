@@ -100,7 +100,7 @@ level-below c =
     a .formed .levels (level c) (taken-fits (a .facts) (a .formed) (irqAsked (now (s .args .p))) (level c) (level-taken c) .managed)
 
 -- the grant is entered
-abbrev level-of-entry : tie.After-enter → tie.After-known-told2
+abbrev level-of-entry : tie.After-enter-level → tie.After-known-told2
 level-of-entry c = let byte = c .before in byte .before .before
 
 returns : tie.Need-returns
@@ -140,8 +140,8 @@ returns-4 c =
     request-none a (begun k) (attributes-good (attributes-of-info (told .before .before))) (info-good told) (place-free free)
     (chosen tried (c .enum-told7 .given .1) a)
 
-enter-requires : tie.Need-enter-requires
-enter-requires c κs =
+enter-level-requires : tie.Need-enter-level-requires
+enter-level-requires c κs =
     let taken = c .before .before in
     let k = seat-of-level taken in
     let t = in-table (start-of-seat k .pre) (begun k) in
@@ -163,7 +163,7 @@ returns-5 c =
     let free = place-of-asked asked in
     let told = info-of-place free in
     let k = seat-of-level taken in
-    rw (entered .enter .ensures, entered .before .manner-byte .ensures, asked .asked .ensures, assigned .assign .ensures)
+    rw (entered .enter-level .ensures, entered .before .manner-byte .ensures, asked .asked .ensures, assigned .assign .ensures)
     (request-done (start-of-seat k .pre) (begun k) (attributes-good (attributes-of-info (told .before .before))) (info-good told) (place-free free)
     (level taken) (level-taken taken) (handle-fits (start-of-seat k)))
 
@@ -177,4 +177,4 @@ returns-6 c =
 pub request-spec : {M : Type 1} → Rattle.irq_services.proofs.request.Statement.statement M
 request-spec =
     tie.close
-    (tie.spec (λ c κs. search needs) (λ c. search needs) (λ c κs. begun (c .before) .size) (λ c. search needs) (λ c. search needs) (λ c. search needs) (λ c. search needs) returns info-asked-requires (λ c. search needs) (λ c. search needs) (λ c. search needs) (λ c. search needs) returns-2 level-held-requires (λ c. search needs) (λ c. search needs) (λ c. search needs) (λ c. search needs) returns-3 (λ c κs. begun (seat-of-place (c .before)) .size) (λ c κs. search needs) (λ c. search needs) (λ c. search needs) (λ c. search needs) (λ c. search needs) returns-4 (λ c κs. search needs) enter-requires assign-requires (λ c. search needs) (λ c. search needs) (λ c. search needs) returns-5 (λ c. search needs) (λ c. search needs) returns-6)
+    (tie.spec (λ c κs. search needs) (λ c. search needs) (λ c κs. begun (c .before) .size) (λ c. search needs) (λ c. search needs) (λ c. search needs) (λ c. search needs) returns info-asked-requires (λ c. search needs) (λ c. search needs) (λ c. search needs) (λ c. search needs) returns-2 level-held-requires (λ c. search needs) (λ c. search needs) (λ c. search needs) (λ c. search needs) returns-3 (λ c κs. begun (seat-of-place (c .before)) .size) (λ c κs. search needs) (λ c. search needs) (λ c. search needs) (λ c. search needs) (λ c. search needs) returns-4 (λ c κs. search needs) enter-level-requires assign-requires (λ c. search needs) (λ c. search needs) (λ c. search needs) returns-5 (λ c. search needs) (λ c. search needs) returns-6)

@@ -1,12 +1,12 @@
--- `io_services::grant_of` meets its contract: nothing is held there, or not by this client, not at that base or not so many ports.
+-- `grants::ports_of` meets its contract: nothing is held there, or not by this client, not at that base or not so many ports.
 -- Assumes nothing.
 use Rattle.facts.proofs.Words.{_≡_, ap, _∙_, some, ℕ, now, needs}
 use Rattle.facts.specs.{Facts, HeldPorts}
 use Rattle.layout.specs.{factsIn}
 use Rattle.seats.specs.{range, ioAt}
 use Rattle.seats.proofs.{io-read}
-use Rattle.io_services.proofs.{none-held, range-held, held-range}
-use Rattle.io_services.proofs.grant_of.Tie as tie
+use Rattle.grants.proofs.{no-ports, ports-held, held-ports}
+use Rattle.grants.proofs.ports_of.Tie as tie
 
 -- where the call began, what its table says, and the seat
 abbrev start : tie.After-held → tie.Start
@@ -42,22 +42,22 @@ abbrev range-of-count : tie.After-struct-known4 → tie.After-known-told
 range-of-count c = range-of-base (c .before .before)
 
 returns : tie.Need-returns
-returns c = none-held _ _ _ _ _ (answered (c .before .before) ∙ ap ioAt (c .enum-told .given .1))
+returns c = no-ports _ _ _ _ _ (answered (c .before .before) ∙ ap ioAt (c .enum-told .given .1))
 
 returns-2 : tie.Need-returns-2
-returns-2 c = λ x. c .if1 .taken (range-held _ _ _ _ _ _ (found (range-of-client (c .before))) x .0)
+returns-2 c = λ x. c .if1 .taken (ports-held _ _ _ _ _ _ (found (range-of-client (c .before))) x .0)
 
 returns-3 : tie.Need-returns-3
-returns-3 c = λ x. c .if2 .taken (range-held _ _ _ _ _ _ (found (range-of-base (c .before))) x .1)
+returns-3 c = λ x. c .if2 .taken (ports-held _ _ _ _ _ _ (found (range-of-base (c .before))) x .1)
 
 returns-4 : tie.Need-returns-4
-returns-4 c = λ x. c .if3 .taken (range-held _ _ _ _ _ _ (found (range-of-count (c .before))) x .2)
+returns-4 c = λ x. c .if3 .taken (ports-held _ _ _ _ _ _ (found (range-of-count (c .before))) x .2)
 
 returns-5 : tie.Need-returns-5
 returns-5 c =
     let base = c .before .before in
-    held-range _ _ _ _ _ _ (found (range-of-count (c .before))) (base .before .before .if1 .left) (base .if2 .left) (c .if3 .left)
+    held-ports _ _ _ _ _ _ (found (range-of-count (c .before))) (base .before .before .if1 .left) (base .if2 .left) (c .if3 .left)
 
-pub grant-of-spec : {M : Type 1} → Rattle.io_services.proofs.grant_of.Statement.statement M
-grant-of-spec =
+pub ports-of-spec : {M : Type 1} → Rattle.grants.proofs.ports_of.Statement.statement M
+ports-of-spec =
     tie.close (tie.spec (λ c κs. search needs) (λ c. search needs) (λ c. search needs) returns returns-2 returns-3 returns-4 returns-5)

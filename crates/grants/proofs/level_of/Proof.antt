@@ -1,12 +1,12 @@
--- `irq_services::grant_of` meets its contract: nothing is held there, or not by this client or not this level; or it is, in this manner.
+-- `grants::level_of` meets its contract: nothing is held there, or not by this client or not this level; or it is, in this manner.
 -- Assumes nothing.
 use Rattle.facts.proofs.Words.{_≡_, ap, _∙_, some, now, needs}
 use Rattle.facts.specs.{IrqGrant}
 use Rattle.layout.specs.{factsIn}
 use Rattle.seats.specs.{grant, irqAt}
 use Rattle.seats.proofs.{irq-read}
-use Rattle.irq_services.proofs.{none-held, held-is, so-held}
-use Rattle.irq_services.proofs.grant_of.Tie as tie
+use Rattle.grants.proofs.{no-level, level-is, level-held}
+use Rattle.grants.proofs.level_of.Tie as tie
 
 -- where the call began
 abbrev start : tie.After-level-held → tie.Start
@@ -31,16 +31,16 @@ abbrev grant-of-level : tie.After-struct-known3 → tie.After-known-told
 grant-of-level c = grant-of-client (c .before .before)
 
 returns : tie.Need-returns
-returns c = none-held _ _ _ _ (answered (c .before .before) ∙ ap irqAt (c .enum-told .given .1))
+returns c = no-level _ _ _ _ (answered (c .before .before) ∙ ap irqAt (c .enum-told .given .1))
 
 returns-2 : tie.Need-returns-2
-returns-2 c = λ g x. c .if1 .taken (ap (λ (y : IrqGrant). y .client) (held-is _ _ _ _ _ (found (grant-of-client (c .before))) g x) ∙ x .client)
+returns-2 c = λ g x. c .if1 .taken (ap (λ (y : IrqGrant). y .client) (level-is _ _ _ _ _ (found (grant-of-client (c .before))) g x) ∙ x .client)
 
 returns-3 : tie.Need-returns-3
-returns-3 c = λ g x. c .if2 .taken (ap (λ (y : IrqGrant). y .level) (held-is _ _ _ _ _ (found (grant-of-level (c .before))) g x) ∙ x .level)
+returns-3 c = λ g x. c .if2 .taken (ap (λ (y : IrqGrant). y .level) (level-is _ _ _ _ _ (found (grant-of-level (c .before))) g x) ∙ x .level)
 
 returns-4 : tie.Need-returns-4
-returns-4 c = so-held _ _ _ _ _ (found (grant-of-level (c .before))) (c .before .before .if1 .left) (c .if2 .left)
+returns-4 c = level-held _ _ _ _ _ (found (grant-of-level (c .before))) (c .before .before .if1 .left) (c .if2 .left)
 
-pub grant-of-spec : {M : Type 1} → Rattle.irq_services.proofs.grant_of.Statement.statement M
-grant-of-spec = tie.close (tie.spec (λ c κs. search needs) (λ c. search needs) (λ c. search needs) returns returns-2 returns-3 returns-4)
+pub level-of-spec : {M : Type 1} → Rattle.grants.proofs.level_of.Statement.statement M
+level-of-spec = tie.close (tie.spec (λ c κs. search needs) (λ c. search needs) (λ c. search needs) returns returns-2 returns-3 returns-4)

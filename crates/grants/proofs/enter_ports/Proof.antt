@@ -1,8 +1,8 @@
--- `io_services::enter` meets its contract: the five fields, one after the other.
+-- `grants::enter_ports` meets its contract: the five fields, one after the other.
 -- Assumes nothing.
 use Rattle.facts.proofs.Words.{now, needs, length-set}
-use Rattle.io_services.proofs.{enters}
-use Rattle.io_services.proofs.enter.Tie as tie
+use Rattle.grants.proofs.{enters-ports}
+use Rattle.grants.proofs.enter_ports.Tie as tie
 
 -- the base is put in, before it the client, and before that the place is worked out
 abbrev base-lent : tie.After-put-word2 → tie.After-put-word-arg2
@@ -21,11 +21,11 @@ returns : tie.Need-returns
 returns c =
     let second = c .before .before in
     let s = start second .args in
-    enters (now (s .t)) _ _ _ (s .seat .0) (s .h .0) (s .base) (placed second .io-place .ensures .0) (client-put second .put-word .ensures)
+    enters-ports (now (s .t)) _ _ _ (s .seat .0) (s .h .0) (s .base) (placed second .io-place .ensures .0) (client-put second .put-word .ensures)
     (second .put-word2 .ensures) (s .count) (s .lines) (s .shared)
 
-pub enter-spec : {M : Type 1} → Rattle.io_services.proofs.enter.Statement.statement M
-enter-spec =
+pub enter-ports-spec : {M : Type 1} → Rattle.grants.proofs.enter_ports.Statement.statement M
+enter-ports-spec =
     tie.close
     (tie.spec (λ c κs. search needs) (λ c. search needs) (λ c κs. search needs) (λ c. search needs) (λ c κs. search needs) (λ c. search needs)
     (λ c. search needs) (λ c. search needs) (λ c. search needs) (λ c. search needs) (λ c. simp length-set (search needs)) (λ c. search needs) (λ c. search needs)
