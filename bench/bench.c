@@ -2,7 +2,7 @@
  * bench.c: what a call costs
  *
  * Times, in one run and interleaved, the median of many repetitions of each
- * call on nine tables, beside memcmp of as many bytes, beside a call that is
+ * call on thirteen tables, beside memcmp of as many bytes, beside a call that is
  * refused on the same table and beside model_read, the same check of the table
  * in plain C. A boot list needs a fresh table each time: what is timed is
  * cs_fresh and cs_boot, and cs_fresh's own time is taken off. A granted IRQ, I/O
@@ -120,7 +120,8 @@ enum { LAST_SOCKET = CS_SOCKETS - 1, LAST_LEVEL = CS_LEVELS - 1 };
 struct wish {
     uint16_t attributes, named;
 };
-static uint16_t last_client;    /* of the table laid out */
+static uint16_t last_client;    /* of the table laid out: its handle */
+static unsigned last_place;     /* and its place among the clients */
 static struct wish fits, never; /* these too */
 
 static uint32_t request_irq(uint16_t client, struct wish wish)
@@ -162,8 +163,7 @@ static void put_irq_back(void)
 
 static void put_mask_back(void)
 {
-    size_t at =
-        AT_CLIENTS + CLIENT_SIZE * (last_client - 1u) + CLIENT_MASKS + MASK_SIZE * LAST_SOCKET;
+    size_t at = mask_place(last_place, LAST_SOCKET);
     memcpy(table + at, other + at, MASK_SIZE);
 }
 
@@ -210,9 +210,11 @@ static void give_mask_back(void)
 
 enum { GRANT_PORTS = 8 };
 
-/* Ports that are free, held from another socket, not managed. */
+/* Ports that are free, held from another socket, not managed; how many lines the card
+   that asks decodes. */
 struct ports_of {
     uint16_t free, held, unmanaged;
+    uint8_t lines;
 };
 static struct ports_of ports; /* of the table laid out */
 
@@ -232,23 +234,23 @@ static void put_io_back(void)
 
 static void ask_ports(void)
 {
-    answered = request_io(ports.free, GRANT_PORTS, CS_LINES);
+    answered = request_io(ports.free, GRANT_PORTS, ports.lines);
     put_io_back();
 }
 
 static void ask_held_ports(void)
 {
-    answered = request_io(ports.held, GRANT_PORTS, CS_LINES);
+    answered = request_io(ports.held, GRANT_PORTS, ports.lines);
 }
 
 static void ask_unmanaged_ports(void)
 {
-    answered = request_io(ports.unmanaged, GRANT_PORTS, CS_LINES);
+    answered = request_io(ports.unmanaged, GRANT_PORTS, ports.lines);
 }
 
 static void ask_any_ports(void)
 {
-    answered = request_io(0, GRANT_PORTS, CS_LINES);
+    answered = request_io(0, GRANT_PORTS, ports.lines);
     put_io_back();
 }
 
@@ -388,6 +390,10 @@ enum {
     ALL_BARRED,
     GAPPED,
     REPEATED,
+    FEW_LINES,
+    MIXED_LINES,
+    NO_ORDER,
+    SPARSE,
     TABLES
 };
 enum {
@@ -398,8 +404,10 @@ enum {
     BARRED = 1 << ALL_BARRED,
     GAPS = 1 << GAPPED,
     ALIASES = 1 << REPEATED,
-    NOT_HELD = EVERYWHERE & ~HELD & ~BARRED & ~GAPS & ~ALIASES,
-    LAST_OF_16 = 1 << ALL_HELD | BARRED | GAPS | ALIASES /* the last client is the 16th */
+    FULL_KINDS = 1 << FEW_LINES | 1 << MIXED_LINES | 1 << NO_ORDER | 1 << SPARSE,
+    NOT_HELD = EVERYWHERE & ~HELD & ~BARRED & ~GAPS & ~ALIASES & ~FULL_KINDS,
+    /* The last client is the 16th. */
+    LAST_OF_16 = 1 << ALL_HELD | BARRED | GAPS | ALIASES | FULL_KINDS
 };
 
 /* The rows that others are held against, by name; the rest follow them. */
@@ -426,7 +434,7 @@ static const struct call {
     [FRESH_CALL] = {.name = "cs_fresh", .once = fresh, .full = true,
                     .on = BOOTED, .answer = CS_SUCCESS},
     [BAD_HANDLE] = {.name = "RequestIRQ refused with BAD_HANDLE", .once = bad_handle, .full = true,
-                    .on = HELD, .answer = CS_BAD_HANDLE, .yardstick = "bad handle"},
+                    .on = HELD | FULL_KINDS, .answer = CS_BAD_HANDLE, .yardstick = "bad handle"},
     [BAD_HANDLE_A_PLACE_FREE] = {.name = "RequestIRQ refused with BAD_HANDLE, a place free",
                                  .once = bad_handle, .on = HELD, .answer = CS_BAD_HANDLE,
                                  .yardstick = "bad handle"},
@@ -502,6 +510,17 @@ static const struct call {
      .after_fresh = true, .on = BOOTED, .answer = CS_SUCCESS, .bar = 12, .against = REFUSED},
     {.name = "boot list of 48, descending", .once = boot_descending, .full = true,
      .after_fresh = true, .on = BOOTED, .answer = CS_SUCCESS, .bar = 12, .against = REFUSED},
+    {.name = "RequestIRQ", .once = ask_irq, .on = FULL_KINDS, .answer = CS_SUCCESS},
+    {.name = "RequestIO", .once = ask_ports, .on = FULL_KINDS, .answer = CS_SUCCESS},
+    {.name = "RequestIO refused with BAD_BASE", .once = ask_unmanaged_ports,
+     .on = FULL_KINDS, .answer = CS_BAD_BASE},
+    {.name = "RequestIO refused with IN_USE, ports held", .once = ask_held_ports,
+     .on = FULL_KINDS, .answer = CS_IN_USE},
+    {.name = "RequestIO of any 8 ports", .once = ask_any_ports,
+     .on = FULL_KINDS, .answer = CS_SUCCESS},
+    {.name = "ReleaseIO", .once = give_ports_back, .full = true,
+     .on = FULL_KINDS, .answer = CS_SUCCESS},
+    {.name = "RequestSocketMask", .once = ask_mask, .on = FULL_KINDS, .answer = CS_SUCCESS},
     {.name = "plain C: the table read and checked", .once = plain_c, .full = true,
      .on = EVERYWHERE, .answer = CS_SUCCESS},
     /* clang-format on */
@@ -513,15 +532,17 @@ static bool timed_on(unsigned which, unsigned call)
     return (calls[call].on >> which & 1) != 0;
 }
 
-/* ---- The tables, without a place for a client, and on the held and barred ones for
-   a grant and a mask of the last socket; and with one ---- */
+/* ---- The tables, without a place for a client, and on the held and barred ones and
+   the further full ones for a grant and a mask of the last socket; and with one ---- */
 
 static const char *const table_names[TABLES] = {
     [FRESH] = "fresh",           [SIXTEEN_CLIENTS] = "16 clients",
     [ONE_RANGE] = "one range",   [FULL] = "full",
     [ONE_HOLDER] = "one holder", [ALL_HELD] = "all held",
     [ALL_BARRED] = "barred",     [GAPPED] = "gaps",
-    [REPEATED] = "aliases",
+    [REPEATED] = "aliases",      [FEW_LINES] = "11 lines",
+    [MIXED_LINES] = "11 to 16",  [NO_ORDER] = "no order",
+    [SPARSE] = "sparse",
 };
 static uint8_t images[TABLES][2][CS_TABLE_SIZE];
 
@@ -533,13 +554,46 @@ static void only_clients(struct model *m, unsigned clients)
         m->client[i] = (struct client){.handle = (uint16_t)(i + 1), .attributes = CS_IO_CLIENT};
 }
 
-/* Where the I/O grants of a held table begin: one after the other in one range, or
-   in the second half of each of the last eight of 32 ranges. */
+/* Ranges that lie alike: the same ports are managed in each block of 800. */
+static uint32_t alike_base(unsigned range)
+{
+    return FIRST_BASE + (1u << REPEATED_LINES) * range;
+}
+
+/* Where the I/O grants of a held table begin: one after the other in one range; each
+   in a range of its own of those that lie alike, at other ports of it; in the second
+   half of each of the last eight of 32 ranges, in order or in none, as 5 and 8 have no
+   common factor. */
 static uint32_t grant_base(unsigned which, unsigned socket)
 {
-    if (which == ONE_HOLDER)
+    switch (which) {
+    case ONE_HOLDER:
         return FIRST_BASE + GRANT_PORTS * socket;
-    return base_of(CS_RANGES - CS_SOCKETS + socket) + GRANT_PORTS;
+    case FEW_LINES:
+    case MIXED_LINES:
+        return alike_base(4 * socket + 3) + 2 * GRANT_PORTS * socket;
+    case NO_ORDER:
+        return base_of(CS_RANGES - CS_SOCKETS + (5 * socket + 3) % CS_SOCKETS) + GRANT_PORTS;
+    default:
+        return base_of(CS_RANGES - CS_SOCKETS + socket) + GRANT_PORTS;
+    }
+}
+
+/* How many lines the card of a grant decodes: 11; 11 to 16; or all. */
+static uint8_t grant_lines(unsigned which, unsigned socket)
+{
+    if (which == FEW_LINES)
+        return REPEATED_LINES;
+    if (which == MIXED_LINES)
+        return (uint8_t)(REPEATED_LINES + socket % (CS_LINES - REPEATED_LINES + 1));
+    return CS_LINES;
+}
+
+/* The handles of 16 clients: 1, 2, 3 and on; or 2, 5, 8 and on, so that none is one
+   more than its client's place. */
+static uint16_t handle_of(unsigned which, unsigned place)
+{
+    return (uint16_t)(which == SPARSE ? 3 * place + 2 : place + 1);
 }
 
 /* All sockets have a card, two grants and a mask of the last client; but for the
@@ -620,6 +674,31 @@ static void make_repeated(bool full)
     model_image(&m, images[REPEATED][full]);
 }
 
+/* Full tables on which looking at the grants or for their clients is longer: the last
+   eight clients hold the sockets' grants, each its own ports; the last socket has none
+   if there is to be a place. */
+static void make_full_kind(bool full, unsigned which)
+{
+    static struct model m;
+    full_set(&m, CS_CLIENTS);
+    for (unsigned i = 0; i < CS_CLIENTS; i++)
+        m.client[i].handle = handle_of(which, i);
+    m.issued = handle_of(which, CS_CLIENTS - 1);
+    for (unsigned i = 0; i < CS_RANGES && (which == FEW_LINES || which == MIXED_LINES); i++)
+        m.range[i] = (struct range){alike_base(i), 255, i % 2 == 1};
+    for (unsigned s = 0; s < CS_SOCKETS; s++) {
+        bool hold = full || s < LAST_SOCKET;
+        uint16_t client = m.client[CS_CLIENTS - CS_SOCKETS + s].handle;
+        m.io[s] = (struct io_grant){
+            hold, client, (uint16_t)grant_base(which, s), GRANT_PORTS, grant_lines(which, s),
+            false};
+        m.irq[s].live = hold;
+        m.irq[s].client = client;
+    }
+    m.client[CS_CLIENTS - 1].masks[LAST_SOCKET].held = full;
+    model_image(&m, images[which][full]);
+}
+
 static void make_tables(void)
 {
     static struct model m;
@@ -639,6 +718,8 @@ static void make_tables(void)
         make_barred(full);
         make_gapped(full);
         make_repeated(full);
+        for (unsigned which = FEW_LINES; which <= SPARSE; which++)
+            make_full_kind(full, which);
     }
 }
 
@@ -648,9 +729,11 @@ static void lay_out(unsigned which, const struct call *call)
     memcpy(other, table, sizeof other);
     ranges = which == FULL ? CS_RANGES : 1;
     levels = which == FULL ? CS_LEVELS : 2;
-    last_client = (LAST_OF_16 >> which & 1) != 0 ? CS_CLIENTS : 1;
+    last_place = (LAST_OF_16 >> which & 1) != 0 ? CS_CLIENTS - 1 : 0;
+    last_client = handle_of(which, last_place);
     ports = (struct ports_of){(uint16_t)grant_base(which, LAST_SOCKET),
-                              (uint16_t)grant_base(which, LAST_SOCKET - 1), 0xFF00};
+                              (uint16_t)grant_base(which, LAST_SOCKET - 1), 0xFF00,
+                              grant_lines(which, LAST_SOCKET)};
     fits = which == ALL_HELD ? (struct wish){CS_IRQ_EXCLUSIVE, 0xFF00}
                              : (struct wish){CS_IRQ_DYNAMIC, 0x8000};
     never = which == ALL_HELD ? (struct wish){CS_IRQ_DYNAMIC, 0x7F00}

@@ -35,10 +35,9 @@
  * ---------
  * A table is well formed if cs_fresh made it and only the keeper changed it
  * since. You may copy it, save it and load it again: the copy is as good.
- * (Older keepers checked only a grant's own ports. A table that one of them
- * saved is refused if one of its cards answers at an unmanaged port.) In full,
- * a table is refused if its length is not CS_TABLE_SIZE or if one of these
- * does not hold:
+ * (A table saved by an older keeper, which had the earlier layout, is refused
+ * with CS_GENERAL_FAILURE.) In full, a table is refused if its length is not
+ * CS_TABLE_SIZE or if one of these does not hold:
  *  - it has 1 to CS_SOCKETS sockets, and no card, grant or mask at any other;
  *  - at most CS_CLIENTS clients are live; their handles differ, are not 0 and
  *    are not over the number issued;
@@ -54,9 +53,9 @@
  *  - if a port of one I/O grant equals a port of another one in the lines that
  *    both decode, both grants share; two IRQ grants on one level have the same
  *    manner, and it is not the exclusive one;
- *  - every byte is the one that docs/LAYOUT.md has for all this: clients and
- *    ranges are in order, each mark is 0 or 1, and bytes that say nothing are
- *    0.
+ *  - every byte is the one that docs/LAYOUT.md has for all this: the first is
+ *    67, clients and ranges are in order, each mark of yes or no is 0 or 1, and
+ *    bytes that say nothing are 0.
  *
  * These rules are no checksum: a damaged byte can turn a valid table into
  * another valid table.

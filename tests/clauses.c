@@ -33,9 +33,10 @@ static struct client *idle_client(struct chance *c, struct model *m)
     return client == NULL || holds_grant(m, client->handle) ? NULL : client;
 }
 
-static uint16_t bit_from(struct chance *c, unsigned lowest)
+/* One of these bits, the first and the last among them. */
+static uint16_t bit_of(struct chance *c, unsigned first, unsigned last)
 {
-    return (uint16_t)(1u << (lowest + pick(c, 16 - lowest)));
+    return (uint16_t)(1u << (first + pick(c, last + 1 - first)));
 }
 
 static bool no_sockets(struct chance *c, struct model *m)
@@ -108,7 +109,7 @@ static bool attributes_not_accepted(struct chance *c, struct model *m)
         client->attributes |= (uint16_t)(type == 4 ? 1 : type << 1);
         break;
     default:
-        client->attributes |= bit_from(c, 5);
+        client->attributes |= bit_of(c, 5, 7); /* the table has a byte for them */
     }
     return true;
 }
@@ -117,7 +118,7 @@ static bool events_not_accepted(struct chance *c, struct model *m)
 {
     struct client *client = some_client(c, m);
     if (client != NULL)
-        client->event_mask |= bit_from(c, 12);
+        client->event_mask |= bit_of(c, 12, 15);
     return client != NULL;
 }
 
@@ -125,7 +126,7 @@ static bool mask_not_accepted(struct chance *c, struct model *m)
 {
     struct client *client = some_client(c, m);
     if (client != NULL)
-        client->masks[pick(c, m->sockets)] = (struct mask){true, bit_from(c, 12)};
+        client->masks[pick(c, m->sockets)] = (struct mask){true, bit_of(c, 12, 15)};
     return client != NULL;
 }
 
@@ -134,7 +135,8 @@ static bool mask_past_count(struct chance *c, struct model *m)
     struct client *client = some_client(c, m);
     if (client == NULL || m->sockets == CS_SOCKETS)
         return false;
-    client->masks[m->sockets + pick(c, CS_SOCKETS - m->sockets)].held = true;
+    unsigned socket = m->sockets + pick(c, CS_SOCKETS - m->sockets);
+    client->masks[socket] = (struct mask){true, (uint16_t)pick(c, EVENT_MASKS)};
     return true;
 }
 
@@ -397,6 +399,12 @@ static void spoil(struct chance *c, uint8_t *zeros, size_t many)
     zeros[at] = (uint8_t)(1 + pick(c, 255));
 }
 
+static void put_word(uint8_t *at, uint32_t word)
+{
+    at[0] = (uint8_t)word;
+    at[1] = (uint8_t)(word >> 8);
+}
+
 static void miscount(struct chance *c, uint8_t *count)
 {
     uint8_t right = *count;
@@ -405,10 +413,38 @@ static void miscount(struct chance *c, uint8_t *count)
     while (*count == right);
 }
 
+/* Also what the socket count would be if it stood here. */
+static bool another_layout(struct chance *c, const struct model *m, uint8_t *image)
+{
+    (void)m;
+    do
+        image[AT_LAYOUT] = (uint8_t)pick(c, one_in(c, 2) ? CS_SOCKETS + 1 : 256);
+    while (image[AT_LAYOUT] == THIS_LAYOUT);
+    return true;
+}
+
 static bool client_count_wrong(struct chance *c, const struct model *m, uint8_t *image)
 {
     (void)m;
     miscount(c, image + AT_CLIENT_COUNT);
+    return true;
+}
+
+/* More clients than may be live, and nothing else is wrong with them: the runs have
+   room for them. */
+static bool too_many_clients(struct chance *c, const struct model *m, uint8_t *image)
+{
+    enum { HIGH = CS_HANDLES - CLIENT_PLACES };
+    unsigned many = CS_CLIENTS + 1 + pick(c, CLIENT_PLACES - CS_CLIENTS);
+    for (unsigned i = 0; i < m->clients; i++)
+        if (m->client[i].handle >= HIGH)
+            return false;
+    for (unsigned place = m->clients; place < many; place++) {
+        put_word(image + AT_HANDLES + HANDLE_SIZE * place, HIGH + place);
+        image[AT_ATTRIBUTES + ATTRIBUTES_SIZE * place] = CS_IO_CLIENT;
+    }
+    put_word(image + AT_ISSUED, CS_HANDLES);
+    image[AT_CLIENT_COUNT] = (uint8_t)many;
     return true;
 }
 
@@ -447,19 +483,6 @@ static bool range_not_a_mark(struct chance *c, const struct model *m, uint8_t *i
     return true;
 }
 
-/* A mask's word is 0, or MASK_HELD and over. */
-static bool mask_word_low(struct chance *c, const struct model *m, uint8_t *image)
-{
-    if (m->clients == 0)
-        return false;
-    uint8_t *record = image + AT_CLIENTS + CLIENT_SIZE * pick(c, m->clients);
-    uint8_t *mask = record + CLIENT_MASKS + MASK_SIZE * pick(c, m->sockets);
-    uint32_t word = 1 + pick(c, MASK_HELD - 1);
-    mask[0] = (uint8_t)word;
-    mask[1] = (uint8_t)(word >> 8);
-    return true;
-}
-
 static bool io_grant_spare(struct chance *c, const struct model *m, uint8_t *image)
 {
     unsigned socket = pick(c, m->sockets);
@@ -482,12 +505,127 @@ static bool irq_record_not_zero(struct chance *c, const struct model *m, uint8_t
     return !m->irq[socket].live;
 }
 
-static bool client_record_not_zero(struct chance *c, const struct model *m, uint8_t *image)
+/* A seat that no socket has: some byte is another, or a socket's grant stands there. */
+static unsigned seat_past_sockets(struct chance *c)
+{
+    return CS_SOCKETS + pick(c, SEATS - CS_SOCKETS);
+}
+
+static bool io_seat_not_zero(struct chance *c, const struct model *m, uint8_t *image)
+{
+    (void)m;
+    spoil(c, image + AT_IO + IO_SIZE * seat_past_sockets(c), IO_SIZE);
+    return true;
+}
+
+static bool irq_seat_not_zero(struct chance *c, const struct model *m, uint8_t *image)
+{
+    (void)m;
+    spoil(c, image + AT_IRQ + IRQ_SIZE * seat_past_sockets(c), IRQ_SIZE);
+    return true;
+}
+
+static void move_record(uint8_t *records, unsigned from, unsigned to, size_t size)
+{
+    memcpy(records + size * to, records + size * from, size);
+    memset(records + size * from, 0, size);
+}
+
+static bool io_grant_past_sockets(struct chance *c, const struct model *m, uint8_t *image)
+{
+    unsigned socket = pick(c, m->sockets), seat = seat_past_sockets(c);
+    move_record(image + AT_IO, socket, seat, IO_SIZE);
+    return m->io[socket].live;
+}
+
+static bool irq_grant_past_sockets(struct chance *c, const struct model *m, uint8_t *image)
+{
+    unsigned socket = pick(c, m->sockets), seat = seat_past_sockets(c);
+    move_record(image + AT_IRQ, socket, seat, IRQ_SIZE);
+    return m->irq[socket].live;
+}
+
+/* The places of a run that no client has. */
+static void spoil_run(struct chance *c, const struct model *m, uint8_t *run, unsigned places,
+                      size_t size)
+{
+    spoil(c, run + size * m->clients, size * (places - m->clients));
+}
+
+static bool handle_place_not_zero(struct chance *c, const struct model *m, uint8_t *image)
+{
+    spoil_run(c, m, image + AT_HANDLES, HANDLE_PLACES, HANDLE_SIZE);
+    return true;
+}
+
+static bool last_handle_place_not_zero(struct chance *c, const struct model *m, uint8_t *image)
+{
+    (void)m;
+    spoil(c, image + AT_HANDLES + HANDLE_SIZE * (HANDLE_PLACES - 1), HANDLE_SIZE);
+    return true;
+}
+
+static bool attributes_place_not_zero(struct chance *c, const struct model *m, uint8_t *image)
+{
+    spoil_run(c, m, image + AT_ATTRIBUTES, CLIENT_PLACES, ATTRIBUTES_SIZE);
+    return true;
+}
+
+static bool events_place_not_zero(struct chance *c, const struct model *m, uint8_t *image)
+{
+    spoil_run(c, m, image + AT_EVENTS, CLIENT_PLACES, EVENTS_SIZE);
+    return true;
+}
+
+/* A mask's word that is not 0; every other time one that a mask can have. */
+static void spoil_mask(struct chance *c, uint8_t *image, unsigned client, unsigned seat)
+{
+    uint32_t word = 1 + pick(c, one_in(c, 2) ? EVENT_MASKS : 65535);
+    put_word(image + mask_place(client, seat), word);
+}
+
+static bool mask_word_high(struct chance *c, const struct model *m, uint8_t *image)
+{
+    if (m->clients == 0)
+        return false;
+    unsigned client = pick(c, m->clients), socket = pick(c, m->sockets);
+    uint32_t over = one_in(c, 4) ? 0 : pick(c, 65535 - EVENT_MASKS);
+    put_word(image + mask_place(client, socket), EVENT_MASKS + 1 + over);
+    return true;
+}
+
+static bool mask_not_zero_past_count(struct chance *c, const struct model *m, uint8_t *image)
+{
+    if (m->clients == 0 || m->sockets == CS_SOCKETS)
+        return false;
+    unsigned client = pick(c, m->clients);
+    spoil_mask(c, image, client, m->sockets + pick(c, CS_SOCKETS - m->sockets));
+    return true;
+}
+
+static bool mask_past_sockets(struct chance *c, const struct model *m, uint8_t *image)
+{
+    if (m->clients == 0)
+        return false;
+    unsigned client = pick(c, m->clients);
+    spoil_mask(c, image, client, seat_past_sockets(c));
+    return true;
+}
+
+static bool mask_of_no_client(struct chance *c, const struct model *m, uint8_t *image)
 {
     if (m->clients == CS_CLIENTS)
         return false;
-    spoil(c, image + AT_CLIENTS + CLIENT_SIZE * m->clients,
-          CLIENT_SIZE * (CS_CLIENTS - m->clients));
+    unsigned client = m->clients + pick(c, CS_CLIENTS - m->clients);
+    unsigned seat = pick(c, one_in(c, 2) ? m->sockets : SEATS);
+    spoil_mask(c, image, client, seat);
+    return true;
+}
+
+static bool spare_not_zero(struct chance *c, const struct model *m, uint8_t *image)
+{
+    (void)m;
+    spoil(c, image + AT_SPARE, AT_MASKS - AT_SPARE);
     return true;
 }
 
@@ -506,27 +644,42 @@ static bool rest_not_zero(struct chance *c, const struct model *m, uint8_t *imag
     return true;
 }
 
-/* A record of this many changes places with the one after it. */
-static bool out_of_order(struct chance *c, uint8_t *records, unsigned many, size_t size)
+/* A record changes places with the one after it. */
+static void swap_with_next(uint8_t *records, unsigned which, size_t size)
 {
-    uint8_t kept[CLIENT_SIZE];
-    if (many < 2)
-        return false;
-    uint8_t *at = records + size * pick(c, many - 1);
+    uint8_t kept[MASKS_SIZE], *at = records + size * which;
     memcpy(kept, at, size);
     memcpy(at, at + size, size);
     memcpy(at + size, kept, size);
+}
+
+/* The handles alone, and clients with all that they have. */
+static bool handles_out_of_order(struct chance *c, const struct model *m, uint8_t *image)
+{
+    if (m->clients < 2)
+        return false;
+    swap_with_next(image + AT_HANDLES, pick(c, m->clients - 1), HANDLE_SIZE);
     return true;
 }
 
 static bool clients_out_of_order(struct chance *c, const struct model *m, uint8_t *image)
 {
-    return out_of_order(c, image + AT_CLIENTS, m->clients, CLIENT_SIZE);
+    if (m->clients < 2)
+        return false;
+    unsigned client = pick(c, m->clients - 1);
+    swap_with_next(image + AT_HANDLES, client, HANDLE_SIZE);
+    swap_with_next(image + AT_ATTRIBUTES, client, ATTRIBUTES_SIZE);
+    swap_with_next(image + AT_EVENTS, client, EVENTS_SIZE);
+    swap_with_next(image + AT_MASKS, client, MASKS_SIZE);
+    return true;
 }
 
 static bool ranges_out_of_order(struct chance *c, const struct model *m, uint8_t *image)
 {
-    return out_of_order(c, image + AT_RANGES, m->ranges, RANGE_SIZE);
+    if (m->ranges < 2)
+        return false;
+    swap_with_next(image + AT_RANGES, pick(c, m->ranges - 1), RANGE_SIZE);
+    return true;
 }
 
 /* clang-format off */
@@ -564,7 +717,9 @@ static const struct clause all[] = {
     FACTS(irq_grant_past_levels),
     FACTS(irq_grant_past_manners),
     FACTS(irq_grants_meet),
+    IMAGE(another_layout),
     IMAGE(client_count_wrong),
+    IMAGE(too_many_clients),
     IMAGE(range_count_wrong),
     IMAGE(card_not_a_mark),
     IMAGE(level_not_a_mark),
@@ -572,10 +727,22 @@ static const struct clause all[] = {
     IMAGE(io_grant_spare),
     IMAGE(io_record_not_zero),
     IMAGE(irq_record_not_zero),
-    IMAGE(client_record_not_zero),
+    IMAGE(io_seat_not_zero),
+    IMAGE(irq_seat_not_zero),
+    IMAGE(io_grant_past_sockets),
+    IMAGE(irq_grant_past_sockets),
+    IMAGE(handle_place_not_zero),
+    IMAGE(last_handle_place_not_zero),
+    IMAGE(attributes_place_not_zero),
+    IMAGE(events_place_not_zero),
     IMAGE(range_record_not_zero),
     IMAGE(range_not_a_mark),
-    IMAGE(mask_word_low),
+    IMAGE(mask_word_high),
+    IMAGE(mask_not_zero_past_count),
+    IMAGE(mask_past_sockets),
+    IMAGE(mask_of_no_client),
+    IMAGE(spare_not_zero),
+    IMAGE(handles_out_of_order),
     IMAGE(clients_out_of_order),
     IMAGE(ranges_out_of_order),
     IMAGE(rest_not_zero),

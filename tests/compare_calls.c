@@ -416,9 +416,10 @@ static void no_socket_service_answers(void)
    socket, level or attribute. Fresh alone looks at no old byte. */
 void broken_before_anything(void)
 {
-    static const size_t places[] = {AT_SOCKETS, AT_CLIENT_COUNT, AT_RANGE_COUNT,   AT_CARDS,
-                                    AT_LEVELS,  AT_IO,           AT_IRQ,           AT_CLIENTS,
-                                    AT_RANGES,  AT_REST,         CS_TABLE_SIZE - 1};
+    static const size_t places[] = {
+        AT_LAYOUT, AT_SOCKETS, AT_CLIENT_COUNT,   AT_RANGE_COUNT, AT_CARDS,         AT_LEVELS,
+        AT_RANGES, AT_HANDLES, AT_ATTRIBUTES - 1, AT_ATTRIBUTES,  AT_EVENTS + 1,    AT_IO,
+        AT_IRQ,    AT_SPARE,   AT_MASKS + 1,      AT_REST,        CS_TABLE_SIZE - 1};
     for (size_t i = 0; i < sizeof places / sizeof *places; i++) {
         lend_broken(places[i]);
         must_hold("the model refuses it too", !lent_accepted());

@@ -218,7 +218,7 @@ void io_beside_others(void)
     must_be(request_mask(2, 3, 0x0010), CS_SUCCESS, 2);
     io_released(2, 3, 0x304, 4);
     irq_grant_bytes(3, 2, 4, EXCLUSIVE);
-    mask_bytes(1, 3, 0x1010);
+    mask_bytes(1, 3, 0x0011);
     must_be(deregister(2), CS_IN_USE, 0);
     io_not_released(2, 3, 0x304, 4);
     io_granted(2, 3, 0x304, 4, ALONE, 16);
@@ -316,23 +316,24 @@ void io_holders_shown(void)
 
 /* ---- Bytes, from docs/LAYOUT.md ---- */
 
-/* The I/O grants of all sockets. */
-static void io_grants_are(const uint8_t by_hand[CS_SOCKETS][IO_SIZE])
+/* The I/O grants of all seats. */
+static void io_grants_are(const uint8_t by_hand[SEATS][IO_SIZE])
 {
-    table_must_have(AT_IO, (const uint8_t *)by_hand, CS_SOCKETS * IO_SIZE);
+    table_must_have(AT_IO, (const uint8_t *)by_hand, SEATS * IO_SIZE);
 }
 
 /* The first and the last client, socket and port; bits 2 and 3 are in no byte. A
    refusal leaves every byte; what is compared with the model says so too. */
 void io_bytes(void)
 {
-    static const uint8_t none[CS_SOCKETS][IO_SIZE] = {{0}};
-    static const uint8_t last[CS_SOCKETS][IO_SIZE] = {[7] = {0xFF, 0xFF, 0xFF, 0xFF, 1, 12, 1}};
-    static const uint8_t both[CS_SOCKETS][IO_SIZE] = {
+    static const uint8_t none[SEATS][IO_SIZE] = {{0}};
+    static const uint8_t last[SEATS][IO_SIZE] = {[7] = {0xFF, 0xFF, 0xFF, 0xFF, 1, 12, 1}};
+    static const uint8_t both[SEATS][IO_SIZE] = {
         [0] = {1, 0, 1, 0, 255, 16, 0}, [7] = {0xFF, 0xFF, 0xFF, 0xFF, 1, 12, 1}};
-    static const uint8_t first[CS_SOCKETS][IO_SIZE] = {[0] = {1, 0, 1, 0, 255, 16, 0}};
-    static const uint8_t head[] = {8, 2, 1, 0xFF, 0xFF, 1, 1, 1, 1, 1, 1, 1, 1};
-    static const uint8_t client[] = {0xFF, 0xFF, 4, 0, 0, 0}, range[] = {0, 0, 0, 0, 1, 0, 0};
+    static const uint8_t first[SEATS][IO_SIZE] = {[0] = {1, 0, 1, 0, 255, 16, 0}};
+    static const uint8_t head[] = {67, 8, 2, 1, 0xFF, 0xFF, 1, 1, 1, 1, 1, 1, 1, 1};
+    static const uint8_t handles[] = {1, 0, 0xFF, 0xFF, 0, 0}, attributes[] = {4, 4, 0},
+                         range[] = {0, 0, 0, 0, 1, 0, 0};
     struct model m;
     ready_set(&m, 0, 0);
     m.clients = 2;
@@ -347,8 +348,9 @@ void io_bytes(void)
     io_grants_are(last);
     io_granted(1, 0, 1, 255, ALONE | 12, 16);
     io_grants_are(both);
-    table_must_have(AT_SOCKETS, head, sizeof head);
-    table_must_have(AT_CLIENTS + CLIENT_SIZE, client, sizeof client);
+    table_must_have(AT_LAYOUT, head, sizeof head);
+    table_must_have(AT_HANDLES, handles, sizeof handles);
+    table_must_have(AT_ATTRIBUTES, attributes, sizeof attributes);
     table_must_have(AT_RANGES, range, sizeof range);
     io_released(0xFFFF, 7, 0xFFFF, 1);
     io_grants_are(first);

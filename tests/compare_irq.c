@@ -577,19 +577,19 @@ void irq_cases(void)
 
 /* ---- Bytes, from docs/LAYOUT.md ---- */
 
-/* The IRQ grants of all sockets. */
-static void irq_grants_are(const uint8_t by_hand[CS_SOCKETS][IRQ_SIZE])
+/* The IRQ grants of all seats. */
+static void irq_grants_are(const uint8_t by_hand[SEATS][IRQ_SIZE])
 {
-    table_must_have(AT_IRQ, (const uint8_t *)by_hand, CS_SOCKETS * IRQ_SIZE);
+    table_must_have(AT_IRQ, (const uint8_t *)by_hand, SEATS * IRQ_SIZE);
 }
 
 /* A refusal leaves every byte; what is compared with the model says so too. */
 void irq_bytes(void)
 {
-    static const uint8_t before[CS_SOCKETS][IRQ_SIZE] = {{0}};
-    static const uint8_t one[CS_SOCKETS][IRQ_SIZE] = {[7] = {2, 0, 15, 3}};
-    static const uint8_t two[CS_SOCKETS][IRQ_SIZE] = {[0] = {1, 0, 0, 1}, [7] = {2, 0, 15, 3}};
-    static const uint8_t head[] = {8, 2, 0, 2, 0}, levels[] = {1, 0}, reserved[] = {1, 1};
+    static const uint8_t before[SEATS][IRQ_SIZE] = {{0}};
+    static const uint8_t one[SEATS][IRQ_SIZE] = {[7] = {2, 0, 15, 3}};
+    static const uint8_t two[SEATS][IRQ_SIZE] = {[0] = {1, 0, 0, 1}, [7] = {2, 0, 15, 3}};
+    static const uint8_t head[] = {67, 8, 2, 0, 2, 0}, levels[] = {1, 0}, reserved[] = {1, 1};
     lend_fresh(8);
     must_be(register_one(), CS_SUCCESS, 1);
     must_be(register_one(), CS_SUCCESS, 2);
@@ -604,7 +604,7 @@ void irq_bytes(void)
     irq_grants_are(one);
     irq_granted(1, 0, 1, 0x20, 0, 0);
     irq_grants_are(two);
-    table_must_have(AT_SOCKETS, head, sizeof head);
+    table_must_have(AT_LAYOUT, head, sizeof head);
     table_must_have(AT_LEVELS, levels, sizeof levels);
     table_must_have(AT_LEVELS + LEVEL_SIZE * 15, reserved, sizeof reserved);
     must_be(release_irq(1, 0, 1, 0), CS_SUCCESS, 1);

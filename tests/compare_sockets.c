@@ -235,7 +235,7 @@ static void irq_and_mask_between(void)
     must_be(request_mask(1, 2, 0x0FFF), CS_SUCCESS, 1);
     must_be(ask_card_out(2), CS_SUCCESS, 0);
     irq_grant_bytes(2, 1, 6, TIME_MULTIPLEXED);
-    mask_bytes(0, 2, 0x1FFF);
+    mask_bytes(0, 2, 0x1000);
     must_be(ask_sharers(6), CS_SUCCESS, 1);
     must_be(deregister(1), CS_IN_USE, 0);
     irq_refused(1, 2, 1, 0x26, 0, CS_NO_CARD);

@@ -21,7 +21,7 @@ GROUP("sharers", sharers_counted, 300)
 GROUP("wide numbers", wide_numbers, 7000)
 GROUP("every service number", every_service, 65536)
 GROUP("every service number, broken table", every_service_broken, 65536)
-GROUP("a broken table comes first", broken_before_anything, 960)
+GROUP("a broken table comes first", broken_before_anything, 1490)
 
 /* compare_resources.c: AdjustResourceInfo where nobody holds anything */
 GROUP("AdjustResourceInfo's length, action and resource", adjust_lengths, 3000)
@@ -65,7 +65,7 @@ GROUP("a boot list that ends at every place", boot_every_place, 15000)
 GROUP("a boot list of 33 ranges", boot_33_ranges, 4)
 GROUP("a boot list far too long", boot_far_too_long, 5)
 GROUP("boot lists beside grants", boot_beside_grants, 20)
-GROUP("boot lists on no table", boot_unformed, 5000)
+GROUP("boot lists on no table", boot_unformed, 40000)
 
 /* compare_sockets.c: what the services that name a socket share, and the order
    of their checks */
@@ -145,7 +145,7 @@ GROUP("two I/O grants of a client", io_two_of_a_client, 44)
 GROUP("I/O grants beside IRQ grants and masks", io_beside_others, 41)
 GROUP("AdjustResourceInfo of granted ports", io_keeps_its_ranges, 250)
 GROUP("holders by calls", io_holders_shown, 360)
-GROUP("bytes of an I/O grant", io_bytes, 33)
+GROUP("bytes of an I/O grant", io_bytes, 34)
 GROUP("I/O grants of a full table", io_full_table, 240)
 
 /* compare_io_worlds.c: RequestIO and ReleaseIO by chance */
@@ -169,7 +169,7 @@ GROUP("every event mask", mask_events, 16000)
 GROUP("a mask of no event", mask_of_no_event, 20)
 GROUP("masks of every client and socket", masks_of_all, 1500)
 GROUP("masks of one client, on one socket", masks_of_one, 600)
-GROUP("masks of clients that move", masks_move, 30)
+GROUP("masks of clients that move", masks_move, 45)
 GROUP("masks of a full table", masks_of_a_full_table, 1000)
 GROUP("masks beside IRQ grants", masks_beside_grants, 20)
 
@@ -179,10 +179,11 @@ GROUP("runs from other sets", runs_from_sets, 402000)
 GROUP("runs of grants and masks", runs_of_sockets, 494000)
 
 /* compare_tables.c: which bytes are a table */
-GROUP("sets written by hand", written_sets, 3600)
+GROUP("sets written by hand", written_sets, 3700)
 GROUP("random sets", random_sets, 800)
-GROUP("one clause broken", broken_clauses, 100000)
+GROUP("one clause broken", broken_clauses, 132000)
+GROUP("tables of the earlier layout", old_tables, 23000)
 GROUP("grants that meet", meeting_grants, 4000)
 GROUP("manners on a level", manners_on_a_level, 500)
-GROUP("one byte damaged", damaged_bytes, 60000)
+GROUP("one byte damaged", damaged_bytes, 240000)
 GROUP("one byte damaged of tables that calls made", damaged_tables, 130000)

@@ -24,6 +24,11 @@ static void put_double_word(uint8_t *at, uint32_t value)
     put_word(at + 2, value >> 16);
 }
 
+size_t mask_place(unsigned client, unsigned seat)
+{
+    return AT_MASKS + (size_t)MASKS_SIZE * client + MASK_SIZE * seat;
+}
+
 /* ---- Facts to bytes ---- */
 
 static void put_level(uint8_t *at, const struct level *level)
@@ -52,14 +57,15 @@ static void put_irq_grant(uint8_t *at, const struct irq_grant *g)
     at[IRQ_MANNER] = g->manner;
 }
 
-static void put_client(uint8_t *at, const struct client *c)
+/* The client in this place of the runs. */
+static void put_client(uint8_t *out, unsigned place, const struct client *c)
 {
-    put_word(at + CLIENT_HANDLE, c->handle);
-    put_word(at + CLIENT_ATTRIBUTES, c->attributes);
-    put_word(at + CLIENT_EVENTS, c->event_mask);
+    put_word(out + AT_HANDLES + HANDLE_SIZE * place, c->handle);
+    out[AT_ATTRIBUTES + ATTRIBUTES_SIZE * place] = (uint8_t)c->attributes;
+    put_word(out + AT_EVENTS + EVENTS_SIZE * place, c->event_mask);
     for (unsigned s = 0; s < CS_SOCKETS; s++)
         if (c->masks[s].held)
-            put_word(at + CLIENT_MASKS + MASK_SIZE * s, MASK_HELD + c->masks[s].events);
+            put_word(out + mask_place(place, s), c->masks[s].events + 1u);
 }
 
 static void put_range(uint8_t *at, const struct range *r)
@@ -69,7 +75,7 @@ static void put_range(uint8_t *at, const struct range *r)
     at[RANGE_RESERVED] = r->reserved;
 }
 
-/* LAYOUT.md's "clients in order of handle": how many come before this one. */
+/* LAYOUT.md's "handles of the clients, lowest first": how many come before this one. */
 static unsigned client_place(const struct model *m, unsigned i)
 {
     unsigned place = 0;
@@ -92,6 +98,7 @@ static unsigned range_place(const struct model *m, unsigned i)
 void model_image(const struct model *m, uint8_t out[CS_TABLE_SIZE])
 {
     memset(out, 0, CS_TABLE_SIZE);
+    out[AT_LAYOUT] = THIS_LAYOUT;
     out[AT_SOCKETS] = (uint8_t)m->sockets;
     out[AT_CLIENT_COUNT] = (uint8_t)m->clients;
     out[AT_RANGE_COUNT] = (uint8_t)m->ranges;
@@ -104,7 +111,7 @@ void model_image(const struct model *m, uint8_t out[CS_TABLE_SIZE])
     for (unsigned level = 0; level < CS_LEVELS; level++)
         put_level(out + AT_LEVELS + LEVEL_SIZE * level, &m->level[level]);
     for (unsigned i = 0; i < m->clients; i++)
-        put_client(out + AT_CLIENTS + CLIENT_SIZE * client_place(m, i), &m->client[i]);
+        put_client(out, client_place(m, i), &m->client[i]);
     for (unsigned i = 0; i < m->ranges; i++)
         put_range(out + AT_RANGES + RANGE_SIZE * range_place(m, i), &m->range[i]);
 }
@@ -138,23 +145,23 @@ static struct irq_grant get_irq_grant(const uint8_t *at)
     };
 }
 
-/* A word below MASK_HELD that is not 0 comes out with reserved events set. */
+/* A word over 4,096 comes out with reserved events set. */
 static struct mask get_mask(const uint8_t *at)
 {
     if (word(at) == 0)
         return (struct mask){false, 0};
-    return (struct mask){true, (uint16_t)(word(at) - MASK_HELD)};
+    return (struct mask){true, (uint16_t)(word(at) - 1)};
 }
 
-static struct client get_client(const uint8_t *at)
+static struct client get_client(const uint8_t *bytes, unsigned place)
 {
     struct client c = {
-        .handle = word(at + CLIENT_HANDLE),
-        .attributes = word(at + CLIENT_ATTRIBUTES),
-        .event_mask = word(at + CLIENT_EVENTS),
+        .handle = word(bytes + AT_HANDLES + HANDLE_SIZE * place),
+        .attributes = bytes[AT_ATTRIBUTES + ATTRIBUTES_SIZE * place],
+        .event_mask = word(bytes + AT_EVENTS + EVENTS_SIZE * place),
     };
     for (unsigned s = 0; s < CS_SOCKETS; s++)
-        c.masks[s] = get_mask(at + CLIENT_MASKS + MASK_SIZE * s);
+        c.masks[s] = get_mask(bytes + mask_place(place, s));
     return c;
 }
 
@@ -182,7 +189,7 @@ static void get_facts(const uint8_t *bytes, struct model *m)
     for (unsigned level = 0; level < CS_LEVELS; level++)
         m->level[level] = get_level(bytes + AT_LEVELS + LEVEL_SIZE * level);
     for (unsigned i = 0; i < m->clients; i++)
-        m->client[i] = get_client(bytes + AT_CLIENTS + CLIENT_SIZE * i);
+        m->client[i] = get_client(bytes, i);
     for (unsigned i = 0; i < m->ranges; i++)
         m->range[i] = get_range(bytes + AT_RANGES + RANGE_SIZE * i);
 }

@@ -34,6 +34,7 @@ uint32_t release_io_code(struct model *m, uint8_t socket, uint16_t base, uint8_t
 #define OTHER_CASES(CASES)                                                                         \
     CASES(io_cases)        /* model_io_cases.c: ports, RequestIO and ReleaseIO */                  \
     CASES(answering_cases) /* model_answering_cases.c: K2, the ports at which a card answers */    \
+    CASES(layout_cases)    /* model_layout_cases.c: the table's bytes, now and before */           \
     CASES(log_cases)       /* log_cases.c: what stands after a log, which log.c works out */
 
 #define CASES(function) void function(void);

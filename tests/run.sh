@@ -45,8 +45,8 @@ if grep -vE ' U mem(cpy|move|set|cmp)$' "$programs/undefined"; then exit 1; fi
 
 model='tests/model.c tests/layout.c tests/sets.c tests/names.c'
 # shellcheck disable=SC2086
-build model_cases tests/model_cases.c tests/model_io_cases.c \
-    tests/model_answering_cases.c tests/log_cases.c tests/log.c $model
+build model_cases tests/model_cases.c tests/model_io_cases.c tests/model_answering_cases.c \
+    tests/model_layout_cases.c tests/log_cases.c tests/log.c tests/old_layout.c $model
 run model_cases
 
 # shellcheck disable=SC2086
@@ -55,7 +55,7 @@ build compare -Wmissing-prototypes tests/compare.c tests/compare_calls.c tests/c
     tests/compare_irq_joining.c tests/compare_io.c tests/compare_io_choice.c tests/compare_io_held.c \
     tests/compare_io_worlds.c tests/compare_io_answering.c tests/compare_masks.c \
     tests/compare_runs.c tests/compare_tables.c tests/resources.c tests/sockets.c tests/clauses.c \
-    tests/check.c tests/log.c $model "$archive"
+    tests/old_layout.c tests/check.c tests/log.c $model "$archive"
 run compare
 
 echo "run: the demo"

@@ -247,6 +247,5 @@ uint32_t release_mask(uint16_t client, uint8_t socket)
 void mask_bytes(unsigned place, unsigned socket, uint16_t word)
 {
     uint8_t by_hand[] = {(uint8_t)word, (uint8_t)(word >> 8)};
-    table_must_have(AT_CLIENTS + CLIENT_SIZE * place + CLIENT_MASKS + MASK_SIZE * socket, by_hand,
-                    sizeof by_hand);
+    table_must_have(mask_place(place, socket), by_hand, sizeof by_hand);
 }

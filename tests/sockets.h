@@ -79,7 +79,8 @@ void io_released(uint16_t client, uint8_t socket, uint16_t base, uint8_t count);
 void io_not_released(uint16_t client, uint8_t socket, uint16_t base, uint8_t count);
 
 /* A socket's grants and a client's mask as docs/LAYOUT.md has their bytes: the
-   client of a mask is told by its place, a mask by its word. */
+   client of a mask is told by its place, a mask by its word, which is one more than
+   the mask, or 0 for none. */
 void irq_grant_bytes(unsigned socket, uint16_t client, uint8_t level, uint8_t manner);
 void no_irq_grant_bytes(unsigned socket);
 void io_grant_bytes(unsigned socket, uint16_t client, uint16_t base, uint8_t count, uint8_t lines,

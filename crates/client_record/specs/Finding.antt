@@ -1,5 +1,6 @@
 -- What a search among the clients listed finds. Assumes nothing.
 use mathlib.Core.Path.{_≡_}
+use mathlib.Core.Logic.{_≢_}
 use mathlib.Core.List.{List}
 use Prim.Native.Nat.{ℕ, _-_, _≤_, _<_}
 use Rattle.layout.specs.Reading.{clientsIn, handleIn}
@@ -22,3 +23,8 @@ pub record ByNumber (b : List ℕ) (h : ℕ) : Type 0 where
   pub least : 1 ≤ h
   pub listed : h ≤ clientsIn b
   pub handle : handleIn b (h - 1) ≡ h
+
+-- a number is 0 exactly if P isn't so
+pub record Tells (n : ℕ) (P : Type 0) : Type 0 where
+  pub none : n ≡ 0 → P → ⊥
+  pub some : n ≢ 0 → P

@@ -1,16 +1,17 @@
 -- Each way in which RegisterClient and DeregisterClient end is the rule's. Assumes nothing.
-use Rattle.facts.proofs.Words.{_≡_, refl, sym, _∙_, _⊎_, inl, inr, ⊎-elim, List, ℕ, _+_, _≤_, _<_, arith, length, set, Option, none, some}
+use Rattle.facts.proofs.Words.{_≡_, refl, sym, _∙_, _⊎_, inl, inr, ⊎-elim, List, ℕ, _+_, _-_, _≤_, _<_, ap, arith, length, length-set, set, Option, none, some}
 use Rattle.layout.proofs.Of
 use Rattle.facts.specs.{Code, Success, BadAttribute, OutOfResource, Facts, IoGrant, IrqGrant, word, withWord}
 use Rattle.facts.specs.{Live, Outcome, FirstGiven, registerChecks, deregisterChecks, Register, Deregister, registerLength, deregisterLength}
 use Rattle.facts.specs.{HoldsIo, HoldsIrq, HoldsMask, mostClients, mostIssued, mostSeats}
-use Rattle.layout.specs.{clientPlace, clientAttributesAt, clientEventsAt, handleIn, Accepted, ServedBy, entered}
+use Rattle.layout.specs.{handlePlace, attributesPlace, eventsPlace, masksPlace, headIssued, headClients, clientsIn, handleIn, Accepted, ServedBy}
+use Rattle.layout.specs.{entered, ClosedUp, Withdrawn, handleSize, attributesSize, eventsSize, masksSize}
 use Rattle.layout.proofs.{entered-image, withdrawn-image, mask-socket, mask-said, said-mask, kept, left, stays, becomes}
 use Rattle.client_record.specs.{ListedAt}
 use Rattle.client_services.specs.declared.ClientAsked.the-variants.{Bad}
 use Rattle.client_services.specs.declared.Room.the-variants.{Full}
 use Rattle.seats.specs.{HeldBy}
-use Rattle.client_services.specs.{Asks, AsksFor, NextIs, RoomIs, MaskHeldIn, HoldsSome, Withdrawn}
+use Rattle.client_services.specs.{Asks, AsksFor, NextIs, RoomIs, MaskHeldIn, HoldsSome}
 
 -- the rules, of a packet
 abbrev Registers : List ℕ → Facts → Outcome → Type 0
@@ -20,12 +21,36 @@ abbrev Deregisters : ℕ → List ℕ → Facts → Outcome → Type 0
 Deregisters h p F = Deregister F h p
 
 -- the writes of a registration, one after the other
-pub enters : (b : List ℕ) {b₁ b₂ b₃ b₄ : List ℕ} (n h attributes events : ℕ) → b₁ ≡ withWord b (clientPlace n) h
-    → b₂ ≡ withWord b₁ (clientPlace n + clientAttributesAt) attributes → b₃ ≡ withWord b₂ (clientPlace n + clientEventsAt) events
-    → b₄ ≡ withWord b₃ 3 h
-    → set b₄ 1 (n + 1) ≡ entered b n h attributes events
+pub enters : (b : List ℕ) {b₁ b₂ b₃ : List ℕ} (n h attributes events : ℕ) → b₁ ≡ withWord b (handlePlace n) h
+    → b₂ ≡ withWord b₁ (eventsPlace n) events
+    → b₃ ≡ withWord b₂ headIssued h
+    → set (set b₃ (attributesPlace n) attributes) headClients (n + 1) ≡ entered b n h attributes events
 unfolding entered
-enters b n h attributes events e₁ e₂ e₃ e₄ = rw (e₄, e₃, e₂, e₁)
+enters b n h attributes events e₁ e₂ e₃ = rw (e₃, e₂, e₁)
+
+-- a client taken out of each row, and the number written; the table keeps its size
+pub withdraws : {b b₁ b₂ b₃ b₄ : List ℕ} {n i : ℕ} → n ≡ clientsIn b → ClosedUp b b₁ (handlePlace i) handleSize (handlePlace n)
+    → ClosedUp b₁ b₂ (attributesPlace i) attributesSize (attributesPlace n)
+    → ClosedUp b₂ b₃ (eventsPlace i) eventsSize (eventsPlace n)
+    → ClosedUp b₃ b₄ (masksPlace i) masksSize (masksPlace n)
+    → Withdrawn b (set b₄ headClients (n - 1)) i
+withdraws {b} {b₁} {b₂} {b₃} {b₄} e handles attributes events masks =
+    record {
+      b₁ = b₁;
+      b₂ = b₂;
+      b₃ = b₃;
+      b₄ = b₄;
+      handles = rw (e) at handles;
+      attributes = rw (e) at attributes;
+      events = rw (e) at events;
+      masks = rw (e) at masks;
+      number = rw (e) refl;
+    }
+
+pub withdrawn-size : {b b′ : List ℕ} {i : ℕ} → Withdrawn b b′ i → length b′ ≡ length b
+withdrawn-size {b} w =
+    ap length (w .number) ∙ length-set (w .b₄) headClients (clientsIn b - 1) ∙ w .masks .size ∙ w .events .size ∙ w .attributes .size
+    ∙ w .handles .size
 
 module _ {b p : List ℕ} (a : Accepted b) where
   pub register-refused : {k : Code} → FirstGiven (registerChecks (a .facts) p) k → ServedBy (Registers p) b b p k 0
@@ -54,8 +79,7 @@ module _ {b p : List ℕ} (a : Accepted b) where
           ((λ d. d l), ((λ d. d (q .attributes-allowed)), ((λ d. d (q .events-allowed)), (⊎-elim (omega arith) (omega arith), tt)))),
           (refl, left _ _ _),
         ))
-        (entered-image (a .facts) b (word p 0) (word p 2) (Of.shows-in b a) room unissued (omega (arith, q .attributes-allowed .bits))
-        (omega (arith, q .events-allowed))))
+        (entered-image (a .facts) b (word p 0) (word p 2) (Of.shows-in b a) room unissued (omega (arith, q .events-allowed))))
 
 -- a grant of the client's is some grant
 one-held : {G : Type 0} (client : G → ℕ) (h : ℕ) (o : Option G) → HeldBy client h o → (g : G) × (o ≡ some g) × (client g ≡ h)

@@ -8,10 +8,8 @@ use Rattle.facts.specs.Table.{Facts, Seat}
 use Rattle.facts.specs.Packets.{word}
 use Rattle.facts.specs.WellFormed.{AttributesAllowed, EventsAllowed}
 use Rattle.facts.specs.Clients.{Register, Deregister}
-use Rattle.layout.specs.Layout
-use Rattle.layout.specs.Reading.{clientsIn, issuedIn, clientPlace}
+use Rattle.layout.specs.Reading.{clientsIn, issuedIn}
 use Rattle.layout.specs.Sound.{MaskUsed}
-use Rattle.layout.specs.Changed.{TakenOut}
 use Rattle.layout.specs.Served.{ServedBy}
 use Rattle.seats.specs.Seats.{IoHeldBy, IrqHeldBy}
 use Rattle.service_answers.specs.declared.Answer.{Answer}
@@ -64,10 +62,6 @@ HoldsSome b i h = GrantHeld b h ⊎ MaskHeldIn b i
 abbrev pub HeldIs : List ℕ → ℕ → ℕ → Held → Type 0
 HeldIs b i h Something = HoldsSome b i h
 HeldIs b i h Nothing = HoldsSome b i h → ⊥
-
--- the client in the place i is taken out
-abbrev pub Withdrawn : List ℕ → List ℕ → ℕ → Type 0
-Withdrawn b b′ i = TakenOut b b′ 1 (clientPlace i) Layout.clientSize Layout.rangesAt
 
 -- RegisterClient and DeregisterClient are served as their rules say: they answer r, and leave the table b′; the packet stays
 abbrev pub RegisterServed : List ℕ → List ℕ → List ℕ → Answer → Type 0

@@ -4,16 +4,19 @@ use facts::Code;
 use facts::Handle;
 use facts::Seat;
 use layout::ALL_EVENTS;
-use layout::CLIENT_ATTRIBUTES_AT;
-use layout::CLIENT_EVENTS_AT;
-use layout::CLIENT_SIZE;
-use layout::CLIENTS_AT;
+use layout::ATTRIBUTES_AT;
+use layout::ATTRIBUTES_SIZE;
 use layout::CLIENTS_IN;
+use layout::EVENTS_AT;
+use layout::EVENTS_SIZE;
+use layout::HANDLE_SIZE;
+use layout::HANDLES_AT;
 use layout::ISSUED_IN;
+use layout::MASKS_AT;
+use layout::MASKS_SIZE;
 use layout::MOST_CLIENTS;
 use layout::MOST_ISSUED;
 use layout::MOST_SEATS;
-use layout::RANGES_AT;
 use service_answers::Answer;
 use service_checks::Size;
 ghost use mathlib.Core.Path.{_≡_};
@@ -25,8 +28,8 @@ ghost use Rattle.facts.specs.Clients.{registerLength};
 ghost use Rattle.layout.specs.Layout.{tableSize};
 ghost use Rattle.layout.specs.Reading.{clientsIn};
 ghost use Rattle.layout.specs.Sound.{Accepted};
-ghost use Rattle.layout.specs.Changed.{entered};
-ghost use Rattle.client_services.specs.Clients.{AsksFor, RoomIs, GrantAt, GrantHeld, MaskHeldIn, HeldIs, Withdrawn, RegisterServed};
+ghost use Rattle.layout.specs.Changed.{entered, Withdrawn};
+ghost use Rattle.client_services.specs.Clients.{AsksFor, RoomIs, GrantAt, GrantHeld, MaskHeldIn, HeldIs, RegisterServed};
 ghost use Rattle.client_services.specs.Clients.{DeregisterServed};
 
 // The packet of RegisterClient (5.37) is 14 bytes, that of DeregisterClient (5.8) is empty.
@@ -34,9 +37,9 @@ const REGISTER_LENGTH: usize = 14;
 
 const DEREGISTER_LENGTH: usize = 0;
 
-const ATTRIBUTES_AT: usize = 0;
+const ASKED_ATTRIBUTES_AT: usize = 0;
 
-const EVENTS_AT: usize = 2;
+const ASKED_EVENTS_AT: usize = 2;
 
 // The attributes and the event mask that a registration asks for.
 pub enum ClientAsked {
@@ -48,8 +51,8 @@ fn asks(p: &[u8]) -> ClientAsked
     requires { ⌜ length (now p) ≡ registerLength ⌝ }
     ensures { λ r. ⌜ AsksFor (now (p .entry)) r ⌝ }
 {
-    let attributes = table_read::word(p, ATTRIBUTES_AT);
-    let events = table_read::word(p, EVENTS_AT);
+    let attributes = table_read::word(p, ASKED_ATTRIBUTES_AT);
+    let events = table_read::word(p, ASKED_EVENTS_AT);
     if !client_record::attributes_allowed(attributes) {
         return ClientAsked::Bad;
     }
@@ -80,18 +83,17 @@ fn next_place(t: &[u8]) -> Room
     Room::Next(n, Handle((issued + 1) as u16))
 }
 
-// The new client's record, the handles issued and the number of clients.
+// What the new client is said by, the handles issued and the number of clients.
 fn enter(t: &mut [u8], n: usize, h: Handle, attributes: usize, events: usize)
-    requires { ⌜ (length (now t) ≡ tableSize) × (n < Table.mostClients) ⌝ }
+    requires { ⌜ (length (now t) ≡ tableSize) × (n < Table.mostClients) × (attributes < 256) ⌝ }
     ensures { λ _. ⌜ now (t .exit) ≡ entered (now (t .entry)) n (h .0) attributes events ⌝ }
 {
-    let at = CLIENTS_AT + n * CLIENT_SIZE;
     let number = h.0;
     let handle = number as usize;
-    table_write::put_word(t, at, handle);
-    table_write::put_word(t, at + CLIENT_ATTRIBUTES_AT, attributes);
-    table_write::put_word(t, at + CLIENT_EVENTS_AT, events);
+    table_write::put_word(t, HANDLES_AT + n * HANDLE_SIZE, handle);
+    table_write::put_word(t, EVENTS_AT + n * EVENTS_SIZE, events);
     table_write::put_word(t, ISSUED_IN, handle);
+    t[ATTRIBUTES_AT + n * ATTRIBUTES_SIZE] = attributes as u8;
     t[CLIENTS_IN] = (n + 1) as u8;
 }
 
@@ -167,18 +169,37 @@ fn holds(t: &[u8], i: usize, h: Handle) -> Held
     Held::Nothing
 }
 
-// The client listed in the place i is taken out: those after it move one place down.
+// The client listed in the place i is taken out of each row: those after it move one place down.
 fn withdraw(t: &mut [u8], i: usize)
     requires { ⌜ (length (now t) ≡ tableSize) × (i < clientsIn (now t)) × (clientsIn (now t) ≤ Table.mostClients) ⌝ }
     ensures { λ _. ⌜ Withdrawn (now (t .entry)) (now (t .exit)) i ⌝ }
 {
-    table_write::take_out(
+    let n = table_read::byte(t, CLIENTS_IN);
+    table_write::close_up(
         t,
-        CLIENTS_IN,
-        CLIENTS_AT + i * CLIENT_SIZE,
-        CLIENT_SIZE,
-        RANGES_AT,
+        HANDLES_AT + i * HANDLE_SIZE,
+        HANDLE_SIZE,
+        HANDLES_AT + n * HANDLE_SIZE,
     );
+    table_write::close_up(
+        t,
+        ATTRIBUTES_AT + i * ATTRIBUTES_SIZE,
+        ATTRIBUTES_SIZE,
+        ATTRIBUTES_AT + n * ATTRIBUTES_SIZE,
+    );
+    table_write::close_up(
+        t,
+        EVENTS_AT + i * EVENTS_SIZE,
+        EVENTS_SIZE,
+        EVENTS_AT + n * EVENTS_SIZE,
+    );
+    table_write::close_up(
+        t,
+        MASKS_AT + i * MASKS_SIZE,
+        MASKS_SIZE,
+        MASKS_AT + n * MASKS_SIZE,
+    );
+    t[CLIENTS_IN] = (n - 1) as u8;
 }
 
 pub fn deregister(t: &mut [u8], h: Handle, p: &[u8]) -> Answer

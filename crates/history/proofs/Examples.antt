@@ -1,5 +1,5 @@
 -- An example of each code that a service or a call of the host can give. Assumes nothing.
-use Rattle.facts.proofs.Words.{refl, sym, ap, subst, inl, inr, ⊎-elim, List, [], _∷_, _++_, Bool, true, false, true≢false, false≢true, none}
+use Rattle.facts.proofs.Words.{refl, sym, ap, subst, inl, inr, List, [], _∷_, _++_, Bool, true, false, true≢false, false≢true, none}
 use Rattle.facts.proofs.Words.{Option·none-ne-some, Option·some-injective, ℕ, _≤_, arith, replicate, T, WellFormed}
 use Rattle.facts.specs.Boot
 use Rattle.facts.specs.{Code, Success, BadAttribute, BadBase, BadIrq, BadSize, BadSocket, NoCard, UnsupportedService, GeneralFailure, BadArgLength}
@@ -8,7 +8,7 @@ use Rattle.facts.specs.{mostLines, long, typeOf, FirstGiven, Masks, withClients
 use Rattle.facts.specs.{IrqHeld, withIrq, withIo, Service, registerClient, deregisterClient, adjustResourceInfo, requestIrq, releaseIrq, requestIo}
 use Rattle.facts.specs.{releaseIo, requestSocketMask, releaseSocketMask, serviceNumber, Serves}
 use Rattle.layout.specs.{image}
-use Rattle.layout.proofs.{image-length}
+use Rattle.layout.proofs.{image-size}
 use Rattle.promises.specs.{CardAnswers}
 use Rattle.facts_cases.specs.{done, refused, managing, range, oneClient, noClient, clientPacket, addPacket}
 use Rattle.facts.proofs.{named-one}
@@ -231,5 +231,5 @@ examples sharers-of =
     then tt
 examples fresh-table =
     (0, [], [], inr (λ a. omega (arith, a .least), refl, refl))
-    then (2, image (fresh 2), _, inl (record { size = image-length (fresh 2); least = omega arith; most = omega arith }, refl, refl))
+    then (2, image (fresh 2), _, inl (record { size = image-size (fresh 2); least = omega arith; most = omega arith }, refl, refl))
     then tt

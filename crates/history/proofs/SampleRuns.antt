@@ -6,7 +6,7 @@ use Rattle.facts.specs.{Passed, levelAdded, addLevelChecks, addRangeChecks, reg
 use Rattle.facts.specs.{Wide}
 use Rattle.facts.proofs.{card-formed, level-added-formed}
 use Rattle.layout.specs.{image, Accepted}
-use Rattle.layout.proofs.{image-length}
+use Rattle.layout.proofs.{image-size}
 use Rattle.facts_cases.specs.{done, oneClient, clientPacket}
 use Rattle.facts_cases.proofs.{cases, as-left, _then_, _nor_}
 use Rattle.history.specs.{Event, makeFresh, call, cardIn, Keeper, Ours, Runs, FromFresh}
@@ -17,7 +17,7 @@ use Rattle.history.proofs.ExampleTables.{idle, irqHeld, ioHeld, idle-re
 
 -- from a fresh table of two sockets
 pub made-two : Ours (makeFresh 2 Success) (image (fresh 2)) (image (fresh 2))
-made-two = inl (record { size = image-length (fresh 2); least = omega arith; most = omega arith }, refl, refl)
+made-two = inl (record { size = image-size (fresh 2); least = omega arith; most = omega arith }, refl, refl)
 
 pub from-two : {K : Keeper} → K (makeFresh 2 Success) (image (fresh 2)) (image (fresh 2)) → (es : List Event) (b : List ℕ)
     → Runs K (image (fresh 2)) es b → FromFresh K 2 es b

@@ -1,12 +1,12 @@
 -- A level fits exactly if it is named, managed and has no grant in the way; and the lowest of the unreserved ones that fit is taken, or of the
 -- reserved ones. Assumes nothing.
-use Rattle.facts.proofs.Words.{_≡_, refl, sym, _∙_, subst, _⊎_, inl, inr, _≢_, Bool, true, false, true≢false, ℕ, _^_, _<_, arith, WellFormed}
+use Rattle.facts.proofs.Words.{_≡_, refl, sym, _∙_, subst, _⊎_, inl, inr, _≢_, Bool, true, false, true≢false, ℕ, _^_, _<_, ap, bitAnd, arith, WellFormed}
 use Rattle.facts.proofs.Words.{some}
 use Rattle.facts.specs.{Facts, IrqAsked, IrqGrant, bit, Holds, Together, Named, Fits, FirstFitting, NoLevelFits, allLevels, mostSeats}
 use Rattle.facts.proofs.{chosen-first, chosen-then, says-dec}
 use Rattle.irq_levels.proofs.{rule-says}
 use Rattle.table_read.specs.{HasJust, SomeBelow}
-use Rattle.table_read.proofs.{exactly-none, exactly-empty, exactly-one, exactly-as}
+use Rattle.table_read.proofs.{exactly-none, exactly-empty, exactly-one, exactly-as, bit-and}
 use Rattle.irq_fitting.specs.declared.Fitting.{Fitting}
 use Rattle.irq_fitting.specs.{Goes, LevelBarred, FitsAs, FitsHere, FittingAt, LevelsFitting, LowestIn}
 use Rattle.irq_fitting.proofs.Bits.{lowest-said}
@@ -49,6 +49,11 @@ module _ (F : Facts) (formed : WellFormed F) where
               → LevelBarred F q l → ⊥
           none-stands (inl none) (s, h, (g, holds, stands)) = none s g holds
           none-stands (inr x) (s, h, (g, holds, stands)) = stands (record { not-first = x .0; together = x .1 s g holds })
+
+    -- each that is named has a grant in the way: none fits
+    pub all-barred : (way : ℕ) → HasJust way (LevelBarred F q) → bitAnd (q .named) way ≡ q .named → NoLevelFits F q
+    all-barred way in-the-way e l x =
+        said-free way l in-the-way x (omega (arith, ap (λ (n : ℕ). bit n l) e, bit-and (q .named) way l, x .named))
 
     -- one that fits is a table's level: the levels that fit are those found below the last
     pub all-fitting : {reserved : Bool} {set : ℕ} → HasJust set (SomeBelow allLevels (FitsHere F q reserved)) → HasJust set (FitsAs F q reserved)

@@ -153,11 +153,15 @@ pub enum TakenLevel {
     Nothing,
 }
 
-// "An unreserved level comes before a reserved one, then the lowest."
+// "An unreserved level comes before a reserved one, then the lowest." Where each level that is named has a grant in the way, none fits, and no level is looked
+// at: of the levels 3 and 5, 28H, the set of those in the way has all, as 2BH has.
 fn first_fitting(t: &[u8], asked: IrqAsked, way: usize) -> TakenLevel
     requires { ⌜ Accepted (now t) × HasJust way (LevelBarred (factsIn (now t)) asked) ⌝ }
     ensures { λ r. ⌜ FirstIs (factsIn (now (t .entry))) asked r ⌝ }
 {
+    if asked.named & way == asked.named {
+        return TakenLevel::Nothing;
+    }
     let fitting = levels_fitting(t, asked, way);
     if fitting.unreserved != 0 {
         return TakenLevel::Level(lowest(fitting.unreserved) as usize);

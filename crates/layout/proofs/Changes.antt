@@ -2,8 +2,9 @@
 use Rattle.facts.proofs.Words.{_≡_, by-cases, decLt, List·getD-eq-default, getD, refl, sym, _∙_, List, [], _∷_, Bool, ℕ, _+_, _*_, _≤_, _<_, arith}
 use Rattle.facts.proofs.Words.{length, set}
 use Rattle.layout.proofs.Of
-use Rattle.facts.specs.{fresh, put, byte, withCard, mostSockets}
-use Rattle.layout.specs.{image, mark, Accepted, cardSize, cardsAt, clientSize, ioSize, irqSize, rangeSize, tableSize}
+use Rattle.facts.specs.{fresh, put, byte, withCard, mostClients, mostSockets}
+use Rattle.layout.specs.{image, mark, Accepted, cardSize, cardsAt, handleSize, attributesSize, eventsSize, masksSize, ioSize, irqSize, rangeSize}
+use Rattle.layout.specs.{layoutMark, headSize, tableSize}
 use Rattle.layout.proofs.Parts.{below-at, zeros}
 use Rattle.layout.proofs.Image.{Part, parts, end, Shown}
 use Rattle.layout.proofs.Shows.{Shows, headBytes, wrote-image, put-stands}
@@ -14,7 +15,7 @@ pub card-written : (b : List ℕ) (a : Accepted b) (s : ℕ) (v : Bool) → s < 
 card-written b a s v l =
     let w = Of.shows-in b a in
     let wrote = wrote-byte (wrote-none b (cardsAt + s * cardSize)) (cardsAt + s) (mark v) (omega arith) (omega (arith, w .size)) in
-    wrote-image (withCard (a .facts) s v) 0 (λ i. mark (put (a .facts .card) s v i) ∷ []) w wrote (omega arith) (omega arith)
+    wrote-image (withCard (a .facts) s v) 0 (λ i. mark (put (a .facts .card) s v i) ∷ []) (omega arith) w wrote (omega arith) (omega arith)
     (put-stands (λ (t : Bool). mark t ∷ []) (a .facts .card) s v cardsAt mostSockets cardSize refl (w .shown .0) wrote) (λ h t. (h, t))
 
 -- parts whose records are zero are shown by zero bytes
@@ -22,25 +23,40 @@ abbrev Zeroed : List Part → Type 0
 Zeroed [] = Unit {0}
 Zeroed (p ∷ ps) = ((i j : ℕ) → getD (p .bytes i) j 0 ≡ 0) × Zeroed ps
 
-zero-shown : (b : List ℕ) (at : ℕ) (ps : List Part) → Zeroed ps → ((q : ℕ) → at ≤ q → byte b q ≡ 0) → Shown b at ps
-zero-shown b at [] z all = λ q l m. all q l
-zero-shown b at (p ∷ ps) z all =
-    ((λ i l j m. all (at + i * p .size + j) (omega arith) ∙ sym (z .0 i j)), zero-shown b (end at p) ps (z .1) (λ q l. all q (omega arith)))
+zero-shown : (size : ℕ) (b : List ℕ) (at : ℕ) (ps : List Part) → Zeroed ps → ((q : ℕ) → at ≤ q → byte b q ≡ 0) → Shown size b at ps
+zero-shown size b at [] z all = λ q l m. all q l
+zero-shown size b at (p ∷ ps) z all =
+    ((λ i l j m. all (at + i * p .size + j) (omega arith) ∙ sym (z .0 i j)), zero-shown size b (end at p) ps (z .1) (λ q l. all q (omega arith)))
 
--- a fresh table: the socket count, and zero
-pub fresh-shown : (n : ℕ) (b : List ℕ) → length b ≡ tableSize → byte b 0 ≡ n → ((p : ℕ) → 1 ≤ p → p < tableSize → byte b p ≡ 0)
-    → Shows (fresh n) b
-fresh-shown n b size count zero-past =
+-- a fresh table: the mark, the socket count, and zero
+pub fresh-shown : (n : ℕ) (b : List ℕ) → length b ≡ tableSize → byte b 0 ≡ layoutMark → byte b 1 ≡ n
+    → ((p : ℕ) → 2 ≤ p → p < tableSize → byte b p ≡ 0)
+    → Shows mostClients tableSize (fresh n) b
+fresh-shown n b size mark-is count zero-past =
     record {
       size = size;
-      heads = below-at 5 (λ j. byte b j ≡ getD (headBytes (fresh n)) j 0)
-          (((((tt, count), all 1 (omega arith)), all 2 (omega arith)), all 3 (omega arith)), all 4 (omega arith));
-      shown = zero-shown b cardsAt (parts (fresh n)) empty (λ q l. all q (omega arith));
+      heads = below-at headSize (λ j. byte b j ≡ getD (headBytes (fresh n)) j 0)
+          ((((((tt, mark-is), count), all 2 (omega arith)), all 3 (omega arith)), all 4 (omega arith)), all 5 (omega arith));
+      shown = zero-shown tableSize b cardsAt (parts mostClients (fresh n)) empty (λ q l. all q (omega arith));
     }
   where
-    all : (q : ℕ) → 1 ≤ q → byte b q ≡ 0
+    all : (q : ℕ) → 2 ≤ q → byte b q ≡ 0
     all q l = by-cases (decLt q tableSize) (zero-past q l) (λ h. List·getD-eq-default b 0 (omega (arith, size)))
 
-    empty : Zeroed (parts (fresh n))
-    empty =
-        ((λ s. zeros 1), ((λ l. zeros 2), ((λ s. zeros ioSize), ((λ s. zeros irqSize), ((λ i. zeros clientSize), ((λ i. zeros rangeSize), tt))))))
+    empty : Zeroed (parts mostClients (fresh n))
+    empty = (
+      λ s. zeros 1,
+      (
+        λ l. zeros 2,
+        (
+          λ i. zeros rangeSize,
+          (
+            λ i. zeros handleSize,
+            (
+              λ i. zeros attributesSize,
+              (λ i. zeros eventsSize, (λ s. zeros ioSize, (λ s. zeros irqSize, (λ i. zeros 1, (λ i. zeros masksSize, tt))))),
+            ),
+          ),
+        ),
+      ),
+    )

@@ -1,18 +1,19 @@
 -- The facts read off sound bytes are well formed. Assumes nothing.
 use Rattle.facts.proofs.Words.{_≡_, refl, ap, sym, _∙_, subst, subst⁻¹, ⊎-elim, by-cases, List, Bool, true, false, false≢true, ℕ, suc, _+_, _-_, _≤_}
 use Rattle.facts.proofs.Words.{_<_, decLt, arith, eqb-true, eq-eqb, WellFormed, some}
-use Rattle.facts.specs.{Level, Range, byte, word, Bytes, ClientFits, IoFits, IrqFits, EventsAllowed, IoCompany, IrqCompany, allEvents, allLevels}
-use Rattle.facts.specs.{allPorts, mostSeats, mostSockets}
+use Rattle.facts.specs.{Level, Range, byte, word, Bytes, ClientFits, IoFits, IrqFits, EventsAllowed, IoCompany, IrqCompany, allLevels, mostClients}
+use Rattle.facts.specs.{allPorts, mostSockets}
 use Rattle.facts.proofs.Formed.{io-turned, irq-turned}
 use Rattle.layout.specs.{socketsIn, clientsIn, rangesIn, marked, maskOf, maskPlace, levelPlace, ioPlace, irqPlace, ioBytes, irqBytes, clientIn}
 use Rattle.layout.specs.{rangeIn, levelIn, ioIn, irqIn, ioHere, irqHere, factsIn, IoSound, IrqSound, cardsAt, ioCountAt, ioSize, iosAt}
-use Rattle.layout.specs.{irqLevelAt, irqSize, irqsAt, levelReservedAt}
-use Rattle.layout.specs.Sound.{Sound}
+use Rattle.layout.specs.{irqLevelAt, irqSize, irqsAt, levelReservedAt, seatRoom}
+use Rattle.layout.specs.Sound.{SoundOf}
 use Rattle.layout.proofs.Lists.{below-in, below-past, found, in-upTo, upTo-length, rising-upTo, apart-upTo}
 use Rattle.layout.proofs.Grants.{nonzero, grant-there, grants-company}
 use Rattle.layout.proofs.Said.{live-of, managed-of}
 
-module _ (b : List ℕ) (bytes : Bytes b) (s : Sound b) where
+-- with no more clients than a set may have
+module _ {n size : ℕ} (few : n ≤ mostClients) (b : List ℕ) (bytes : Bytes b) (s : SoundOf n size b) where
   card-formed : (t : ℕ) → factsIn b .card t ≡ true → t < socketsIn b
   unfolding factsIn
   card-formed t e =
@@ -24,9 +25,9 @@ module _ (b : List ℕ) (bytes : Bytes b) (s : Sound b) where
   mask-formed : (i t m : ℕ) → i < clientsIn b → clientIn b i .mask t ≡ some m → (t < socketsIn b) × EventsAllowed m
   unfolding clientIn
   mask-formed i t m l e =
-      let f = found mostSeats (λ t. maskOf (word b (maskPlace i t))) t m e in
-      let n = nonzero (word b (maskPlace i t)) (word b (maskPlace i t) - allEvents) m (f .1) in
-      ⊎-elim (λ z. absurd (omega (arith, z, n .0))) (λ u. (u .2, omega (arith, u .0, u .1, n .1))) (s .clients i l .masks t (f .0))
+      let f = found seatRoom (λ t. maskOf (word b (maskPlace i t))) t m e in
+      let used = nonzero (word b (maskPlace i t)) (word b (maskPlace i t) - 1) m (f .1) in
+      ⊎-elim (λ z. absurd (omega (arith, z, used .0))) (λ u. (u .1, omega (arith, u .0, used .0, used .1))) (s .masks i l t (f .0))
 
   client-formed : (i : ℕ) → i < clientsIn b → ClientFits (factsIn b) (clientIn b i)
   unfolding factsIn clientIn
@@ -94,7 +95,7 @@ module _ (b : List ℕ) (bytes : Bytes b) (s : Sound b) where
         sockets-least = s .sockets-least;
         sockets-most = s .sockets-most;
         cards = card-formed;
-        issued = omega (arith, bytes 3, bytes 4);
+        issued = omega (arith, bytes 4, bytes 5);
         clients-most = omega (arith, upTo-length (clientsIn b) (clientIn b), s .clients-most);
         handles = rising-upTo (clientsIn b) (clientIn b) (λ l. s .clients 0 l .over) (λ i l. s .clients (suc i) l .over);
         clients = λ c m. let r = in-upTo c (clientsIn b) (clientIn b) m in subst⁻¹ (ClientFits (factsIn b)) (r .2) (client-formed (r .0) (r .1));

@@ -1,11 +1,12 @@
 -- The parts of an image, whose records stand one after the other, and what its bytes are. Assumes nothing.
 use Rattle.facts.proofs.Words.{_≡_, refl, ap, ap₂, sym, _∙_, subst⁻¹, List, [], _∷_, _++_, Option, none, some, ℕ, suc, _+_, _*_, _-_, _<_, add-zero}
-use Rattle.facts.proofs.Words.{add-assoc, add-one, arith, length, getD, drop, getElem?, length-append, length-replicate, List·getD-append, drop-at}
-use Rattle.facts.proofs.Words.{drop-drop, getD-drop}
-use Rattle.facts.specs.{Facts, Client, Range, IoGrant, IrqGrant, byte, word, allLevels, mostClients, mostRanges, mostSockets, mostSeats}
-use Rattle.layout.specs.{each, mark, maskBytes, clientBytes, levelBytes, rangeBytes, ioBytes, irqBytes, head, cards, levels, ios, irqs, clients}
-use Rattle.layout.specs.{ranges, rest, image, cardSize, cardsAt, clientSize, ioSize, irqSize, levelSize, maskSize, rangeSize, restAt, tableSize}
-use Rattle.layout.specs.{Zero}
+use Rattle.facts.proofs.Words.{add-assoc, add-one, arith, length, getD, drop, getElem?, replicate, length-append, length-replicate, List·getD-append}
+use Rattle.facts.proofs.Words.{drop-at, drop-drop, getD-drop, _≤_}
+use Rattle.facts.specs.{Facts, Client, Range, IoGrant, IrqGrant, byte, word, allLevels, mostRanges, mostSockets}
+use Rattle.layout.specs.{each, mark, maskBytes, handleBytes, attributesBytes, eventsBytes, masksBytes, levelBytes, rangeBytes, ioBytes, irqBytes}
+use Rattle.layout.specs.{head, cards, levels, ranges, handles, attributes, events, ios, irqs, spare, masks, rest, imageOf, Zero, clientRoom, handleRoom}
+use Rattle.layout.specs.{seatRoom, cardSize, cardsAt, levelSize, rangeSize, handleSize, attributesSize, eventsSize, ioSize, irqSize, spareSize}
+use Rattle.layout.specs.{maskSize, masksSize, restAt}
 use Rattle.layout.proofs.Parts.{each-length, each-at, record-below, zeros}
 
 -- the size of each record
@@ -13,9 +14,21 @@ pub mask-size : (m : Option ℕ) → length (maskBytes m) ≡ maskSize
 mask-size none = refl
 mask-size (some m) = refl
 
-pub client-size : (c : Option Client) → length (clientBytes c) ≡ clientSize
-client-size none = refl
-client-size (some c) = omega (arith, each-length maskSize (λ s. maskBytes (c .mask s)) (λ s. mask-size (c .mask s)) mostSeats)
+handle-size : (c : Option Client) → length (handleBytes c) ≡ handleSize
+handle-size none = refl
+handle-size (some c) = refl
+
+attributes-size : (c : Option Client) → length (attributesBytes c) ≡ attributesSize
+attributes-size none = refl
+attributes-size (some c) = refl
+
+events-size : (c : Option Client) → length (eventsBytes c) ≡ eventsSize
+events-size none = refl
+events-size (some c) = refl
+
+pub masks-size : (c : Option Client) → length (masksBytes c) ≡ masksSize
+masks-size none = refl
+masks-size (some c) = each-length maskSize (λ s. maskBytes (c .mask s)) (λ s. mask-size (c .mask s)) seatRoom
 
 range-size : (r : Option Range) → length (rangeBytes r) ≡ rangeSize
 range-size none = refl
@@ -38,37 +51,59 @@ pub record Part : Type 0 where
 abbrev pub part : ℕ → ℕ → (ℕ → List ℕ) → Part
 part n k f = record { count = n; size = k; bytes = f }
 
--- the parts of an image, in their order
-abbrev pub parts : Facts → List Part
-parts F =
+-- the parts of an image in their order: those that every table has, and the masks of as many clients as it has room for
+abbrev pub firstParts : Facts → List Part
+firstParts F =
     part mostSockets cardSize (λ s. mark (F .card s) ∷ []) ∷ part allLevels levelSize (λ l. levelBytes (F .level l))
-    ∷ part mostSeats ioSize (λ s. ioBytes (F .io s))
-    ∷ part mostSeats irqSize (λ s. irqBytes (F .irq s))
-    ∷ part mostClients clientSize (λ i. clientBytes (getElem? (F .clients) i))
     ∷ part mostRanges rangeSize (λ i. rangeBytes (getElem? (F .ranges) i))
+    ∷ part handleRoom handleSize (λ i. handleBytes (getElem? (F .clients) i))
+    ∷ part clientRoom attributesSize (λ i. attributesBytes (getElem? (F .clients) i))
+    ∷ part clientRoom eventsSize (λ i. eventsBytes (getElem? (F .clients) i))
+    ∷ part seatRoom ioSize (λ s. ioBytes (F .io s))
+    ∷ part seatRoom irqSize (λ s. irqBytes (F .irq s))
+    ∷ part spareSize 1 (λ i. 0 ∷ [])
     ∷ []
+
+abbrev pub maskPart : ℕ → Facts → Part
+maskPart n F = part n masksSize (λ i. masksBytes (getElem? (F .clients) i))
+
+abbrev pub parts : ℕ → Facts → List Part
+parts n F = firstParts F ++ (maskPart n F ∷ [])
 
 -- every record has its size
 abbrev Sized : List Part → Type 0
 Sized [] = Unit {0}
 Sized (p ∷ ps) = ((i : ℕ) → length (p .bytes i) ≡ p .size) × Sized ps
 
-sized : (F : Facts) → Sized (parts F)
-sized F =
-    let clients : (i : ℕ) → length (clientBytes (getElem? (F .clients) i)) ≡ clientSize = (λ i. client-size (getElem? (F .clients) i)) in
-    let ranges : (i : ℕ) → length (rangeBytes (getElem? (F .ranges) i)) ≡ rangeSize = (λ i. range-size (getElem? (F .ranges) i)) in
-    ((λ s. refl), ((λ l. refl), ((λ s. io-size (F .io s)), ((λ s. irq-size (F .irq s)), (clients, (ranges, tt))))))
+sized : (n : ℕ) (F : Facts) → Sized (parts n F)
+sized n F =
+    let client : ℕ → Option Client = getElem? (F .clients) in (
+      λ s. refl,
+      (
+        λ l. refl,
+        (
+          λ i. range-size (getElem? (F .ranges) i),
+          (
+            λ i. handle-size (client i),
+            (
+              λ i. attributes-size (client i),
+              (λ i. events-size (client i), (λ s. io-size (F .io s), (λ s. irq-size (F .irq s), (λ i. refl, (λ i. masks-size (client i), tt))))),
+            ),
+          ),
+        ),
+      ),
+    )
 
 -- the parts one after the other, and what follows them
-abbrev joined : List Part → List ℕ
-joined [] = rest
-joined (p ∷ ps) = each (p .count) (p .bytes) ++ joined ps
+abbrev joined : List Part → List ℕ → List ℕ
+joined [] past = past
+joined (p ∷ ps) past = each (p .count) (p .bytes) ++ joined ps past
 
 -- where a part that begins at a place ends, and where several do
 abbrev pub end : ℕ → Part → ℕ
 end at p = at + p .count * p .size
 
-abbrev ends : ℕ → List Part → ℕ
+abbrev pub ends : ℕ → List Part → ℕ
 ends at [] = at
 ends at (p ∷ ps) = ends (end at p) ps
 
@@ -76,27 +111,26 @@ ends at (p ∷ ps) = ends (end at p) ps
 abbrev pub Stands : List ℕ → ℕ → Part → Type 0
 Stands b at p = (i : ℕ) → i < p .count → (j : ℕ) → j < p .size → byte b (at + i * p .size + j) ≡ getD (p .bytes i) j 0
 
--- the parts stand from a place on, and zero bytes follow
-abbrev pub Shown : List ℕ → ℕ → List Part → Type 0
-Shown b at [] = Zero b at tableSize
-Shown b at (p ∷ ps) = Stands b at p × Shown b (end at p) ps
+-- the parts stand from a place on, and zero bytes follow up to the table's size
+abbrev pub Shown : ℕ → List ℕ → ℕ → List Part → Type 0
+Shown size b at [] = Zero b at size
+Shown size b at (p ∷ ps) = Stands b at p × Shown size b (end at p) ps
 
-joined-length : (at : ℕ) (ps : List Part) → Sized ps → at + length (joined ps) ≡ ends at ps + length rest
-joined-length at [] s = refl
-joined-length at (p ∷ ps) s =
+joined-length : (at : ℕ) (ps : List Part) (past : List ℕ) → Sized ps → at + length (joined ps past) ≡ ends at ps + length past
+joined-length at [] past s = refl
+joined-length at (p ∷ ps) past s =
     omega (
       arith,
-      length-append (each (p .count) (p .bytes)) (joined ps),
+      length-append (each (p .count) (p .bytes)) (joined ps past),
       each-length (p .size) (p .bytes) (s .0) (p .count),
-      joined-length (end at p) ps (s .1),
+      joined-length (end at p) ps past (s .1),
     )
 
-joined-shown : (b : List ℕ) (at : ℕ) (ps : List Part) → Sized ps → drop at b ≡ joined ps → Shown b at ps
-unfolding rest
-joined-shown b at [] s e =
+joined-shown : (size k : ℕ) (b : List ℕ) (at : ℕ) (ps : List Part) → Sized ps → drop at b ≡ joined ps (replicate k 0) → Shown size b at ps
+joined-shown size k b at [] s e =
     λ i l m. let there : i ≡ at + (i - at) = omega arith in
-    ap (byte b) there ∙ sym (getD-drop at b (i - at) 0) ∙ ap (λ (y : List ℕ). getD y (i - at) 0) e ∙ zeros (tableSize - restAt) (i - at)
-joined-shown b at (p ∷ ps) s e = (here, joined-shown b (end at p) ps (s .1) past)
+    ap (byte b) there ∙ sym (getD-drop at b (i - at) 0) ∙ ap (λ (y : List ℕ). getD y (i - at) 0) e ∙ zeros k (i - at)
+joined-shown size k b at (p ∷ ps) s e = (here, joined-shown size k b (end at p) ps (s .1) past)
   where
     long : length (each (p .count) (p .bytes)) ≡ p .count * p .size
     long = each-length (p .size) (p .bytes) (s .0) (p .count)
@@ -105,22 +139,24 @@ joined-shown b at (p ∷ ps) s e = (here, joined-shown b (end at p) ps (s .1) pa
     here i l j h =
         let q = i * p .size + j in
         ap (byte b) (add-assoc at (i * p .size) j) ∙ sym (getD-drop at b q 0) ∙ ap (λ (y : List ℕ). getD y q 0) e
-        ∙ List·getD-append (each (p .count) (p .bytes)) (joined ps) 0 q (subst⁻¹ (λ (m : ℕ). q < m) long (record-below l h))
+        ∙ List·getD-append (each (p .count) (p .bytes)) (joined ps (replicate k 0)) 0 q (subst⁻¹ (λ (m : ℕ). q < m) long (record-below l h))
         ∙ each-at (p .size) (p .bytes) (s .0) (p .count) i j l h
 
-    past : drop (end at p) b ≡ joined ps
+    past : drop (end at p) b ≡ joined ps (replicate k 0)
     past =
         sym (drop-drop (p .count * p .size) at b) ∙ ap (drop (p .count * p .size)) e
-        ∙ drop-at (each (p .count) (p .bytes)) (joined ps) (p .count * p .size) long
+        ∙ drop-at (each (p .count) (p .bytes)) (joined ps (replicate k 0)) (p .count * p .size) long
 
-module _ (F : Facts) where
-  pub image-length : length (image F) ≡ tableSize
-  unfolding image head cards levels ios irqs clients ranges rest
-  image-length = omega (arith, joined-length cardsAt (parts F) (sized F), length-replicate {A = ℕ} (tableSize - restAt) 0)
+-- a table of so many bytes, in which the masks of so many clients have room
+module _ (n size : ℕ) (F : Facts) where
+  pub image-length : restAt n ≤ size → length (imageOf n size F) ≡ size
+  unfolding imageOf head cards levels ranges handles attributes events ios irqs spare masks rest
+  image-length room =
+      omega (arith, joined-length cardsAt (parts n F) (replicate (size - restAt n) 0) (sized n F), length-replicate {A = ℕ} (size - restAt n) 0)
 
-  pub image-shown : Shown (image F) cardsAt (parts F)
-  unfolding image head cards levels ios irqs clients ranges
-  image-shown = joined-shown (image F) cardsAt (parts F) (sized F) refl
+  pub image-shown : Shown size (imageOf n size F) cardsAt (parts n F)
+  unfolding imageOf head cards levels ranges handles attributes events ios irqs spare masks rest
+  image-shown = joined-shown size (size - restAt n) (imageOf n size F) cardsAt (parts n F) (sized n F) refl
 
 -- the bytes of a record x stand at a place of b
 module _ (b : List ℕ) (place k : ℕ) (x : List ℕ) (at : (j : ℕ) → j < k → byte b (place + j) ≡ getD x j 0) where

@@ -4,7 +4,7 @@ use Rattle.facts.proofs.Words.{replicate, Ports}
 use Rattle.layout.proofs.Of
 use Rattle.facts.specs.{IoGrant, put, byte, withIo, mostSeats}
 use Rattle.layout.specs.{image, two, ioBytes, mark, ioPlace, portsIn, ioIn, Accepted, ioEntered, ioBaseAt, ioCountAt, ioLinesAt, ioSharedAt}
-use Rattle.layout.specs.{ioSize, iosAt}
+use Rattle.layout.specs.{ioSize, iosAt, seatRoom}
 use Rattle.layout.proofs.Image.{io-size}
 use Rattle.layout.proofs.Shows.{ios-are, wrote-image, put-stands}
 use Rattle.layout.proofs.Entered.{Wrote, wrote-none, wrote-byte, wrote-word, wrote-zeros}
@@ -40,9 +40,9 @@ module _ (b : List ℕ) (a : Accepted b) (s : ℕ) (l : s < mostSeats) where
       let w₄ = wrote-byte w₃ (place + ioLinesAt) lines refl (omega (arith, w .size)) in
       let w₅ = wrote-byte w₄ (place + ioSharedAt) shared refl (omega (arith, w .size)) in
       let wrote = subst (λ (x : List ℕ). Wrote b place x (ioEntered b s client base count lines shared)) is
-      (wrote-zeros w₅ 4 (λ q h m. ⊎-elim (λ z. z q (omega arith) (omega arith)) (λ g. g .1 .spare q h (omega arith)) (Of.sound-in b a .ios s l))) in
-      wrote-image (withIo (a .facts) s o) 2 (λ i. ioBytes (put (a .facts .io) s o i)) w wrote (omega arith) (omega (arith, io-size o))
-      (put-stands ioBytes (a .facts .io) s o iosAt mostSeats ioSize (io-size o) (ios-are w) wrote) (λ h t. (h, t))
+      (wrote-zeros w₅ 4 (λ q h m. ⊎-elim (λ z. z q (omega arith) (omega arith)) (λ g. g .1 .spare q h (omega arith)) (Of.sound-in b a .ios s (omega arith)))) in
+      wrote-image (withIo (a .facts) s o) 6 (λ i. ioBytes (put (a .facts .io) s o i)) (omega arith) w wrote (omega arith) (omega (arith, io-size o))
+      (put-stands ioBytes (a .facts .io) s o iosAt seatRoom ioSize (io-size o) (ios-are w) wrote) (λ h t. (h, t))
 
   pub granted-image : (g : IoGrant) → g .client < 65536 → g .ports .base < 65536
       → image (withIo (a .facts) s (some g))

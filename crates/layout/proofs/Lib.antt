@@ -12,6 +12,7 @@ pub mod Whole
 pub mod Formed
 pub mod Sounds
 pub mod Of
+pub mod Grows
 pub mod Accepts
 pub mod Changes
 pub mod Clients
@@ -24,13 +25,13 @@ pub use Parts.{below-at}
 pub use Lists.{below-in, below-past}
 pub use Written.{byte-same, byte-other, word-length, word-low, word-high, word-other, long-length, long-other}
 pub use Entered.{long-bytes}
-pub use Image.{image-length}
 pub use Shows.{shows-image}
 pub use Grants.{zero-test, positive-test, used-sound}
 pub use RoundTrip.{manner-back, live-positive}
 pub use Sounds.{manner-most}
 pub use Of.{size-in, sockets-in, clients-in, sound-in}
-pub use Accepts.{sound-accepted, accepted-sound, one-set}
+pub use Grows.{image-grows}
+pub use Accepts.{sound-accepted, accepted-sound, one-set, image-size}
 pub use Changes.{card-written, fresh-shown}
 pub use Clients.{entered-image, withdrawn-image}
 pub use Managed.{rangeEnd, end-before, end-next, ends-before, bases-rise, HasPort, same-range, range-placed, range-taken-out, range-put-in}

@@ -5,7 +5,7 @@ use Rattle.facts.proofs.Words.{Option·none-ne-some, ℕ, zero, suc, _+_, _-_, 
 use Rattle.layout.proofs.Of
 use Rattle.facts.specs.{Level, Range, put, Within, withLevel, withRanges, inserted, withoutRange, rangeRemoved, allLevels, mostRanges}
 use Rattle.layout.specs.{image, mark, rangeBytes, levelBytes, rangesIn, rangePlace, levelPlace, rangeIn, Accepted, RangesSound, rangeBase}
-use Rattle.layout.specs.{rangeCount, endBefore, TakenOut, PutIn, levelReservedAt, levelSize, levelsAt, rangeSize, rangesAt, restAt}
+use Rattle.layout.specs.{rangeCount, endBefore, TakenOut, PutIn, levelReservedAt, levelSize, levelsAt, rangeSize, rangesAt, handlesAt, headRanges}
 use Rattle.layout.proofs.Parts.{zeros}
 use Rattle.layout.proofs.Lists.{without-at, inserted-at, at-past, climb}
 use Rattle.layout.proofs.Records.{records-fewer, records-more}
@@ -57,7 +57,7 @@ module _ (b b′ : List ℕ) (a : Accepted b) where
       ap (λ (r : Range). r .base) (sym (Option·some-injective (rangeIn b i) y (sym (Of.range-of b a i l) ∙ e))) ∙ Of.range-base b a i
 
   -- the range in the place i taken out
-  pub range-taken-out : (i : ℕ) → i < rangesIn b → TakenOut b b′ 2 (rangePlace i) rangeSize restAt
+  pub range-taken-out : (i : ℕ) → i < rangesIn b → TakenOut b b′ headRanges (rangePlace i) rangeSize handlesAt
       → image (rangeRemoved (a .facts) (rangeBase b i)) ≡ b′
   range-taken-out i l d =
       let w = Of.shows-in b a in
@@ -65,15 +65,16 @@ module _ (b b′ : List ℕ) (a : Accepted b) where
       let more = without-at (λ (r : Range). r .base) base ranges i (rangeIn b i) (Of.range-of b a i l) (Of.range-base b a i)
       (λ k y m e q. omega (arith, said k y e (omega arith), q, bases-rise b (Of.sound-in b a .ranges) k i m l)) in
       let fewer = withoutRange base ranges in
-      listed-image b′ (rangeRemoved (a .facts) base) 5 2 (length fewer) (λ k. rangeBytes (getElem? fewer k)) w (d .size) (omega arith)
+      listed-image b′ (rangeRemoved (a .facts) base) 2 headRanges (length fewer) (λ k. rangeBytes (getElem? fewer k)) (omega arith) w (d .size) (omega arith)
       (omega (arith, d .fewer, Of.ranges-in b a, more .longer)) (λ p n o. d .other p n (⊎-elim (λ m. inl (omega arith)) inr o))
       (records-fewer rangeBytes rangesAt rangeSize mostRanges (zeros rangeSize) ranges fewer b b′ i (rangeIn b i) (ranges-are w)
-      (λ p m n. d .other p (λ q. omega (arith, q)) (inl n)) more (a .formed .ranges-most) (d .moved) (d .last)) (λ h t. (h, t))
+      (λ p m n. d .other p (λ q. omega (arith, q)) (inl n)) more mostRanges (a .formed .ranges-most) (omega arith) (d .moved) (d .last)
+      (λ p m. d .other p (λ q. omega (arith, q)) (inr m))) (λ h t. (h, t))
 
   -- the range r put in at the place i, after those whose base is not over its own
   pub range-put-in : (r : Range) (i : ℕ) → i ≤ rangesIn b → ((j : ℕ) → j < i → rangeBase b j ≤ r .base)
       → ((j : ℕ) → i ≤ j → j < rangesIn b → r .base < rangeBase b j)
-      → PutIn b b′ 2 (rangePlace i) restAt (rangeBytes (some r))
+      → PutIn b b′ headRanges (rangePlace i) handlesAt (rangeBytes (some r))
       → image (withRanges (a .facts) (inserted r (a .facts .ranges))) ≡ b′
   range-put-in r i l low high d =
       let w = Of.shows-in b a in
@@ -82,7 +83,7 @@ module _ (b b′ : List ℕ) (a : Accepted b) where
       (λ n. absurd (Option·none-ne-some y (sym (at-past ranges j (omega (arith, Of.ranges-in b a))) ∙ e)))) in
       let more = inserted-at r ranges i (omega (arith, Of.ranges-in b a)) (λ j y m e. omega (arith, said j y e (omega arith), low j m)) over in
       let all = inserted r ranges in
-      listed-image b′ (withRanges (a .facts) all) 5 2 (length all) (λ k. rangeBytes (getElem? all k)) w (d .size) (omega arith)
+      listed-image b′ (withRanges (a .facts) all) 2 headRanges (length all) (λ k. rangeBytes (getElem? all k)) (omega arith) w (d .size) (omega arith)
       (omega (arith, d .more, Of.ranges-in b a, more .longer)) (λ p n o. d .other p n (⊎-elim (λ m. inl (omega arith)) inr o))
       (records-more rangeBytes rangesAt rangeSize mostRanges (zeros rangeSize) ranges all b b′ i r (ranges-are w)
       (λ p m n. d .other p (λ q. omega (arith, q)) (inl n)) more (d .new) (d .moved)) (λ h t. (h, t))
@@ -95,6 +96,6 @@ module _ (b b′ : List ℕ) (a : Accepted b) where
       let w = Of.shows-in b a in
       let first = wrote-byte (wrote-none b (levelPlace l)) (levelPlace l) (mark (v .managed)) (omega arith) (omega (arith, w .size)) in
       let wrote = wrote-byte first (levelPlace l + levelReservedAt) (mark (v .reserved)) refl (omega (arith, w .size)) in
-      wrote-image (withLevel (a .facts) l v) 1 (λ i. levelBytes (put (a .facts .level) l v i)) w wrote (omega arith) (omega arith)
+      wrote-image (withLevel (a .facts) l v) 1 (λ i. levelBytes (put (a .facts .level) l v i)) (omega arith) w wrote (omega arith) (omega arith)
       (put-stands levelBytes (a .facts .level) l v levelsAt allLevels levelSize refl (levels-are w) wrote) (λ h t. (h, t))
       ∙ sym e

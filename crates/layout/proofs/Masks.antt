@@ -1,20 +1,19 @@
 -- A client's mask and its word: what the word says, and the table with another word there. Assumes nothing.
 use Rattle.facts.proofs.Words.{_≡_, subst⁻¹, set, refl, ap, sym, _∙_, subst, inl, inr, ⊎-elim, by-cases, _≢_, List, Bool, cond, Option, none, some}
-use Rattle.facts.proofs.Words.{Option·some-injective, Option·none-ne-some, ℕ, _+_, _-_, _<_, decLt, arith, length, getD, getElem?, eqb, eq-eqb}
+use Rattle.facts.proofs.Words.{Option·some-injective, Option·none-ne-some, ℕ, _-_, _<_, decLt, arith, length, getD, getElem?, eqb, eq-eqb}
 use Rattle.facts.proofs.Words.{ne-eqb}
 use Rattle.layout.proofs.Of
-use Rattle.facts.specs.{Client, byte, word, withWord, put, Masks, MaskHeld, withClients, masking, withMask, allEvents, mostClients, mostSeats}
-use Rattle.facts.specs.{mostSockets}
+use Rattle.facts.specs.{Client, word, withWord, put, Masks, MaskHeld, withClients, masking, withMask, mostClients, mostSeats, mostSockets}
 use Rattle.facts.proofs.{length-map}
 use Rattle.facts.proofs.Sets.{put-all}
-use Rattle.layout.specs.{image, two, maskBytes, maskOf, clientBytes, clientsIn, handleIn, clientIn, clientPlace, maskPlace, Accepted, MaskUsed}
-use Rattle.layout.specs.{clientMasksAt, clientSize, clientsAt, maskSize}
-use Rattle.layout.proofs.Parts.{below-at}
+use Rattle.layout.specs.{image, two, maskBytes, handleBytes, attributesBytes, eventsBytes, masksBytes, maskOf, clientsIn, handleIn, clientIn}
+use Rattle.layout.specs.{masksPlace, maskPlace, Accepted, MaskUsed, headClients, cardsAt, handlesAt, handleRoom, handleSize, attributesAt}
+use Rattle.layout.specs.{attributesSize, eventsAt, eventsSize, clientRoom, seatRoom, masksAt, masksSize, maskSize, tableSize}
 use Rattle.layout.proofs.Lists.{below-in, at-in, in-at, at-below, at-past, at-map}
-use Rattle.layout.proofs.RoundTrip.{masks-stand, client-stands}
+use Rattle.layout.proofs.RoundTrip.{masks-stand, masks-join}
 use Rattle.layout.proofs.Grants.{zero-test, positive-test}
-use Rattle.layout.proofs.Image.{client-size, mask-size}
-use Rattle.layout.proofs.Shows.{Heads, headBytes, clients-are, wrote-image, put-stands}
+use Rattle.layout.proofs.Image.{part, parts, Stands, Shown, masks-size, mask-size}
+use Rattle.layout.proofs.Shows.{Heads, headBytes, masks-are, changing, shown-at, shown-changed, wrote-image, put-stands}
 use Rattle.layout.proofs.Entered.{Wrote, wrote-none, wrote-word}
 
 -- the client listed in the place i, whose handle is h
@@ -31,7 +30,7 @@ module _ (b : List ℕ) (a : Accepted b) (i h : ℕ) (l : i < clientsIn b) (e : 
 
   its-mask : (s : ℕ) → s < mostSeats → here .mask s ≡ maskOf (word b (maskPlace i s))
   unfolding clientIn
-  its-mask s n = below-in mostSeats none (λ s. maskOf (word b (maskPlace i s))) s n
+  its-mask s n = below-in seatRoom none (λ s. maskOf (word b (maskPlace i s))) s (omega arith)
 
   -- no other place has a client of that handle
   only : (k : ℕ) (c : Client) → getElem? (a .facts .clients) k ≡ some c → c .handle ≡ h → i ≡ k
@@ -44,12 +43,12 @@ module _ (b : List ℕ) (a : Accepted b) (i h : ℕ) (l : i < clientsIn b) (e : 
   -- its word says a mask exactly if the facts do
   pub mask-said : (s : ℕ) → s < mostSockets → MaskUsed b i s → MaskHeld (a .facts) h s
   mask-said s n used = (
-    word b (maskPlace i s) - allEvents,
+    word b (maskPlace i s) - 1,
     record {
       client = here;
       listed = at-in (a .facts .clients) i (Of.client-at b a i l);
       handle = its-handle;
-      mask = its-mask s n ∙ positive-test (word b (maskPlace i s)) none (some (word b (maskPlace i s) - allEvents)) (omega (arith, used));
+      mask = its-mask s n ∙ positive-test (word b (maskPlace i s)) none (some (word b (maskPlace i s) - 1)) (omega (arith, used));
     },
   )
 
@@ -59,7 +58,7 @@ module _ (b : List ℕ) (a : Accepted b) (i h : ℕ) (l : i < clientsIn b) (e : 
       let at = ap (getElem? (a .facts .clients)) (only (there .0) (x .client) (there .2) (x .handle)) ∙ there .2 in
       let same = Option·some-injective here (x .client) (sym (Of.client-at b a i l) ∙ at) in
       Option·none-ne-some m
-      (sym (zero-test (word b (maskPlace i s)) none (some (word b (maskPlace i s) - allEvents)) z) ∙ sym (its-mask s (mask-socket s m x))
+      (sym (zero-test (word b (maskPlace i s)) none (some (word b (maskPlace i s) - 1)) z) ∙ sym (its-mask s (mask-socket s m x))
       ∙ ap (λ (c : Client). c .mask s) same ∙ x .mask)
 
   -- the mask o for the seat s, and its word w
@@ -93,34 +92,59 @@ module _ (b : List ℕ) (a : Accepted b) (i h : ℕ) (l : i < clientsIn b) (e : 
             ∙ sym (x .1))
             (λ m. at-past masked k (omega (arith, length-map as-masked (a .facts .clients))) ∙ sym (at-past (a .facts .clients) k (omega arith)))
 
-    -- the word is written, and with it the client's record
+    -- the word is written, and with it the client's masks
     wrote : Wrote b (maskPlace i s) (maskBytes o) changed
     wrote =
         subst (λ (x : List ℕ). Wrote b (maskPlace i s) x changed) (sym is)
         (wrote-word (wrote-none b (maskPlace i s)) (maskPlace i s) w (omega arith) (omega (arith, listed, Of.size-in b a)) low)
 
-    its-record : (j : ℕ) → j < clientSize → byte b (clientPlace i + j) ≡ getD (clientBytes (some here)) j 0
-    its-record j m = clients-are (Of.shows-in b a) i listed j m ∙ ap (λ (c : Option Client). getD (clientBytes c) j 0) (Of.client-at b a i l)
-
-    record-wrote : Wrote b (clientPlace i) (clientBytes (some new)) changed
-    record-wrote =
+    masks-wrote : Wrote b (masksPlace i) (masksBytes (some new)) changed
+    masks-wrote =
+        let stood = masks-stand b (masksPlace i) here
+        (λ j m. masks-are (Of.shows-in b a) i listed j m ∙ ap (λ (c : Option Client). getD (masksBytes c) j 0) (Of.client-at b a i l)) in
+        let stand = put-stands maskBytes (here .mask) s o (masksPlace i) seatRoom maskSize (mask-size o) stood wrote in
         record {
           size = wrote .size;
-          bytes = λ j m. client-stands changed (clientPlace i) new
-              (λ j m. wrote .other (clientPlace i + j) (inl (omega arith)) ∙ its-record j (omega arith)
-              ∙ below-at 6 (λ j. getD (clientBytes (some here)) j 0 ≡ getD (clientBytes (some new)) j 0)
-              ((((((tt, refl), refl), refl), refl), refl), refl) j m)
-              (put-stands maskBytes (here .mask) s o (clientPlace i + clientMasksAt) mostSeats maskSize (mask-size o)
-              (masks-stand b (clientPlace i) here its-record) wrote) j (omega (arith, m, client-size (some new)));
+          bytes = λ j m. masks-join changed (masksPlace i) new stand j (omega (arith, m, masks-size (some new)));
           other = λ q. ⊎-elim (λ m. wrote .other q (inl (omega arith)))
-              (λ m. wrote .other q (inr (omega (arith, m, mask-size o, client-size (some new)))));
+              (λ m. wrote .other q (inr (omega (arith, m, mask-size o, masks-size (some new)))));
         }
+
+    -- what else the client is said by stays
+    abbrev row : (Option Client → List ℕ) → ℕ → List ℕ
+    row bytes k = bytes (getElem? masked k)
+
+    row-kept : (bytes : Option Client → List ℕ) → bytes (some here) ≡ bytes (some new) → (at count k : ℕ)
+        → Stands changed at (part count k (λ j. bytes (getElem? (a .facts .clients) j)))
+        → Stands changed at (part count k (row bytes))
+    row-kept bytes same at count k stands j m r q =
+        stands j m r q
+        ∙ put-all (λ (k : ℕ) (c : Option Client). getD (bytes (getElem? (a .facts .clients) k)) r 0 ≡ getD (bytes c) r 0)
+        (getElem? (a .facts .clients)) i (some new)
+        (ap (λ (c : Option Client). getD (bytes c) r 0) (Of.client-at b a i l) ∙ ap (λ (x : List ℕ). getD x r 0) same) (λ k d. refl) j
+        ∙ ap (λ (c : Option Client). getD (bytes c) r 0) (sym (masked-at j))
+
+    rows-kept : Shown tableSize changed cardsAt (changing 9 (row masksBytes) (parts mostClients (a .facts)))
+        → Shown tableSize changed cardsAt (parts mostClients (withClients (a .facts) masked))
+    rows-kept t =
+        let ps₀ = changing 9 (row masksBytes) (parts mostClients (a .facts)) in
+        let ps₁ = changing 3 (row handleBytes) ps₀ in
+        let ps₂ = changing 4 (row attributesBytes) ps₁ in
+        let t₁ = shown-changed tableSize changed changed 3 (row handleBytes) cardsAt ps₀ t (λ q l d. refl)
+        (row-kept handleBytes refl handlesAt handleRoom handleSize (shown-at tableSize changed 3 cardsAt ps₀ t)) in
+        let t₂ = shown-changed tableSize changed changed 4 (row attributesBytes) cardsAt ps₁ t₁ (λ q l d. refl)
+        (row-kept attributesBytes refl attributesAt clientRoom attributesSize (shown-at tableSize changed 4 cardsAt ps₁ t₁)) in
+        shown-changed tableSize changed changed 5 (row eventsBytes) cardsAt ps₂ t₂ (λ q l d. refl)
+        (row-kept eventsBytes refl eventsAt clientRoom eventsSize (shown-at tableSize changed 5 cardsAt ps₂ t₂))
 
     -- the table with the word there is the image of the facts with the mask
     pub mask-written : image (withClients (a .facts) masked) ≡ changed
     mask-written =
-        wrote-image (withClients (a .facts) masked) 4 (λ k. clientBytes (getElem? masked k)) (Of.shows-in b a) record-wrote (omega arith)
-        (omega (arith, listed, client-size (some new)))
-        (λ k m j q. put-stands clientBytes (getElem? (a .facts .clients)) i (some new) clientsAt mostClients clientSize (client-size (some new))
-        (clients-are (Of.shows-in b a)) record-wrote k m j q ∙ ap (λ (c : Option Client). getD (clientBytes c) j 0) (sym (masked-at k)))
-        (λ h t. (subst⁻¹ (λ (n : ℕ). Heads (set (headBytes (a .facts)) 1 n) changed) (length-map as-masked (a .facts .clients)) h, t))
+        wrote-image (withClients (a .facts) masked) 9 (row masksBytes) (omega arith) (Of.shows-in b a) masks-wrote (omega arith)
+        (omega (arith, listed, masks-size (some new)))
+        (λ k m j q. put-stands masksBytes (getElem? (a .facts .clients)) i (some new) masksAt mostClients masksSize (masks-size (some new))
+        (masks-are (Of.shows-in b a)) masks-wrote k m j q ∙ ap (λ (c : Option Client). getD (masksBytes c) j 0) (sym (masked-at k)))
+        (λ h t. (
+          subst⁻¹ (λ (n : ℕ). Heads (set (headBytes (a .facts)) headClients n) changed) (length-map as-masked (a .facts .clients)) h,
+          rows-kept t,
+        ))

@@ -1,9 +1,9 @@
 -- What the bytes of an accepted table say of its facts. Assumes nothing.
 use Rattle.facts.proofs.Words.{_≡_, refl, ap, sym, _∙_, subst, List, false, none, some, Option·some-injective, ℕ, _<_, _+_, arith, length, getElem?}
 use Rattle.facts.proofs.Words.{WellFormed}
-use Rattle.facts.specs.{Facts, Client, Range, _∈_, Managed, byte, Live, allLevels, mostSeats, mostSockets}
+use Rattle.facts.specs.{Facts, Client, Range, _∈_, Managed, byte, Live, allLevels, mostClients, mostSeats, mostSockets}
 use Rattle.layout.specs.{socketsIn, clientsIn, rangesIn, issuedIn, handleIn, clientIn, ioIn, upTo, marked, levelIn, rangeIn, factsIn, Accepted}
-use Rattle.layout.specs.{LiveIn, ManagedIn, IoUsed, rangeBase, rangeCount, cardsAt, tableSize}
+use Rattle.layout.specs.{LiveIn, ManagedIn, IoUsed, rangeBase, rangeCount, headSockets, headClients, headRanges, cardsAt, tableSize}
 use Rattle.layout.specs.Sound.{Sound}
 use Rattle.layout.proofs.Lists.{below-in, at-in, at-upTo, in-upTo, rising-before}
 use Rattle.layout.proofs.RoundTrip.{shown-back}
@@ -12,31 +12,33 @@ use Rattle.layout.proofs.Shows.{Shows, image-shows}
 use Rattle.layout.proofs.Sounds.{sound}
 
 module _ (b : List ℕ) (a : Accepted b) where
-  pub shows-in : Shows (a .facts) b
-  shows-in = subst (Shows (a .facts)) (a .is) (image-shows (a .facts))
+  pub shows-in : Shows mostClients tableSize (a .facts) b
+  shows-in = subst (Shows mostClients tableSize (a .facts)) (a .is) (image-shows mostClients tableSize (a .facts) (omega arith))
 
   -- what is read off the bytes is what they say
   pub facts-in : a .facts ≡ factsIn b
-  facts-in = sym (shown-back (a .facts) (a .formed) shows-in)
+  facts-in = sym (shown-back (a .facts) (a .formed) (a .formed .clients-most) (omega arith) shows-in)
 
   pub sound-in : Sound b
-  sound-in = sound b (subst WellFormed facts-in (a .formed)) (subst (λ (F : Facts). Shows F b) facts-in shows-in)
+  sound-in =
+      let formed = subst WellFormed facts-in (a .formed) in
+      sound (omega arith) (formed .clients-most) formed (subst (λ (F : Facts). Shows mostClients tableSize F b) facts-in shows-in)
 
   -- the head
   pub size-in : length b ≡ tableSize
   size-in = shows-in .size
 
   pub sockets-in : socketsIn b ≡ a .facts .sockets
-  sockets-in = shows-in .heads 0 (omega arith)
+  sockets-in = shows-in .heads headSockets (omega arith)
 
   pub clients-in : clientsIn b ≡ length (a .facts .clients)
-  clients-in = shows-in .heads 1 (omega arith)
+  clients-in = shows-in .heads headClients (omega arith)
 
   pub ranges-in : rangesIn b ≡ length (a .facts .ranges)
-  ranges-in = shows-in .heads 2 (omega arith)
+  ranges-in = shows-in .heads headRanges (omega arith)
 
   pub issued-in : issuedIn b ≡ a .facts .issued
-  issued-in = omega (arith, shows-in .heads 3 (omega arith), shows-in .heads 4 (omega arith))
+  issued-in = omega (arith, shows-in .heads 4 (omega arith), shows-in .heads 5 (omega arith))
 
   -- the ith client
   pub client-at : (i : ℕ) → i < clientsIn b → getElem? (a .facts .clients) i ≡ some (clientIn b i)
@@ -67,10 +69,10 @@ module _ (b : List ℕ) (a : Accepted b) where
 
   -- a seat's I/O grant is the one that its record says, or none
   pub io-said : (s : ℕ) → s < mostSeats → IoUsed b s → a .facts .io s ≡ some (ioIn b s)
-  io-said s l u = ap (λ (F : Facts). F .io s) facts-in ∙ io-here b s l u
+  io-said s l u = ap (λ (F : Facts). F .io s) facts-in ∙ io-here b s (omega arith) u
 
   pub no-io-said : (s : ℕ) → s < mostSeats → (IoUsed b s → ⊥) → a .facts .io s ≡ none
-  no-io-said s l d = ap (λ (F : Facts). F .io s) facts-in ∙ no-io-here b s l d
+  no-io-said s l d = ap (λ (F : Facts). F .io s) facts-in ∙ no-io-here b s (omega arith) d
 
   -- a card is present as its byte says
   pub card-said : (s : ℕ) → s < mostSockets → a .facts .card s ≡ marked (byte b (cardsAt + s))

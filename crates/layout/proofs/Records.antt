@@ -51,20 +51,23 @@ module _ {A : Type 0} (bytes : Option A → List ℕ) (first k n : ℕ) (zero-no
 
   module _ (xs ys : List A) (b b′ : List ℕ) (m : ℕ) (x : A) (is : Records xs b)
       (before : (p : ℕ) → first ≤ p → p < place m → byte b′ p ≡ byte b p) where
-    -- the mth taken out
-    pub records-fewer : More ys xs m x → length xs ≤ n → ((p : ℕ) → place m ≤ p → p + k < place n → byte b′ p ≡ byte b (p + k))
-        → ((p : ℕ) → place n ≤ p + k → p < place n → byte b′ p ≡ 0)
+    -- the mth taken out of the first z, among which are all facts
+    pub records-fewer : More ys xs m x → (z : ℕ) → length xs ≤ z → z ≤ n → ((p : ℕ) → place m ≤ p → p + k < place z → byte b′ p ≡ byte b (p + k))
+        → ((p : ℕ) → place z ≤ p + k → p < place z → byte b′ p ≡ 0)
+        → ((p : ℕ) → place z ≤ p → byte b′ p ≡ byte b p)
         → Records ys b′
-    records-fewer more most moved last i l j h = below-or-above (decLt i m) (decLt (suc i) n)
+    records-fewer more z all most moved last past i l j h = in-turn (decLt i m) (decLt (suc i) z) (decLt i z)
       where
-        below-or-above : Dec (i < m) → Dec (suc i < n) → byte b′ (place i + j) ≡ getD (bytes (getElem? ys i)) j 0
-        below-or-above (yes y) d =
-            before (place i + j) (omega arith) (ahead y h) ∙ is i l j h ∙ byte-of (more .ahead i y) j
-        below-or-above (no y) (yes z) =
-            moved (place i + j) (omega (arith, places m i (omega arith))) (omega (arith, ahead z h, next i)) ∙ ap (byte b) (omega (arith, next i))
-            ∙ is (suc i) z j h ∙ byte-of (more .behind i (omega arith)) j
-        below-or-above (no y) (no z) =
-            last (place i + j) (omega (arith, next i, places n (suc i) (omega arith))) (ahead l h)
+        in-turn : Dec (i < m) → Dec (suc i < z) → Dec (i < z) → byte b′ (place i + j) ≡ getD (bytes (getElem? ys i)) j 0
+        in-turn (yes y) d e = before (place i + j) (omega arith) (ahead y h) ∙ is i l j h ∙ byte-of (more .ahead i y) j
+        in-turn (no y) (yes d) e =
+            moved (place i + j) (omega (arith, places m i (omega arith))) (omega (arith, ahead d h, next i)) ∙ ap (byte b) (omega (arith, next i))
+            ∙ is (suc i) (omega (arith, d)) j h ∙ byte-of (more .behind i (omega arith)) j
+        in-turn (no y) (no d) (yes e) =
+            last (place i + j) (omega (arith, next i, places z (suc i) (omega arith))) (ahead e h)
+            ∙ sym (past-zero ys i j (omega (arith, more .longer)))
+        in-turn (no y) (no d) (no e) =
+            past (place i + j) (omega (arith, places z i (omega arith))) ∙ is i l j h ∙ past-zero xs i j (omega arith)
             ∙ sym (past-zero ys i j (omega (arith, more .longer)))
 
     -- x put in as the mth

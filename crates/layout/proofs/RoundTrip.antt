@@ -1,18 +1,20 @@
 -- What is read off the image of a well-formed set is that set, so no two sets share an image. Assumes nothing.
-use Rattle.facts.proofs.Words.{_≡_, refl, ap, ap₂, sym, _∙_, subst, by-cases, List, _++_, Bool, true, false, Option, none, some, ℕ, _+_, _*_, _-_}
-use Rattle.facts.proofs.Words.{_/_, _%_, _≤_, _<_, add-assoc, decLt, arith, length, getD, getElem?, WellFormed}
+use Rattle.facts.proofs.Words.{_≡_, refl, ap, ap₂, sym, _∙_, subst, List, Bool, true, false, Option, none, some, ℕ, _+_, _*_, _-_}
+use Rattle.facts.proofs.Words.{_/_, _%_, _≤_, _<_, add-assoc, arith, length, getD, getElem?, WellFormed}
 use Rattle.layout.proofs.Image
 use Rattle.facts.specs.{Manner, Exclusive, TimeMultiplexed, DynamicLevel, DynamicPulse, Facts, Client, Range, IoGrant, IrqGrant, byte, word, Live}
-use Rattle.facts.specs.{allEvents, allLevels, mostSeats, mostSockets}
+use Rattle.facts.specs.{allLevels, mostSockets, mostClients}
 use Rattle.facts.proofs.{rising-over}
-use Rattle.layout.specs.{each, mark, two, maskBytes, clientBytes, levelBytes, rangeBytes, ioBytes, irqBytes, mannerByte, image, marked, maskOf}
-use Rattle.layout.specs.{maskPlace, mannerOf, clientPlace, rangePlace, levelPlace, ioPlace, irqPlace, clientIn, rangeIn, levelIn, ioIn, irqIn}
-use Rattle.layout.specs.{ioHere, irqHere, factsIn, upTo, cardsAt, clientSize, ioSize, iosAt, irqSize, irqsAt, levelSize, maskSize, rangeSize}
-use Rattle.layout.specs.{below, clientMasksAt}
-use Rattle.layout.proofs.Parts.{skip, each-at}
+use Rattle.layout.specs.{mark, maskBytes, handleBytes, attributesBytes, eventsBytes, masksBytes, levelBytes, rangeBytes, ioBytes, irqBytes}
+use Rattle.layout.specs.{mannerByte, image, marked, maskOf, masksPlace, maskPlace, mannerOf, handlePlace, attributesPlace, eventsPlace, rangePlace}
+use Rattle.layout.specs.{levelPlace, ioPlace, irqPlace, clientIn, rangeIn, levelIn, ioIn, irqIn, ioHere, irqHere, factsIn, upTo, below, clientRoom}
+use Rattle.layout.specs.{headSockets, headClients, headRanges, headIssued, seatRoom, cardsAt, attributesSize, eventsSize, handleSize}
+use Rattle.layout.specs.{ioSize, iosAt, irqSize, irqsAt, levelSize, maskSize, masksSize, rangeSize, tableSize}
+use Rattle.layout.proofs.Parts.{each-at, zeros}
 use Rattle.layout.proofs.Lists.{below-back, absent, at-in, listed}
 use Rattle.layout.proofs.Grants.{zero-test, positive-test, grants-back}
-use Rattle.layout.proofs.Shows.{Shows, image-shows, card-at, levels-are, ios-are, irqs-are, clients-are, ranges-are}
+use Rattle.layout.proofs.Shows.{Shows, image-shows, card-at, levels-are, ranges-are, handles-are, attributes-are, events-are, ios-are, irqs-are}
+use Rattle.layout.proofs.Shows.{masks-are}
 
 -- numbers of two and four bytes
 pub two-back : (n : ℕ) → n % 256 + 256 * (n / 256) ≡ n
@@ -33,52 +35,43 @@ manner-back DynamicPulse = refl
 
 -- a mask's two bytes
 mask-back : (o : Option ℕ) (w : ℕ) → w ≡ getD (maskBytes o) 0 0 + 256 * getD (maskBytes o) 1 0 → maskOf w ≡ o
-mask-back none w e = zero-test w none (some (w - allEvents)) e
+mask-back none w e = zero-test w none (some (w - 1)) e
 mask-back (some m) w e =
-    positive-test w none (some (w - allEvents)) (omega (arith, two-back (allEvents + m)))
-    ∙ ap {B = Option ℕ} some (omega (arith, two-back (allEvents + m)))
+    positive-test w none (some (w - 1)) (omega (arith, two-back (m + 1))) ∙ ap {B = Option ℕ} some (omega (arith, two-back (m + 1)))
 
--- the bytes of a client's masks
-pub mask-bytes : (c : Client) (s r : ℕ) → s < mostSeats → r < 2
-    → getD (clientBytes (some c)) (6 + (s * maskSize + r)) 0 ≡ getD (maskBytes (c .mask s)) r 0
-mask-bytes c s r h l =
-    skip (two (c .handle) ++ two (c .attributes) ++ two (c .events)) (each mostSeats (λ s. maskBytes (c .mask s))) 6 (s * maskSize + r) refl
-    ∙ each-at maskSize (λ s. maskBytes (c .mask s)) (λ s. Image.mask-size (c .mask s)) mostSeats s r h l
-
--- a client's record is six bytes and its masks
+-- a client's masks stand one after the other, and the bytes of all are theirs
 module _ (b : List ℕ) (p : ℕ) (c : Client) where
-  pub masks-stand : ((j : ℕ) → j < clientSize → byte b (p + j) ≡ getD (clientBytes (some c)) j 0)
-      → Image.Stands b (p + clientMasksAt) (Image.part mostSeats maskSize (λ s. maskBytes (c .mask s)))
-  masks-stand at s l r m = ap (byte b) (omega arith) ∙ at (6 + (s * maskSize + r)) (omega arith) ∙ mask-bytes c s r l m
+  abbrev pub MasksStand : Type 0
+  MasksStand = Image.Stands b p (Image.part seatRoom maskSize (λ s. maskBytes (c .mask s)))
 
-  pub client-stands : ((j : ℕ) → j < 6 → byte b (p + j) ≡ getD (clientBytes (some c)) j 0)
-      → Image.Stands b (p + clientMasksAt) (Image.part mostSeats maskSize (λ s. maskBytes (c .mask s)))
-      → (j : ℕ) → j < clientSize → byte b (p + j) ≡ getD (clientBytes (some c)) j 0
-  client-stands six masks j m =
-      by-cases (decLt j 6) (six j)
-      (λ h. let t = (j - 6) / 2 in
-      let r = (j - 6) % 2 in
-      let place : j ≡ 6 + (t * maskSize + r) = omega arith in
-      ap (byte b) (omega arith) ∙ masks t (omega arith) r (omega arith)
-      ∙ sym (ap (λ (k : ℕ). getD (clientBytes (some c)) k 0) place ∙ mask-bytes c t r (omega arith) (omega arith)))
+  of-mask : (s r : ℕ) → s < seatRoom → r < maskSize → getD (masksBytes (some c)) (s * maskSize + r) 0 ≡ getD (maskBytes (c .mask s)) r 0
+  of-mask s r l m = each-at maskSize (λ s. maskBytes (c .mask s)) (λ s. Image.mask-size (c .mask s)) seatRoom s r l m
 
-module _ (b : List ℕ) (i : ℕ) (c : Client) (at : (j : ℕ) → j < clientSize → byte b (clientPlace i + j) ≡ getD (clientBytes (some c)) j 0) where
-  pub mask-word : (s : ℕ) → s < mostSeats → word b (maskPlace i s) ≡ getD (maskBytes (c .mask s)) 0 0 + 256 * getD (maskBytes (c .mask s)) 1 0
-  mask-word s h = Image.first-word b (maskPlace i s) maskSize (maskBytes (c .mask s)) (masks-stand b (clientPlace i) c at s h) (omega arith)
+  pub masks-stand : ((j : ℕ) → j < masksSize → byte b (p + j) ≡ getD (masksBytes (some c)) j 0) → MasksStand
+  masks-stand at s l r m = ap (byte b) (omega arith) ∙ at (s * maskSize + r) (omega arith) ∙ of-mask s r l m
 
-  -- a client's record is the client, where it has no mask past the seats
-  client-back : ((s : ℕ) → mostSeats ≤ s → c .mask s ≡ none) → clientIn b i ≡ c
-  unfolding clientIn
-  client-back past =
-      let words = Image.word-of b (clientPlace i) clientSize (clientBytes (some c)) at in
-      let masks = below-back mostSeats none (λ s. maskOf (word b (maskPlace i s))) (c .mask)
-      (λ s l. mask-back (c .mask s) (word b (maskPlace i s)) (mask-word s l)) (λ s l. sym (past s l)) in
-      λ k. record {
-        handle = (Image.first-word b (clientPlace i) clientSize (clientBytes (some c)) at (omega arith) ∙ two-back (c .handle)) k;
-        attributes = (words 2 (omega arith) ∙ two-back (c .attributes)) k;
-        events = (words 4 (omega arith) ∙ two-back (c .events)) k;
-        mask = masks k;
-      }
+  pub masks-join : MasksStand → (j : ℕ) → j < masksSize → byte b (p + j) ≡ getD (masksBytes (some c)) j 0
+  masks-join stand j m =
+      let s = j / 2 in
+      let r = j % 2 in
+      let place : j ≡ s * maskSize + r = omega arith in
+      ap (byte b) (omega arith) ∙ stand s (omega arith) r (omega arith)
+      ∙ sym (ap (λ (k : ℕ). getD (masksBytes (some c)) k 0) place ∙ of-mask s r (omega arith) (omega arith))
+
+-- those of a client without masks are zero
+pub masks-zero : (c : Client) → ((s : ℕ) → c .mask s ≡ none) → (j : ℕ) → j < masksSize → getD (masksBytes (some c)) j 0 ≡ 0
+masks-zero c empty j m =
+    let s = j / 2 in
+    let r = j % 2 in
+    let place : j ≡ s * maskSize + r = omega arith in
+    ap (λ (k : ℕ). getD (masksBytes (some c)) k 0) place
+    ∙ each-at maskSize (λ s. maskBytes (c .mask s)) (λ s. Image.mask-size (c .mask s)) seatRoom s r (omega arith) (omega arith)
+    ∙ ap (λ (o : Option ℕ). getD (maskBytes o) r 0) (empty s)
+    ∙ zeros maskSize r
+
+pub mask-word : (b : List ℕ) (i : ℕ) (c : Client) → MasksStand b (masksPlace i) c → (s : ℕ) → s < seatRoom
+    → word b (maskPlace i s) ≡ getD (maskBytes (c .mask s)) 0 0 + 256 * getD (maskBytes (c .mask s)) 1 0
+mask-word b i c stand s h = Image.first-word b (maskPlace i s) maskSize (maskBytes (c .mask s)) (stand s h) (omega arith)
 
 -- a range's record is the range
 range-back : (b : List ℕ) (i : ℕ) (r : Range) → ((j : ℕ) → j < rangeSize → byte b (rangePlace i + j) ≡ getD (rangeBytes (some r)) j 0)
@@ -122,8 +115,8 @@ unmarked : (t : Bool) → (t ≡ true → ⊥) → false ≡ t
 unmarked true h = absurd (h refl)
 unmarked false h = refl
 
--- bytes that show a well-formed set say it
-module _ (F : Facts) (w : WellFormed F) {b : List ℕ} (v : Shows F b) where
+-- bytes that show a well-formed set say it, where the clients have room
+module _ {n size : ℕ} (F : Facts) (w : WellFormed F) (few : length (F .clients) ≤ n) (room : n ≤ clientRoom) {b : List ℕ} (v : Shows n size F b) where
   cards-back : below mostSockets false (λ s. marked (byte b (cardsAt + s))) ≡ F .card
   cards-back =
       below-back mostSockets false (λ s. marked (byte b (cardsAt + s))) (F .card) (λ s l. ap marked (card-at v s l) ∙ mark-back (F .card s))
@@ -146,24 +139,37 @@ module _ (F : Facts) (w : WellFormed F) {b : List ℕ} (v : Shows F b) where
         reserved = unmarked (F .level l .reserved) (λ e. omega (arith, w .levels l (w .reserved l e))) k;
       })
 
-  ios-back : below mostSeats none (ioHere b) ≡ F .io
+  ios-back : below seatRoom none (ioHere b) ≡ F .io
   unfolding ioHere ioIn
   ios-back =
       grants-back ioBytes iosAt ioSize (omega arith) refl b (ioIn b) (λ g. g .client) (λ s. refl) (F .io) (ios-are v)
       (λ s g e. let f = w .ios s g e in (omega (arith, f .socket, w .sockets-most), live-positive w (f .client))) (io-whole b)
 
-  irqs-back : below mostSeats none (irqHere b) ≡ F .irq
+  irqs-back : below seatRoom none (irqHere b) ≡ F .irq
   unfolding irqHere irqIn
   irqs-back =
       grants-back irqBytes irqsAt irqSize (omega arith) refl b (irqIn b) (λ g. g .client) (λ s. refl) (F .irq) (irqs-are v)
       (λ s g e. let f = w .irqs s g e in (omega (arith, f .socket, w .sockets-most), live-positive w (f .client))) (irq-whole b)
 
-  -- the ith client's record is the ith client, and the ith range's the ith range
+  -- the ith client is what it is said by, and the ith range what its record says
   client-is : (i : ℕ) (c : Client) → getElem? (F .clients) i ≡ some c → i < length (F .clients) → clientIn b i ≡ c
+  unfolding clientIn
   client-is i c e l =
-      client-back b i c
-      (λ j h. clients-are v i (omega (arith, w .clients-most)) j h ∙ ap (λ (o : Option Client). getD (clientBytes o) j 0) e)
-      (λ s h. sym (absent (c .mask s) (λ m q. omega (arith, w .clients c (at-in (F .clients) i e) .mask s m q .0, w .sockets-most))))
+      let bytes : (f : Option Client → List ℕ) (j : ℕ) → getD (f (getElem? (F .clients) i)) j 0 ≡ getD (f (some c)) j 0 =
+      (λ f j. ap (λ (o : Option Client). getD (f o) j 0) e) in
+      let masks = masks-stand b (masksPlace i) c (λ j h. masks-are v i (omega arith) j h ∙ bytes masksBytes j) in
+      let none-past : (s : ℕ) → seatRoom ≤ s → none ≡ c .mask s = (λ s h. absent (c .mask s)
+      (λ m q. omega (arith, w .clients c (at-in (F .clients) i e) .mask s m q .0, w .sockets-most))) in
+      λ k. record {
+        handle = (Image.first-word b (handlePlace i) handleSize (handleBytes (some c))
+            (λ j h. handles-are v i (omega arith) j h ∙ bytes handleBytes j) (omega arith) ∙ two-back (c .handle)) k;
+        attributes = Image.first-byte b (attributesPlace i) attributesSize (attributesBytes (some c))
+            (λ j h. attributes-are v i (omega arith) j h ∙ bytes attributesBytes j) (omega arith) k;
+        events = (Image.first-word b (eventsPlace i) eventsSize (eventsBytes (some c))
+            (λ j h. events-are v i (omega arith) j h ∙ bytes eventsBytes j) (omega arith) ∙ two-back (c .events)) k;
+        mask = below-back seatRoom none (λ s. maskOf (word b (maskPlace i s))) (c .mask)
+            (λ s h. mask-back (c .mask s) (word b (maskPlace i s)) (mask-word b i c masks s h)) none-past k;
+      }
 
   range-is : (i : ℕ) (r : Range) → getElem? (F .ranges) i ≡ some r → i < length (F .ranges) → rangeIn b i ≡ r
   range-is i r e l =
@@ -173,21 +179,21 @@ module _ (F : Facts) (w : WellFormed F) {b : List ℕ} (v : Shows F b) where
   unfolding factsIn
   shown-back =
       let head = v .heads in
-      let issued : word b 3 ≡ F .issued = omega (arith, head 3 (omega arith), head 4 (omega arith)) in
+      let issued : word b headIssued ≡ F .issued = omega (arith, head 4 (omega arith), head 5 (omega arith)) in
       λ k. record {
-        sockets = head 0 (omega arith) k;
+        sockets = head headSockets (omega arith) k;
         card = cards-back k;
         issued = issued k;
-        clients = (ap (λ (n : ℕ). upTo n (clientIn b)) (head 1 (omega arith)) ∙ listed (F .clients) (clientIn b) client-is) k;
+        clients = (ap (λ (n : ℕ). upTo n (clientIn b)) (head headClients (omega arith)) ∙ listed (F .clients) (clientIn b) client-is) k;
         level = levels-back k;
-        ranges = (ap (λ (n : ℕ). upTo n (rangeIn b)) (head 2 (omega arith)) ∙ listed (F .ranges) (rangeIn b) range-is) k;
+        ranges = (ap (λ (n : ℕ). upTo n (rangeIn b)) (head headRanges (omega arith)) ∙ listed (F .ranges) (rangeIn b) range-is) k;
         io = ios-back k;
         irq = irqs-back k;
       }
 
 -- what is read off the image of a well-formed set is that set
 pub read-back : (F : Facts) (w : WellFormed F) → factsIn (image F) ≡ F
-read-back F w = shown-back F w (image-shows F)
+read-back F w = shown-back F w (w .clients-most) (omega arith) (image-shows mostClients tableSize F (omega arith))
 
 -- no two well-formed sets share an image
 pub image-injective : (F G : Facts) → WellFormed F → WellFormed G → image F ≡ image G → F ≡ G

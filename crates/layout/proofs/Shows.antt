@@ -1,61 +1,97 @@
 -- Bytes that show a set of facts, part by part, are its image; and what is shown by bytes that are changed in one part. Assumes nothing.
 use Rattle.facts.proofs.Words.{_≡_, _≢_, subst⁻¹, set, ℕ-discrete, getD-set-same, getD-set-other, refl, ap, sym, _∙_, subst, _⊎_, inl, inr, ⊎-elim}
-use Rattle.facts.proofs.Words.{by-cases, List, [], _∷_, ℕ, zero, suc, _+_, _*_, _/_, _%_, _≤_, _<_, decLt, arith, length, getD, getElem?, ext-getD}
-use Rattle.facts.specs.{Facts, put, byte, allLevels, mostClients, mostRanges, mostSockets, mostSeats}
+use Rattle.facts.proofs.Words.{by-cases, List, [], _∷_, ℕ, zero, suc, _+_, _*_, _-_, _/_, _%_, _≤_, _<_, decLt, arith, length, getD, getElem?, ext-getD}
+use Rattle.facts.specs.{Facts, put, byte, allLevels, mostRanges, mostSockets}
 use Rattle.facts.proofs.Sets.{put-all}
-use Rattle.layout.specs.{mark, clientBytes, levelBytes, rangeBytes, ioBytes, irqBytes, head, image, cardsAt, clientSize, clientsAt, ioSize}
-use Rattle.layout.specs.{iosAt, irqSize, irqsAt, levelSize, levelsAt, rangeSize, rangesAt, restAt, tableSize, Zero}
+use Rattle.layout.specs.{mark, handleBytes, attributesBytes, eventsBytes, masksBytes, levelBytes, rangeBytes, ioBytes, irqBytes, head, imageOf}
+use Rattle.layout.specs.{layoutMark, clientRoom, handleRoom, seatRoom, headSize, cardsAt, levelsAt, levelSize, rangesAt, rangeSize, handlesAt}
+use Rattle.layout.specs.{handleSize, attributesAt, attributesSize, eventsAt, eventsSize, iosAt, ioSize, irqsAt, irqSize, spareAt, masksAt, masksSize}
+use Rattle.layout.specs.{restAt, Zero}
 use Rattle.layout.proofs.Parts.{below-at, located, record-below, record-apart}
-use Rattle.layout.proofs.Image.{Part, part, parts, end, Stands, Shown, image-length, image-shown}
+use Rattle.layout.proofs.Image.{Part, part, parts, end, ends, Stands, Shown, image-length, image-shown}
 use Rattle.layout.proofs.Entered.{Wrote}
 
--- the five bytes of the head
+-- the bytes of the head
 abbrev pub headBytes : Facts → List ℕ
-headBytes F = F .sockets ∷ length (F .clients) ∷ length (F .ranges) ∷ F .issued % 256 ∷ F .issued / 256 ∷ []
+headBytes F =
+    layoutMark ∷ F .sockets ∷ length (F .clients) ∷ length (F .ranges) ∷ F .issued % 256 ∷ F .issued / 256 ∷ []
 
 abbrev pub Heads : List ℕ → List ℕ → Type 0
-Heads xs b = (j : ℕ) → j < 5 → byte b j ≡ getD xs j 0
+Heads xs b = (j : ℕ) → j < headSize → byte b j ≡ getD xs j 0
 
-pub record Shows (F : Facts) (b : List ℕ) : Type 0 where
-  pub size : length b ≡ tableSize
+-- in a table of so many bytes that has room for so many clients
+pub record Shows (n bytes : ℕ) (F : Facts) (b : List ℕ) : Type 0 where
+  pub size : length b ≡ bytes
   pub heads : Heads (headBytes F) b
-  pub shown : Shown b cardsAt (parts F)
+  pub shown : Shown bytes b cardsAt (parts n F)
 
 -- the image shows its set
-pub image-shows : (F : Facts) → Shows F (image F)
-unfolding image head
-image-shows F =
+pub image-shows : (n size : ℕ) (F : Facts) → restAt n ≤ size → Shows n size F (imageOf n size F)
+unfolding imageOf head
+image-shows n size F room =
     record {
-      size = image-length F;
-      heads = below-at 5 (λ j. byte (image F) j ≡ getD (headBytes F) j 0) (((((tt, refl), refl), refl), refl), refl);
-      shown = image-shown F;
+      size = image-length n size F room;
+      heads = below-at headSize (λ j. byte (imageOf n size F) j ≡ getD (headBytes F) j 0) ((((((tt, refl), refl), refl), refl), refl), refl);
+      shown = image-shown n size F;
     }
 
+-- the cth of the parts stands in its place
+abbrev pub Standing : List ℕ → ℕ → ℕ → List Part → Type 0
+Standing b c at [] = Unit {0}
+Standing b zero at (p ∷ ps) = Stands b at p
+Standing b (suc c) at (p ∷ ps) = Standing b c (end at p) ps
+
+pub shown-at : (size : ℕ) (b : List ℕ) (c at : ℕ) (ps : List Part) → Shown size b at ps → Standing b c at ps
+shown-at size b c at [] s = tt
+shown-at size b zero at (p ∷ ps) s = s .0
+shown-at size b (suc c) at (p ∷ ps) s = shown-at size b c (end at p) ps (s .1)
+
+-- and zero bytes follow them all
+pub shown-past : (size : ℕ) (b : List ℕ) (at : ℕ) (ps : List Part) → Shown size b at ps → Zero b (ends at ps) size
+shown-past size b at [] s = s
+shown-past size b at (p ∷ ps) s = shown-past size b (end at p) ps (s .1)
+
 -- what each part shows
-module _ {F : Facts} {b : List ℕ} (w : Shows F b) where
+module _ {n size : ℕ} {F : Facts} {b : List ℕ} (w : Shows n size F b) where
+  shows : (c : ℕ) → Standing b c cardsAt (parts n F)
+  shows c = shown-at size b c cardsAt (parts n F) (w .shown)
+
   pub card-at : (s : ℕ) → s < mostSockets → byte b (cardsAt + s) ≡ mark (F .card s)
-  card-at s l = ap (byte b) (omega arith) ∙ w .shown .0 s l 0 (omega arith)
+  card-at s l = ap (byte b) (omega arith) ∙ shows 0 s l 0 (omega arith)
 
   pub levels-are : Stands b levelsAt (part allLevels levelSize (λ l. levelBytes (F .level l)))
-  levels-are = w .shown .1 .0
-
-  pub ios-are : Stands b iosAt (part mostSeats ioSize (λ s. ioBytes (F .io s)))
-  ios-are = w .shown .1 .1 .0
-
-  pub irqs-are : Stands b irqsAt (part mostSeats irqSize (λ s. irqBytes (F .irq s)))
-  irqs-are = w .shown .1 .1 .1 .0
-
-  pub clients-are : Stands b clientsAt (part mostClients clientSize (λ i. clientBytes (getElem? (F .clients) i)))
-  clients-are = w .shown .1 .1 .1 .1 .0
+  levels-are = shows 1
 
   pub ranges-are : Stands b rangesAt (part mostRanges rangeSize (λ i. rangeBytes (getElem? (F .ranges) i)))
-  ranges-are = w .shown .1 .1 .1 .1 .1 .0
+  ranges-are = shows 2
 
-  pub rest-is : Zero b restAt tableSize
-  rest-is = w .shown .1 .1 .1 .1 .1 .1
+  pub handles-are : Stands b handlesAt (part handleRoom handleSize (λ i. handleBytes (getElem? (F .clients) i)))
+  handles-are = shows 3
+
+  pub attributes-are : Stands b attributesAt (part clientRoom attributesSize (λ i. attributesBytes (getElem? (F .clients) i)))
+  attributes-are = shows 4
+
+  pub events-are : Stands b eventsAt (part clientRoom eventsSize (λ i. eventsBytes (getElem? (F .clients) i)))
+  events-are = shows 5
+
+  pub ios-are : Stands b iosAt (part seatRoom ioSize (λ s. ioBytes (F .io s)))
+  ios-are = shows 6
+
+  pub irqs-are : Stands b irqsAt (part seatRoom irqSize (λ s. irqBytes (F .irq s)))
+  irqs-are = shows 7
+
+  pub spare-is : Zero b spareAt masksAt
+  spare-is q l m = ap (byte b) (omega arith) ∙ shows 8 (q - spareAt) (omega arith) 0 (omega arith)
+
+  pub masks-are : Stands b masksAt (part n masksSize (λ i. masksBytes (getElem? (F .clients) i)))
+  masks-are = shows 9
+
+  pub rest-is : Zero b (restAt n) size
+  rest-is = shown-past size b cardsAt (parts n F) (w .shown)
 
 -- bytes that show the same parts are the same
-shown-same : (b b′ : List ℕ) (at : ℕ) (ps : List Part) → Shown b at ps → Shown b′ at ps → (q : ℕ) → at ≤ q → q < tableSize → byte b q ≡ byte b′ q
+shown-same : {size : ℕ} (b b′ : List ℕ) (at : ℕ) (ps : List Part) → Shown size b at ps → Shown size b′ at ps → (q : ℕ) → at ≤ q → q < size
+    → byte b q ≡ byte b′ q
 shown-same b b′ at [] s t q l m = s q l m ∙ sym (t q l m)
 shown-same b b′ at (p ∷ ps) s t q l m =
     by-cases (decLt q (end at p))
@@ -64,12 +100,12 @@ shown-same b b′ at (p ∷ ps) s t q l m =
     (λ h. shown-same b b′ (end at p) ps (s .1) (t .1) q (omega arith) m)
 
 -- so they are the image
-pub shows-image : (F : Facts) (b : List ℕ) → Shows F b → image F ≡ b
-shows-image F b w =
-    let v = image-shows F in
-    ext-getD 0 (image F) b (v .size ∙ sym (w .size))
-    (λ q l. by-cases (decLt q 5) (λ h. v .heads q h ∙ sym (w .heads q h))
-    (λ h. shown-same (image F) b cardsAt (parts F) (v .shown) (w .shown) q (omega arith) (subst (λ (n : ℕ). q < n) (v .size) l)))
+pub shows-image : {n size : ℕ} (F : Facts) (b : List ℕ) → restAt n ≤ size → Shows n size F b → imageOf n size F ≡ b
+shows-image {n} {size} F b room w =
+    let v = image-shows n size F room in
+    ext-getD 0 (imageOf n size F) b (v .size ∙ sym (w .size))
+    (λ q l. by-cases (decLt q headSize) (λ h. v .heads q h ∙ sym (w .heads q h))
+    (λ h. shown-same (imageOf n size F) b cardsAt (parts n F) (v .shown) (w .shown) q (omega arith) (subst (λ (k : ℕ). q < k) (v .size) l)))
 
 -- where the cth of the parts begins; the parts, with other records in the cth; and that these stand there
 abbrev pub beginning : ℕ → ℕ → List Part → ℕ
@@ -92,18 +128,18 @@ begins-past zero at ps = omega arith
 begins-past (suc c) at [] = omega arith
 begins-past (suc c) at (p ∷ ps) = omega (arith, begins-past c (end at p) ps)
 
-module _ (b b′ : List ℕ) where
+module _ (size : ℕ) (b b′ : List ℕ) where
   -- parts are shown as before where no byte from their place on is changed
-  shown-kept : (at : ℕ) (ps : List Part) → Shown b at ps → ((q : ℕ) → at ≤ q → byte b′ q ≡ byte b q) → Shown b′ at ps
+  pub shown-kept : (at : ℕ) (ps : List Part) → Shown size b at ps → ((q : ℕ) → at ≤ q → byte b′ q ≡ byte b q) → Shown size b′ at ps
   shown-kept at [] s kept = λ q l m. kept q l ∙ s q l m
   shown-kept at (p ∷ ps) s kept =
       ((λ i l j m. kept (at + i * p .size + j) (omega arith) ∙ s .0 i l j m), shown-kept (end at p) ps (s .1) (λ q l. kept q (omega arith)))
 
   -- other records in the cth part, where no byte outside it is changed
-  pub shown-changed : (c : ℕ) (f : ℕ → List ℕ) (at : ℕ) (ps : List Part) → Shown b at ps
+  pub shown-changed : (c : ℕ) (f : ℕ → List ℕ) (at : ℕ) (ps : List Part) → Shown size b at ps
       → ((q : ℕ) → at ≤ q → (q < beginning c at ps) ⊎ (beginning (suc c) at ps ≤ q) → byte b′ q ≡ byte b q)
       → Changed b′ c f at ps
-      → Shown b′ at (changing c f ps)
+      → Shown size b′ at (changing c f ps)
   shown-changed c f at [] s kept new = shown-kept at [] s (λ q l. kept q l (inr l))
   shown-changed zero f at (p ∷ ps) s kept new = (new, shown-kept (end at p) ps (s .1) (λ q l. kept q (omega arith) (inr l)))
   shown-changed (suc c) f at (p ∷ ps) s kept new = (
@@ -111,34 +147,54 @@ module _ (b b′ : List ℕ) where
     shown-changed c f (end at p) ps (s .1) (λ q l. kept q (omega arith)) new,
   )
 
--- only bytes of the cth part are written, which has other records then: the table is the image of the facts G that have those
-pub wrote-image : {F : Facts} {b b′ : List ℕ} {p : ℕ} {x : List ℕ} (G : Facts) (c : ℕ) (f : ℕ → List ℕ) → Shows F b → Wrote b p x b′
-    → beginning c cardsAt (parts F) ≤ p
-    → p + length x ≤ beginning (suc c) cardsAt (parts F)
-    → Changed b′ c f cardsAt (parts F)
-    → (Heads (headBytes F) b′ → Shown b′ cardsAt (changing c f (parts F)) → Heads (headBytes G) b′ × Shown b′ cardsAt (parts G))
-    → image G ≡ b′
-wrote-image {F} {b} {b′} G c f w wrote from to new so =
-    let r = so (λ j l. wrote .other j (inl (omega (arith, begins-past c cardsAt (parts F)))) ∙ w .heads j l)
-    (shown-changed b b′ c f cardsAt (parts F) (w .shown)
-    (λ q l. ⊎-elim (λ m. wrote .other q (inl (omega arith))) (λ m. wrote .other q (inr (omega arith)))) new) in
-    shows-image G b′ (record { size = wrote .size ∙ w .size; heads = r .0; shown = r .1 })
+-- only bytes of the cth part are written, which has other records then
+pub wrote-shown : (size : ℕ) {b b′ : List ℕ} {p : ℕ} {x : List ℕ} (c : ℕ) (f : ℕ → List ℕ) (at : ℕ) (ps : List Part) → Shown size b at ps → Wrote b p x b′
+    → beginning c at ps ≤ p
+    → p + length x ≤ beginning (suc c) at ps
+    → Changed b′ c f at ps
+    → Shown size b′ at (changing c f ps)
+wrote-shown size {b} {b′} c f at ps shown wrote from to =
+    shown-changed size b b′ c f at ps shown
+    (λ q l. ⊎-elim (λ m. wrote .other q (inl (omega arith))) (λ m. wrote .other q (inr (omega arith))))
 
--- the cth part has other records, and the number at n in the head is v
-pub listed-image : {F : Facts} {b : List ℕ} (b′ : List ℕ) (G : Facts) (c n v : ℕ) (f : ℕ → List ℕ) → Shows F b → length b′ ≡ length b → n < 5
-    → byte b′ n ≡ v
-    → ((p : ℕ) → p ≢ n → (p < beginning c cardsAt (parts F)) ⊎ (beginning (suc c) cardsAt (parts F) ≤ p) → byte b′ p ≡ byte b p)
-    → Changed b′ c f cardsAt (parts F)
-    → (Heads (set (headBytes F) n v) b′ → Shown b′ cardsAt (changing c f (parts F)) → Heads (headBytes G) b′ × Shown b′ cardsAt (parts G))
-    → image G ≡ b′
-listed-image {F} {b} b′ G c n v f w size low number other new so =
-    let head = headBytes F in
-    let there = number ∙ sym (getD-set-same head n v 0 low) in
+-- and the table is the image of the facts G that have those records
+pub wrote-image : {n size : ℕ} {F : Facts} {b b′ : List ℕ} {p : ℕ} {x : List ℕ} (G : Facts) (c : ℕ) (f : ℕ → List ℕ) → restAt n ≤ size
+    → Shows n size F b
+    → Wrote b p x b′
+    → beginning c cardsAt (parts n F) ≤ p
+    → p + length x ≤ beginning (suc c) cardsAt (parts n F)
+    → Changed b′ c f cardsAt (parts n F)
+    → (Heads (headBytes F) b′ → Shown size b′ cardsAt (changing c f (parts n F)) → Heads (headBytes G) b′ × Shown size b′ cardsAt (parts n G))
+    → imageOf n size G ≡ b′
+wrote-image {n} {size} {F} {b} {b′} G c f room w wrote from to new so =
+    let r = so (λ j l. wrote .other j (inl (omega (arith, begins-past c cardsAt (parts n F)))) ∙ w .heads j l)
+    (wrote-shown size c f cardsAt (parts n F) (w .shown) wrote from to new) in
+    shows-image G b′ room (record { size = wrote .size ∙ w .size; heads = r .0; shown = r .1 })
+
+-- the number at i in the head is v
+pub head-set : (b b′ xs : List ℕ) (i v : ℕ) → Heads xs b → length xs ≡ headSize → i < headSize → byte b′ i ≡ v
+    → ((j : ℕ) → j < headSize → j ≢ i → byte b′ j ≡ byte b j)
+    → Heads (set xs i v) b′
+head-set b b′ xs i v heads long low number other j l =
+    let there = number ∙ sym (getD-set-same xs i v 0 (omega (arith, long))) in
+    by-cases (ℕ-discrete j i) (λ e. subst⁻¹ (λ (k : ℕ). byte b′ k ≡ getD (set xs i v) k 0) e there)
+    (λ d. other j l d ∙ heads j l ∙ sym (getD-set-other xs i j v 0 d))
+
+-- the cth part has other records, and the number at i in the head is v
+pub listed-image : {n size : ℕ} {F : Facts} {b : List ℕ} (b′ : List ℕ) (G : Facts) (c i v : ℕ) (f : ℕ → List ℕ) → restAt n ≤ size → Shows n size F b
+    → length b′ ≡ length b
+    → i < headSize
+    → byte b′ i ≡ v
+    → ((p : ℕ) → p ≢ i → (p < beginning c cardsAt (parts n F)) ⊎ (beginning (suc c) cardsAt (parts n F) ≤ p) → byte b′ p ≡ byte b p)
+    → Changed b′ c f cardsAt (parts n F)
+    → (Heads (set (headBytes F) i v) b′ → Shown size b′ cardsAt (changing c f (parts n F)) → Heads (headBytes G) b′ × Shown size b′ cardsAt (parts n G))
+    → imageOf n size G ≡ b′
+listed-image {n} {size} {F} {b} b′ G c i v f room w same low number other new so =
     let r = so
-    (λ j l. by-cases (ℕ-discrete j n) (λ e. subst⁻¹ (λ (i : ℕ). byte b′ i ≡ getD (set head n v) i 0) e there)
-    (λ d. other j d (inl (omega (arith, begins-past c cardsAt (parts F)))) ∙ w .heads j l ∙ sym (getD-set-other head n j v 0 d)))
-    (shown-changed b b′ c f cardsAt (parts F) (w .shown) (λ q l. other q (λ e. omega (arith, e))) new) in
-    shows-image G b′ (record { size = size ∙ w .size; heads = r .0; shown = r .1 })
+    (head-set b b′ (headBytes F) i v (w .heads) refl low number
+    (λ j l d. other j d (inl (omega (arith, begins-past c cardsAt (parts n F))))))
+    (shown-changed size b b′ c f cardsAt (parts n F) (w .shown) (λ q l. other q (λ e. omega (arith, e))) new) in
+    shows-image G b′ room (record { size = same ∙ w .size; heads = r .0; shown = r .1 })
 
 -- the record of x is written in the place s: the part has x there
 pub put-stands : {A : Type 0} (bytes : A → List ℕ) (f : ℕ → A) (s : ℕ) (x : A) (at n k : ℕ) {b b′ : List ℕ} → length (bytes x) ≡ k

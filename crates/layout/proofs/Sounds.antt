@@ -1,23 +1,25 @@
 -- Bytes that show the facts read off them are sound where these are well formed. Assumes nothing.
 use Rattle.facts.proofs.Words.{_≡_, refl, ap, sym, _∙_, subst, inl, inr, by-cases, List, Bool, true, false, Option, none, some, ℕ, zero, suc, _+_}
-use Rattle.facts.proofs.Words.{_*_, _-_, _≤_, _<_, decLt, ℕ-discrete, arith, getD, WellFormed}
+use Rattle.facts.proofs.Words.{_-_, _≤_, _<_, decLt, ℕ-discrete, arith, length, getD, WellFormed}
 use Rattle.layout.proofs.Image
-use Rattle.facts.specs.{Manner, Exclusive, TimeMultiplexed, DynamicLevel, DynamicPulse, Client, Range, IoGrant, IrqGrant, byte, word, allEvents}
-use Rattle.facts.specs.{allLevels, mostClients, mostRanges, mostSeats, mostSockets}
+use Rattle.facts.specs.{Manner, Exclusive, TimeMultiplexed, DynamicLevel, DynamicPulse, Client, Range, IoGrant, IrqGrant, byte, word}
+use Rattle.facts.specs.{allLevels, mostRanges, mostSockets}
 use Rattle.facts.proofs.{rising-over, apart-port}
-use Rattle.layout.specs.{mark, maskBytes, clientBytes, rangeBytes, levelBytes, ioBytes, irqBytes, mannerByte, clientsIn, rangesIn, maskPlace}
-use Rattle.layout.specs.{clientPlace, rangePlace, levelPlace, ioPlace, handleIn, clientIn, rangeIn, ioIn, irqIn, ioHere, irqHere, factsIn, Zero}
-use Rattle.layout.specs.{CardSound, LevelSound, ClientSound, RangeSound, MaskSound, IoUsed, IrqUsed, IoSound, IrqSound, handleBefore, endBefore}
-use Rattle.layout.specs.{rangeBase, clientSize, clientsAt, ioSize, iosAt, ioSpareAt, irqSize, irqsAt, levelSize, rangeSize, rangesAt, restAt}
-use Rattle.layout.specs.{tableSize, maskOf}
-use Rattle.layout.specs.Sound.{Sound}
+use Rattle.layout.specs.{mark, handleBytes, attributesBytes, eventsBytes, masksBytes, rangeBytes, levelBytes, ioBytes, irqBytes}
+use Rattle.layout.specs.{mannerByte, clientsIn, rangesIn, masksPlace, maskPlace, rangePlace, levelPlace, ioPlace, handleIn, clientIn, rangeIn}
+use Rattle.layout.specs.{ioIn, irqIn, ioHere, irqHere, factsIn, maskOf, Zero, CardSound, LevelSound, ClientSound, ClientsEnd, RangeSound, MaskSound}
+use Rattle.layout.specs.{IoUsed, IrqUsed, IoSound, IrqSound, handleBefore, endBefore, rangeBase, clientRoom, handleRoom, seatRoom}
+use Rattle.layout.specs.{rangesAt, rangeSize, handlesAt, handleSize, attributesAt, attributesSize, eventsAt, eventsSize, iosAt, ioSize}
+use Rattle.layout.specs.{ioSpareAt, irqsAt, irqSize, levelSize, masksAt, masksSize, restAt}
+use Rattle.layout.specs.Sound.{SoundOf}
 use Rattle.layout.proofs.Parts.{below-at, zeros}
 use Rattle.layout.proofs.Lists.{below-in, upTo-in, at-upTo, upTo-length, rising-before, apart-next}
 use Rattle.layout.proofs.Records.{unused}
-use Rattle.layout.proofs.RoundTrip.{two-back, mask-word}
+use Rattle.layout.proofs.RoundTrip.{masks-stand}
 use Rattle.layout.proofs.Grants.{positive-test, grants-placed}
 use Rattle.layout.proofs.Said.{live-in, managed-in, io-here, irq-here}
-use Rattle.layout.proofs.Shows.{Shows, card-at, levels-are, ios-are, irqs-are, clients-are, ranges-are, rest-is}
+use Rattle.layout.proofs.Shows.{Shows, card-at, levels-are, ranges-are, handles-are, attributes-are, events-are, ios-are, irqs-are, spare-is}
+use Rattle.layout.proofs.Shows.{masks-are, rest-is}
 
 mark-most : (t : Bool) → mark t ≤ 1
 mark-most true = omega arith
@@ -37,7 +39,8 @@ manner-most TimeMultiplexed = omega arith
 manner-most DynamicLevel = omega arith
 manner-most DynamicPulse = omega arith
 
-module _ (b : List ℕ) (w : WellFormed (factsIn b)) (v : Shows (factsIn b) b) where
+module _ {n size : ℕ} (room : n ≤ clientRoom) {b : List ℕ} (few : length (factsIn b .clients) ≤ n) (w : WellFormed (factsIn b))
+    (v : Shows n size (factsIn b) b) where
   card-sound : (t : ℕ) → t < mostSockets → CardSound b t
   unfolding factsIn
   card-sound t l =
@@ -57,24 +60,22 @@ module _ (b : List ℕ) (w : WellFormed (factsIn b)) (v : Shows (factsIn b) b) w
       }
 
   -- the ith client
-  client-row : (i : ℕ) → i < clientsIn b → (j : ℕ) → j < clientSize → byte b (clientPlace i + j) ≡ getD (clientBytes (some (clientIn b i))) j 0
+  listed-few : clientsIn b ≤ n
   unfolding factsIn
-  client-row i l j h =
-      clients-are v i (omega (arith, w .clients-most, upTo-length (clientsIn b) (clientIn b))) j h
-      ∙ ap (λ (o : Option Client). getD (clientBytes o) j 0) (at-upTo (clientsIn b) (clientIn b) i l)
+  listed-few = omega (arith, few, upTo-length (clientsIn b) (clientIn b))
 
-  mask-sound : (i : ℕ) → i < clientsIn b → (t : ℕ) → t < mostSeats → MaskSound b i t
+  mask-sound : (i : ℕ) → i < clientsIn b → (t : ℕ) → t < seatRoom → MaskSound b i t
   unfolding factsIn clientIn
   mask-sound i l t h =
-      let n = word b (maskPlace i t) in
-      by-cases (ℕ-discrete n 0) inl
-      (λ u. let used = positive-test n none (some (n - allEvents)) (omega (arith, u)) in
-      let is = below-in mostSeats none (λ t. maskOf (word b (maskPlace i t))) t h ∙ used in
-      let fits = w .clients (clientIn b i) (upTo-in (clientsIn b) (clientIn b) i l) .mask t (n - allEvents) is in
-      let said = mask-word b i (clientIn b i) (client-row i l) t h
-      ∙ ap (λ (o : Option ℕ). getD (maskBytes o) 0 0 + 256 * getD (maskBytes o) 1 0) is
-      ∙ two-back (allEvents + (n - allEvents)) in
-      inr (omega (arith, said), omega (arith, said, fits .1), fits .0))
+      let word-is = word b (maskPlace i t) in
+      let its-bytes = ap (λ (o : Option Client). masksBytes o) (at-upTo (clientsIn b) (clientIn b) i l) in
+      let masks = masks-stand b (masksPlace i) (clientIn b i)
+      (λ j m. masks-are v i (omega (arith, listed-few)) j m ∙ ap (λ (x : List ℕ). getD x j 0) its-bytes) in
+      by-cases (ℕ-discrete word-is 0) inl
+      (λ u. let used = positive-test word-is none (some (word-is - 1)) (omega (arith, u)) in
+      let is = below-in seatRoom none (λ t. maskOf (word b (maskPlace i t))) t h ∙ used in
+      let fits = w .clients (clientIn b i) (upTo-in (clientsIn b) (clientIn b) i l) .mask t (word-is - 1) is in
+      inr (omega (arith, fits .1, u), fits .0))
 
   over : (i : ℕ) → i < clientsIn b → handleBefore b i < handleIn b i
   unfolding factsIn clientIn
@@ -87,13 +88,28 @@ module _ (b : List ℕ) (w : WellFormed (factsIn b)) (v : Shows (factsIn b) b) w
   unfolding factsIn clientIn
   client-sound i l =
       let fits = w .clients (clientIn b i) (upTo-in (clientsIn b) (clientIn b) i l) in
-      record { over = over i l; issued = fits .issued; attributes = fits .attributes; events = fits .events; masks = mask-sound i l }
+      record { over = over i l; issued = fits .issued; attributes = fits .attributes; events = fits .events }
 
-  clients-end : Zero b (clientPlace (clientsIn b)) rangesAt
+  -- past the last of them
+  clients-end : ClientsEnd b
   unfolding factsIn
-  clients-end q l =
-      unused clientBytes clientsAt clientSize mostClients (zeros clientSize) (factsIn b .clients) b (clients-are v) q
-      (omega (arith, upTo-length (clientsIn b) (clientIn b)))
+  clients-end =
+      let clients = factsIn b .clients in
+      let same = upTo-length (clientsIn b) (clientIn b) in
+      record {
+        handles = λ q l. unused handleBytes handlesAt handleSize handleRoom (zeros handleSize) clients b (handles-are v) q (omega (arith, same));
+        attributes =
+            λ q l. unused attributesBytes attributesAt attributesSize clientRoom (zeros attributesSize) clients b (attributes-are v) q
+            (omega (arith, same));
+        events = λ q l. unused eventsBytes eventsAt eventsSize clientRoom (zeros eventsSize) clients b (events-are v) q (omega (arith, same));
+      }
+
+  masks-end : Zero b (masksPlace (clientsIn b)) size
+  unfolding factsIn
+  masks-end q l m =
+      by-cases (decLt q (restAt n))
+      (unused masksBytes masksAt masksSize n (zeros masksSize) (factsIn b .clients) b (masks-are v) q
+      (omega (arith, upTo-length (clientsIn b) (clientIn b)))) (λ h. rest-is v q (omega arith) m)
 
   -- the ith range
   from : (i : ℕ) → i < rangesIn b → endBefore b i ≤ rangeBase b i
@@ -116,25 +132,24 @@ module _ (b : List ℕ) (w : WellFormed (factsIn b)) (v : Shows (factsIn b) b) w
         mark = omega (arith, row, mark-most (rangeIn b i .reserved));
       }
 
-  ranges-end : Zero b (rangePlace (rangesIn b)) tableSize
+  ranges-end : Zero b (rangePlace (rangesIn b)) handlesAt
   unfolding factsIn
-  ranges-end q l m =
-      by-cases (decLt q restAt)
-      (unused rangeBytes rangesAt rangeSize mostRanges (zeros rangeSize) (factsIn b .ranges) b (ranges-are v) q
-      (omega (arith, upTo-length (rangesIn b) (rangeIn b)))) (λ h. rest-is v q (omega arith) m)
+  ranges-end q l =
+      unused rangeBytes rangesAt rangeSize mostRanges (zeros rangeSize) (factsIn b .ranges) b (ranges-are v) q
+      (omega (arith, upTo-length (rangesIn b) (rangeIn b)))
 
   -- the grant at a seat
-  io-row : (t : ℕ) → t < mostSeats → IoUsed b t → (j : ℕ) → j < ioSize → byte b (ioPlace t + j) ≡ getD (ioBytes (some (ioIn b t))) j 0
+  io-row : (t : ℕ) → t < seatRoom → IoUsed b t → (j : ℕ) → j < ioSize → byte b (ioPlace t + j) ≡ getD (ioBytes (some (ioIn b t))) j 0
   io-row t l u j h = ios-are v t l j h ∙ ap (λ (o : Option IoGrant). getD (ioBytes o) j 0) (io-here b t l u)
 
-  io-spare : (t : ℕ) → t < mostSeats → IoUsed b t → Zero b (ioPlace t + ioSpareAt) (ioPlace t + ioSize)
+  io-spare : (t : ℕ) → t < seatRoom → IoUsed b t → Zero b (ioPlace t + ioSpareAt) (ioPlace t + ioSize)
   io-spare t l u q h m =
       let j = q - ioPlace t - 7 in
       let place : q ≡ ioPlace t + (7 + j) = omega arith in
       ap (byte b) place ∙ io-row t l u (7 + j) (omega arith)
       ∙ below-at 4 (λ j. getD (ioBytes (some (ioIn b t))) (7 + j) 0 ≡ 0) ((((tt, refl), refl), refl), refl) j (omega arith)
 
-  io-sound : (t : ℕ) → t < mostSeats → IoUsed b t → IoSound b t
+  io-sound : (t : ℕ) → t < seatRoom → IoUsed b t → IoSound b t
   unfolding factsIn ioIn
   io-sound t l u =
       let fits = w .ios t (ioIn b t) (io-here b t l u) in
@@ -152,7 +167,7 @@ module _ (b : List ℕ) (w : WellFormed (factsIn b)) (v : Shows (factsIn b) b) w
         spare = io-spare t l u;
       }
 
-  irq-sound : (t : ℕ) → t < mostSeats → IrqUsed b t → IrqSound b t
+  irq-sound : (t : ℕ) → t < seatRoom → IrqUsed b t → IrqSound b t
   unfolding factsIn irqIn
   irq-sound t l u =
       let fits = w .irqs t (irqIn b t) (irq-here b t l u) in
@@ -166,21 +181,25 @@ module _ (b : List ℕ) (w : WellFormed (factsIn b)) (v : Shows (factsIn b) b) w
         manner = omega (arith, row, manner-most (irqIn b t .manner));
       }
 
-  pub sound : Sound b
+  pub sound : SoundOf n size b
   unfolding factsIn ioHere irqHere
   sound =
       record {
         size = v .size;
+        marked = v .heads 0 (omega arith);
         sockets-least = w .sockets-least;
         sockets-most = w .sockets-most;
         cards = card-sound;
         levels = level-sound;
-        clients-most = omega (arith, upTo-length (clientsIn b) (clientIn b), w .clients-most);
-        clients = client-sound;
-        clients-end = clients-end;
         ranges-most = omega (arith, upTo-length (rangesIn b) (rangeIn b), w .ranges-most);
         ranges = range-sound;
         ranges-end = ranges-end;
+        clients-most = listed-few;
+        clients = client-sound;
+        clients-end = clients-end;
+        masks = mask-sound;
+        masks-end = masks-end;
+        spare = spare-is v;
         ios = grants-placed ioBytes iosAt ioSize (omega arith) refl b (ioIn b) (IoSound b) (ios-are v) io-sound;
         irqs = grants-placed irqBytes irqsAt irqSize (omega arith) refl b (irqIn b) (IrqSound b) (irqs-are v) irq-sound;
         io-company = λ s t l h x y. w .io-company s t (ioIn b s) (ioIn b t) (λ e. omega (arith, e)) (io-here b s l x) (io-here b t (omega arith) y);

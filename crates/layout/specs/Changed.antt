@@ -2,17 +2,18 @@
 use mathlib.Core.Path.{_≡_}
 use mathlib.Core.Logic.{_⊎_, _≢_}
 use mathlib.Core.List.{List}
-use Prim.Native.Nat.{ℕ, _+_, _≤_, _<_}
+use Prim.Native.Nat.{ℕ, _+_, _-_, _≤_, _<_}
 use lib.ListN.{length, getD, set}
 use Rattle.facts.specs.Table.{Seat}
 use Rattle.facts.specs.Packets.{byte, withWord}
-use Rattle.layout.specs.Reading.{clientPlace, ioPlace, irqPlace}
-use Rattle.layout.specs.Layout.{clientAttributesAt, clientEventsAt, ioBaseAt, ioCountAt, ioLinesAt, ioSharedAt, irqLevelAt, irqMannerAt}
+use Rattle.layout.specs.Reading.{clientsIn, handlePlace, attributesPlace, eventsPlace, masksPlace, ioPlace, irqPlace}
+use Rattle.layout.specs.Layout.{headClients, headIssued, ioBaseAt, ioCountAt, ioLinesAt, ioSharedAt, irqLevelAt, irqMannerAt, handleSize}
+use Rattle.layout.specs.Layout.{attributesSize, eventsSize, masksSize}
 
--- a new client in the place n: its record, the handles issued, the number of clients
+-- a new client in the place n: what it is said by, the handles issued, the number of clients
 unfoldable pub entered : List ℕ → ℕ → ℕ → ℕ → ℕ → List ℕ
 entered b n h attributes events =
-    set (withWord (withWord (withWord (withWord b (clientPlace n) h) (clientPlace n + clientAttributesAt) attributes) (clientPlace n + clientEventsAt) events) 3 h) 1 (n + 1)
+    set (set (withWord (withWord (withWord b (handlePlace n) h) (eventsPlace n) events) headIssued h) (attributesPlace n) attributes) headClients (n + 1)
 
 -- the record of the I/O grant at the seat s: client, base, count, lines and shared mark
 unfoldable pub ioEntered : List ℕ → Seat → ℕ → ℕ → ℕ → ℕ → ℕ → List ℕ
@@ -22,6 +23,25 @@ ioEntered b s client base count lines shared =
 -- the record of the IRQ grant at the seat s: client, level and manner
 unfoldable pub irqEntered : List ℕ → Seat → ℕ → ℕ → ℕ → List ℕ
 irqEntered b s client level manner = set (set (withWord b (irqPlace s) client) (irqPlace s + irqLevelAt) level) (irqPlace s + irqMannerAt) manner
+
+-- the record of so many bytes at a place is taken out of those up to the end: those after it stand one place lower, and the last one is zero
+pub record ClosedUp (b b′ : List ℕ) (at bytes end : ℕ) : Type 0 where
+  pub size : length b′ ≡ length b
+  pub moved : (p : ℕ) → at ≤ p → p + bytes < end → byte b′ p ≡ byte b (p + bytes)
+  pub last : (p : ℕ) → end ≤ p + bytes → p < end → byte b′ p ≡ 0
+  pub other : (p : ℕ) → (p < at) ⊎ (end ≤ p) → byte b′ p ≡ byte b p
+
+-- the client in the place i is taken out of each row, one after the other, and then the number of clients is one less
+pub record Withdrawn (b b′ : List ℕ) (i : ℕ) : Type 0 where
+  pub b₁ : List ℕ
+  pub b₂ : List ℕ
+  pub b₃ : List ℕ
+  pub b₄ : List ℕ
+  pub handles : ClosedUp b b₁ (handlePlace i) handleSize (handlePlace (clientsIn b))
+  pub attributes : ClosedUp b₁ b₂ (attributesPlace i) attributesSize (attributesPlace (clientsIn b))
+  pub events : ClosedUp b₂ b₃ (eventsPlace i) eventsSize (eventsPlace (clientsIn b))
+  pub masks : ClosedUp b₃ b₄ (masksPlace i) masksSize (masksPlace (clientsIn b))
+  pub number : b′ ≡ set b₄ headClients (clientsIn b - 1)
 
 -- the record of so many bytes at a place, in a part that ends at the end, is taken out: those after it stand one place lower, the last one is
 -- zero, and the number of records, which stands at count, is one less

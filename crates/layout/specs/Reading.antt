@@ -25,26 +25,32 @@ abbrev pub marked : ℕ → Bool
 marked x = eqb x 1
 
 abbrev pub socketsIn : List ℕ → ℕ
-socketsIn b = byte b 0
+socketsIn b = byte b Layout.headSockets
 
 abbrev pub clientsIn : List ℕ → ℕ
-clientsIn b = byte b 1
+clientsIn b = byte b Layout.headClients
 
 abbrev pub rangesIn : List ℕ → ℕ
-rangesIn b = byte b 2
+rangesIn b = byte b Layout.headRanges
 
 abbrev pub issuedIn : List ℕ → ℕ
-issuedIn b = word b 3
+issuedIn b = word b Layout.headIssued
 
 -- where a record begins
-abbrev pub clientPlace : ℕ → ℕ
-clientPlace i = Layout.clientsAt + i * Layout.clientSize
+abbrev pub levelPlace : ℕ → ℕ
+levelPlace l = Layout.levelsAt + l * Layout.levelSize
 
 abbrev pub rangePlace : ℕ → ℕ
 rangePlace i = Layout.rangesAt + i * Layout.rangeSize
 
-abbrev pub levelPlace : ℕ → ℕ
-levelPlace l = Layout.levelsAt + l * Layout.levelSize
+abbrev pub handlePlace : ℕ → ℕ
+handlePlace i = Layout.handlesAt + i * Layout.handleSize
+
+abbrev pub attributesPlace : ℕ → ℕ
+attributesPlace i = Layout.attributesAt + i * Layout.attributesSize
+
+abbrev pub eventsPlace : ℕ → ℕ
+eventsPlace i = Layout.eventsAt + i * Layout.eventsSize
 
 abbrev pub ioPlace : Seat → ℕ
 ioPlace s = Layout.iosAt + s * Layout.ioSize
@@ -52,22 +58,25 @@ ioPlace s = Layout.iosAt + s * Layout.ioSize
 abbrev pub irqPlace : Seat → ℕ
 irqPlace s = Layout.irqsAt + s * Layout.irqSize
 
-abbrev pub handleIn : List ℕ → ℕ → ℕ
-handleIn b i = word b (clientPlace i)
+abbrev pub masksPlace : ℕ → ℕ
+masksPlace i = Layout.masksAt + i * Layout.masksSize
 
 abbrev pub maskPlace : ℕ → Seat → ℕ
-maskPlace i s = clientPlace i + Layout.clientMasksAt + s * Layout.maskSize
+maskPlace i s = masksPlace i + s * Layout.maskSize
+
+abbrev pub handleIn : List ℕ → ℕ → ℕ
+handleIn b i = word b (handlePlace i)
 
 abbrev pub maskOf : ℕ → Option ℕ
-maskOf w = cond (eqb w 0) none (some (w - Table.allEvents))
+maskOf w = cond (eqb w 0) none (some (w - 1))
 
 unfoldable pub clientIn : List ℕ → ℕ → Client
 clientIn b i =
     record {
       handle = handleIn b i;
-      attributes = word b (clientPlace i + Layout.clientAttributesAt);
-      events = word b (clientPlace i + Layout.clientEventsAt);
-      mask = below Table.mostSeats none (λ s. maskOf (word b (maskPlace i s)));
+      attributes = byte b (attributesPlace i);
+      events = word b (eventsPlace i);
+      mask = below Layout.seatRoom none (λ s. maskOf (word b (maskPlace i s)));
     }
 
 unfoldable pub rangeIn : List ℕ → ℕ → Range
@@ -106,6 +115,6 @@ factsIn b =
       clients = upTo (clientsIn b) (clientIn b);
       level = below Table.allLevels (record { managed = false; reserved = false }) (levelIn b);
       ranges = upTo (rangesIn b) (rangeIn b);
-      io = below Table.mostSeats none (ioHere b);
-      irq = below Table.mostSeats none (irqHere b);
+      io = below Layout.seatRoom none (ioHere b);
+      irq = below Layout.seatRoom none (irqHere b);
     }

@@ -10,8 +10,8 @@ use Rattle.facts.specs.Packets.{byte, word, long}
 use Rattle.facts.specs.Ports.{Within, Answers}
 use Rattle.facts.specs.WellFormed.{WellFormed, AttributesAllowed, EventsAllowed, IoCompany, IrqCompany}
 use Rattle.layout.specs.Layout
-use Rattle.layout.specs.Reading.{socketsIn, clientsIn, rangesIn, issuedIn, clientPlace, rangePlace, levelPlace, ioPlace, irqPlace, handleIn}
-use Rattle.layout.specs.Reading.{maskPlace, portsIn, ioIn, irqIn}
+use Rattle.layout.specs.Reading.{socketsIn, clientsIn, rangesIn, issuedIn, levelPlace, rangePlace, handlePlace, attributesPlace, eventsPlace}
+use Rattle.layout.specs.Reading.{masksPlace, maskPlace, handleIn, ioPlace, irqPlace, portsIn, ioIn, irqIn}
 
 -- the bytes are the image of some well-formed set
 pub record Accepted (b : List ℕ) : Type 0 where
@@ -23,8 +23,9 @@ pub record Accepted (b : List ℕ) : Type 0 where
 abbrev pub Zero : List ℕ → ℕ → ℕ → Type 0
 Zero b from to = (i : ℕ) → from ≤ i → i < to → byte b i ≡ 0
 
--- "socket count 1 to 8 .. up to 16 live clients .. up to 32 managed I/O ranges"
+-- the layout's mark; "socket count 1 to 8 .. up to 16 live clients .. up to 32 managed I/O ranges"
 pub record CountsSound (b : List ℕ) : Type 0 where
+  pub mark : byte b 0 ≡ Layout.layoutMark
   pub sockets-least : 1 ≤ socketsIn b
   pub sockets-most : socketsIn b ≤ Table.mostSockets
   pub clients-most : clientsIn b ≤ Table.mostClients
@@ -43,26 +44,34 @@ abbrev pub handleBefore : List ℕ → ℕ → ℕ
 handleBefore b zero = 0
 handleBefore b (suc i) = handleIn b i
 
+-- none, or one more than the events of a mask for a socket below the count
 abbrev pub MaskSound : List ℕ → ℕ → Seat → Type 0
-MaskSound b i s =
-    (word b (maskPlace i s) ≡ 0) ⊎ ((Table.allEvents ≤ word b (maskPlace i s)) × (word b (maskPlace i s) < Table.allEvents + Table.allEvents)
-    × (socketAt s < socketsIn b))
+MaskSound b i s = (word b (maskPlace i s) ≡ 0) ⊎ ((word b (maskPlace i s) ≤ Table.allEvents) × (socketAt s < socketsIn b))
 
 -- the client listed in the place i has a mask at the seat s
 abbrev pub MaskUsed : List ℕ → ℕ → Seat → Type 0
 MaskUsed b i s = word b (maskPlace i s) ≢ 0
 
--- the ith client's record, whose handle is over low
+-- the ith client's numbers, whose handle is over low
 pub record ClientSound (b : List ℕ) (low i : ℕ) : Type 0 where
   pub over : low < handleIn b i
   pub issued : handleIn b i ≤ issuedIn b
-  pub attributes : AttributesAllowed (word b (clientPlace i + Layout.clientAttributesAt))
-  pub events : EventsAllowed (word b (clientPlace i + Layout.clientEventsAt))
-  pub masks : (s : Seat) → s < Table.mostSeats → MaskSound b i s
+  pub attributes : AttributesAllowed (byte b (attributesPlace i))
+  pub events : EventsAllowed (word b (eventsPlace i))
 
--- every client's record, each handle over the one before it
+-- every client, each handle over the one before it
 abbrev pub ClientsSound : List ℕ → Type 0
 ClientsSound b = (i : ℕ) → i < clientsIn b → ClientSound b (handleBefore b i) i
+
+-- past the last client the rows are zero
+pub record ClientsEnd (b : List ℕ) : Type 0 where
+  pub handles : Zero b (handlePlace (clientsIn b)) Layout.attributesAt
+  pub attributes : Zero b (attributesPlace (clientsIn b)) Layout.eventsAt
+  pub events : Zero b (eventsPlace (clientsIn b)) Layout.iosAt
+
+-- each mask of every client
+abbrev pub MasksSound : List ℕ → Type 0
+MasksSound b = (i : ℕ) → i < clientsIn b → (s : Seat) → s < Layout.seatRoom → MaskSound b i s
 
 abbrev pub rangeBase : List ℕ → ℕ → ℕ
 rangeBase b i = word b (rangePlace i)
@@ -135,19 +144,27 @@ IoPairSound b s t = IoUsed b s → IoUsed b t → IoCompany (ioIn b s) (ioIn b t
 abbrev pub IrqPairSound : List ℕ → Seat → Seat → Type 0
 IrqPairSound b s t = IrqUsed b s → IrqUsed b t → IrqCompany (irqIn b s) (irqIn b t)
 
-pub record Sound (b : List ℕ) : Type 0 where
-  pub size : length b ≡ Layout.tableSize
+-- in a table of so many bytes that has room for so many clients
+pub record SoundOf (most bytes : ℕ) (b : List ℕ) : Type 0 where
+  pub size : length b ≡ bytes
+  pub marked : byte b 0 ≡ Layout.layoutMark
   pub sockets-least : 1 ≤ socketsIn b
   pub sockets-most : socketsIn b ≤ Table.mostSockets
   pub cards : (s : ℕ) → s < Table.mostSockets → CardSound b s
   pub levels : (l : ℕ) → l < Table.allLevels → LevelSound b l
-  pub clients-most : clientsIn b ≤ Table.mostClients
-  pub clients : ClientsSound b
-  pub clients-end : Zero b (clientPlace (clientsIn b)) Layout.rangesAt
   pub ranges-most : rangesIn b ≤ Table.mostRanges
   pub ranges : RangesSound b
-  pub ranges-end : Zero b (rangePlace (rangesIn b)) Layout.tableSize
-  pub ios : (s : Seat) → s < Table.mostSeats → IoPlaceSound b s
-  pub irqs : (s : Seat) → s < Table.mostSeats → IrqPlaceSound b s
-  pub io-company : (s t : Seat) → s < Table.mostSeats → t < s → IoPairSound b s t
-  pub irq-company : (s t : Seat) → s < Table.mostSeats → t < s → IrqPairSound b s t
+  pub ranges-end : Zero b (rangePlace (rangesIn b)) Layout.handlesAt
+  pub clients-most : clientsIn b ≤ most
+  pub clients : ClientsSound b
+  pub clients-end : ClientsEnd b
+  pub masks : MasksSound b
+  pub masks-end : Zero b (masksPlace (clientsIn b)) bytes
+  pub ios : (s : Seat) → s < Layout.seatRoom → IoPlaceSound b s
+  pub irqs : (s : Seat) → s < Layout.seatRoom → IrqPlaceSound b s
+  pub io-company : (s t : Seat) → s < Layout.seatRoom → t < s → IoPairSound b s t
+  pub irq-company : (s t : Seat) → s < Layout.seatRoom → t < s → IrqPairSound b s t
+  pub spare : Zero b Layout.spareAt Layout.masksAt
+
+abbrev pub Sound : List ℕ → Type 0
+Sound b = SoundOf Table.mostClients Layout.tableSize b

@@ -10,7 +10,7 @@ use Rattle.facts.specs.Boot.{Boot}
 use Rattle.facts.proofs.{is-built, boot-stays, record-no-success, first-not-success, boot-within, boot-success, records-length, bytes-laws}
 use Rattle.layout.specs.{Accepted}
 use Rattle.layout.specs.Served.{Served}
-use Rattle.layout.proofs.{image-length, size-in, one-set}
+use Rattle.layout.proofs.{image-size, size-in, one-set}
 use Rattle.managed_changes.specs.declared.Change.{Change}
 use Rattle.managed_changes.specs.declared.Change.the-variants.{Made, Refused}
 use Rattle.managed_changes.specs.{Changes}
@@ -93,7 +93,7 @@ pub walked-none : {e : Code} {rs : List Record} {b : List ℕ} → Accepted b �
 walked-none a = record { first = a; here = a; goes-on = λ o r. r }
 
 pub ends-length : {R : Facts → Facts → Type 0} {b b′ : List ℕ} → Served R b b′ → length b′ ≡ length b
-ends-length {b = b} s = ap length (sym (s .table)) ∙ image-length (s .after) ∙ sym (size-in b (s .accepted))
+ends-length {b = b} s = ap length (sym (s .table)) ∙ image-size (s .after) ∙ sym (size-in b (s .accepted))
 
 module _ {e : Code} {rs : List Record} {b b′ : List ℕ} {place : ℕ} where
   pub walked-length : {left : List Record} → Walked e rs b b′ place left → length b′ ≡ length b

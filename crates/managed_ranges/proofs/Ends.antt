@@ -8,7 +8,7 @@ use Rattle.facts.specs.{Check, _gives_, FirstGiven, rangeChecks, rangeRemoved, 
 use Rattle.facts.specs.{allPorts, mostLines, mostRanges, MeetsHeld}
 use Rattle.facts.proofs.{told, meet-symmetric}
 use Rattle.layout.specs.{image, mark, two, four, rangesIn, rangePlace, rangeIn, Accepted, rangeBase, TakenOut, PutIn, rangeCountAt}
-use Rattle.layout.specs.{rangeReservedAt, rangeSize, restAt, tableSize, factsIn}
+use Rattle.layout.specs.{rangeReservedAt, rangeSize, handlesAt, headRanges, tableSize, factsIn}
 use Rattle.layout.proofs.{below-at, byte-same, byte-other, word-length, word-low, word-high, word-other, long-length, long-bytes, long-other}
 use Rattle.layout.proofs.{range-put-in, range-taken-out, becomes}
 use Rattle.table_write.specs.{RoomMade}
@@ -121,7 +121,7 @@ module _ {b : List ℕ} (a : Accepted b) {base n : ℕ} where
     pub take-held : MeetsHeld (factsIn b) (whole base n) → FirstGiven (takeChecks base n (a .facts)) InUse
     take-held met = inr ((λ none. none _ just), inl ((_, just, met-answered f (rw (Of.facts-in b a) met)), refl))
 
-    pub take-made : {b′ : List ℕ} → (MeetsHeld (factsIn b) (whole base n) → ⊥) → TakenOut b b′ 2 (rangePlace i) rangeSize restAt
+    pub take-made : {b′ : List ℕ} → (MeetsHeld (factsIn b) (whole base n) → ⊥) → TakenOut b b′ headRanges (rangePlace i) rangeSize handlesAt
         → TakesRange base n b b′ Made
     take-made {b′} silent out =
         becomes _ _ _ a _
@@ -129,9 +129,9 @@ module _ {b : List ℕ} (a : Accepted b) {base n : ℕ} where
         (subst (λ (x : ℕ). image (rangeRemoved (a .facts) x) ≡ b′) (f .base-is) (range-taken-out b b′ a i (f .listed) out))
 
 -- the record of a range, written where there is room for it
-module _ {b b₁ b₂ b₃ : List ℕ} {at base n : ℕ} (reserved : ℕ) (size : length b ≡ tableSize) (high : 2 < at)
-    (low : at + rangeSize ≤ restAt) (bound : base < 65536) (bound4 : n < 4294967296)
-    (m : RoomMade b b₁ 2 at rangeSize restAt)
+module _ {b b₁ b₂ b₃ : List ℕ} {at base n : ℕ} (reserved : ℕ) (size : length b ≡ tableSize) (high : headRanges < at)
+    (low : at + rangeSize ≤ handlesAt) (bound : base < 65536) (bound4 : n < 4294967296)
+    (m : RoomMade b b₁ headRanges at rangeSize handlesAt)
     (e₂ : b₂ ≡ withWord b₁ at base) (e₃ : b₃ ≡ withLong b₂ (at + rangeCountAt) n) where
   abbrev written : List ℕ
   written = set b₃ (at + rangeReservedAt) reserved
@@ -172,16 +172,16 @@ module _ {b b₁ b₂ b₃ : List ℕ} {at base n : ℕ} (reserved : ℕ) (size 
       below-at 7 (λ j. byte written (at + j) ≡ getD (two base ++ four n ++ reserved ∷ []) j 0)
       (((((((tt, first), second), c 0 (omega arith)), c 1 (omega arith)), c 2 (omega arith)), c 3 (omega arith)), last)
 
-  pub enters : PutIn b written 2 at restAt (two base ++ four n ++ reserved ∷ [])
+  pub enters : PutIn b written headRanges at handlesAt (two base ++ four n ++ reserved ∷ [])
   enters =
       record {
         size = length-set b₃ (at + rangeReservedAt) reserved ∙ size₃ ∙ sym size;
-        more = outside 2 (inl high) ∙ m .more;
+        more = outside headRanges (inl high) ∙ m .more;
         new = record-new;
         moved = λ p l h. outside (p + rangeSize) (inr (omega arith)) ∙ m .moved p l h;
         other = kept;
       }
     where
-      kept : (p : ℕ) → p ≢ 2 → (p < at) ⊎ (restAt ≤ p) → byte written p ≡ byte b p
+      kept : (p : ℕ) → p ≢ headRanges → (p < at) ⊎ (handlesAt ≤ p) → byte written p ≡ byte b p
       kept p d (inl l) = outside p (inl l) ∙ m .other p d (inl (omega arith))
       kept p d (inr l) = outside p (inr (omega arith)) ∙ m .other p d (inr l)

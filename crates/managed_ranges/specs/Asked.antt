@@ -107,7 +107,7 @@ RoomIs b room.Full = Table.mostRanges ≤ rangesIn b
 
 -- the range of so many ports is put in at the place i
 abbrev pub Entered : List ℕ → List ℕ → ℕ → ℕ → ℕ → ℕ → Type 0
-Entered b b′ i base n reserved = PutIn b b′ 2 (rangePlace i) Layout.restAt (two base ++ four n ++ reserved ∷ [])
+Entered b b′ i base n reserved = PutIn b b′ Layout.headRanges (rangePlace i) Layout.handlesAt (two base ++ four n ++ reserved ∷ [])
 
 -- the range in the place i has just that base and count; or none has
 pub record FoundAt (b : List ℕ) (base count i : ℕ) : Type 0 where

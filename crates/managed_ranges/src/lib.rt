@@ -2,6 +2,7 @@
 use facts::Code;
 use facts::RangeAsked;
 use layout::ALL_PORTS;
+use layout::HANDLES_AT;
 use layout::MOST_LINES;
 use layout::MOST_RANGES;
 use layout::RANGE_COUNT_AT;
@@ -9,7 +10,6 @@ use layout::RANGE_RESERVED_AT;
 use layout::RANGE_SIZE;
 use layout::RANGES_AT;
 use layout::RANGES_IN;
-use layout::REST_AT;
 use managed_changes::Bits;
 use managed_changes::Change;
 use managed_changes::Reserve;
@@ -165,7 +165,7 @@ fn enter(t: &mut [u8], i: usize, base: usize, count: usize, reserved: u8)
     ensures { λ _. ⌜ Entered (now (t .entry)) (now (t .exit)) i base count reserved ⌝ }
 {
     let at = RANGES_AT + i * RANGE_SIZE;
-    table_write::make_room(t, RANGES_IN, at, RANGE_SIZE, REST_AT);
+    table_write::make_room(t, RANGES_IN, at, RANGE_SIZE, HANDLES_AT);
     table_write::put_word(t, at, base);
     table_write::put_long(t, at + RANGE_COUNT_AT, count);
     t[at + RANGE_RESERVED_AT] = reserved;
@@ -257,7 +257,7 @@ fn take(t: &mut [u8], base: usize, count: usize) -> Change
         RANGES_IN,
         RANGES_AT + i * RANGE_SIZE,
         RANGE_SIZE,
-        REST_AT,
+        HANDLES_AT,
     );
     Change::Made
 }

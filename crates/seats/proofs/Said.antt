@@ -2,7 +2,7 @@
 use Rattle.facts.proofs.Words.{_≡_, _≢_, refl, ap, sym, _∙_, List, Option, none, some, cond, eqb, by-cases, ℕ, _<_, arith, ℕ-discrete, WellFormed, subst}
 use Rattle.facts.specs.{Facts, IoGrant, IrqGrant, mostSeats, word}
 use Rattle.facts.proofs.{told}
-use Rattle.layout.specs.{Accepted, factsIn, ioHere, ioIn, ioPlace, irqHere, irqIn, irqPlace, IoUsed, IrqUsed}
+use Rattle.layout.specs.{Accepted, seatRoom, factsIn, ioHere, ioIn, ioPlace, irqHere, irqIn, irqPlace, IoUsed, IrqUsed}
 use Rattle.layout.proofs.{below-in, zero-test, positive-test}
 use Rattle.layout.proofs.Of
 use Rattle.seats.specs.declared.IoSeat.{IoSeat}
@@ -36,7 +36,7 @@ module _ (b : List ℕ) (s : ℕ) (l : s < mostSeats) where
   -- of an I/O grant: what an answer says, and whose it is
   io-here : factsIn b .io s ≡ cond (eqb (word b (ioPlace s)) 0) none (some (ioIn b s))
   unfolding factsIn ioHere
-  io-here = below-in mostSeats none (ioHere b) s l
+  io-here = below-in seatRoom none (ioHere b) s (omega arith)
 
   pub io-read : (r : IoSeat) → HeldIs b s r → factsIn b .io s ≡ ioAt r
   io-read (io.Held x) h = there (word b (ioPlace s)) (ioIn b s) io-here (h .0) ∙ ap some (sym (h .1))
@@ -53,7 +53,7 @@ module _ (b : List ℕ) (s : ℕ) (l : s < mostSeats) where
   -- of an IRQ grant
   irq-here : factsIn b .irq s ≡ cond (eqb (word b (irqPlace s)) 0) none (some (irqIn b s))
   unfolding factsIn irqHere
-  irq-here = below-in mostSeats none (irqHere b) s l
+  irq-here = below-in seatRoom none (irqHere b) s (omega arith)
 
   pub irq-read : (r : IrqSeat) → LevelHeldIs b s r → factsIn b .irq s ≡ irqAt r
   irq-read (irq.Held x) h = there (word b (irqPlace s)) (irqIn b s) irq-here (h .0) ∙ ap some (sym (h .1))

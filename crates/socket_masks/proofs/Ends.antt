@@ -2,7 +2,7 @@
 use Rattle.facts.proofs.Words.{_≡_, refl, ap, sym, inl, inr, List, [], _∷_, Option, none, some, ℕ, _+_, _<_, arith, length}
 use Rattle.layout.proofs.Of
 use Rattle.facts.specs.{Code, Success, BadAttribute, BadSocket, InUse, Facts, word, withWord, EventsAllowed, _gives_, Leaves, withClients, MaskHeld}
-use Rattle.facts.specs.{socketOf, withMask, requestMaskLength, releaseMaskLength, ownMaskChecks, allEvents, mostClients, mostSeats}
+use Rattle.facts.specs.{socketOf, withMask, requestMaskLength, releaseMaskLength, ownMaskChecks, mostClients, mostSeats}
 use Rattle.facts.specs.{RequestSocketMask, ReleaseSocketMask}
 use Rattle.layout.specs.{image, two, maskBytes, maskPlace, Accepted, MaskUsed, ServedBy, tableSize}
 use Rattle.layout.proofs.{mask-said, said-mask, mask-written, left}
@@ -55,8 +55,8 @@ module _ {b p : List ℕ} {h i s : ℕ} (a : Accepted b) (begun : BegunAt b p re
   pub request-held : EventsAllowed (word p 2) → MaskUsed b i s → Requested b InUse 0
   request-held l u = refused-own requesting a begun InUse (inr ((λ d. d l), inl (held a begun u, refl)))
 
-  -- its word is the mark and the mask itself
-  pub request-done : (w : ℕ) → w ≡ allEvents + word p 2 → EventsAllowed (word p 2) → (MaskUsed b i s → ⊥)
+  -- its word is one more than the mask
+  pub request-done : (w : ℕ) → w ≡ word p 2 + 1 → EventsAllowed (word p 2) → (MaskUsed b i s → ⊥)
       → Requested (withWord b (maskPlace i s) w) Success h
   request-done w e l free =
       let after = masked (a .facts) h p (some (word p 2)) in

@@ -3,10 +3,9 @@ use facts::Code;
 use facts::Handle;
 use facts::Seat;
 use layout::ALL_EVENTS;
-use layout::CLIENT_MASKS_AT;
-use layout::CLIENT_SIZE;
-use layout::CLIENTS_AT;
 use layout::MASK_SIZE;
+use layout::MASKS_AT;
+use layout::MASKS_SIZE;
 use service_answers::Answer;
 use service_checks::Begun;
 use service_checks::CardNeed;
@@ -63,13 +62,13 @@ fn mask_of(t: &[u8], i: usize, seat: Seat) -> SocketMask
     }
 }
 
-// The word of the client's mask at the seat: 0 for none, 4,096 and the mask itself for one.
+// The word of the client's mask at the seat: 0 for none, else one more than the mask.
 fn write(t: &mut [u8], i: usize, seat: Seat, word: usize)
     requires { ⌜ (length (now t) ≡ tableSize) × (i < Table.mostClients) × (seat .0 < Table.mostSeats) ⌝ }
     ensures { λ _. ⌜ now (t .exit) ≡ withWord (now (t .entry)) (maskPlace i (seat .0)) word ⌝ }
 {
     let number = seat.0;
-    let at = CLIENTS_AT + i * CLIENT_SIZE + CLIENT_MASKS_AT + number * MASK_SIZE;
+    let at = MASKS_AT + i * MASKS_SIZE + number * MASK_SIZE;
     table_write::put_word(t, at, word);
 }
 
@@ -86,7 +85,7 @@ pub fn request(t: &mut [u8], h: Handle, p: &[u8]) -> Answer
             let SocketMask::Free = mask_of(t, i, seat) else {
                 return Answer::Refused(Code::InUse);
             };
-            write(t, i, seat, ALL_EVENTS + events);
+            write(t, i, seat, events + 1);
             Answer::Done(h)
         }
         Begun::Refused(code) => Answer::Refused(code),

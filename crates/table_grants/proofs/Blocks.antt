@@ -1,34 +1,32 @@
 -- The blocks of ports: where the ports of a grant stand, and that grants which meet answer in a block in common. Assumes nothing.
-use Rattle.facts.proofs.Words.{_≡_, refl, sym, ap, _∙_, subst, _⊎_, inl, inr, ⊎-elim, List, ℕ, _+_, _-_, _/_, _%_, _^_, _≤_, _<_, min-eq-left}
-use Rattle.facts.proofs.Words.{min-eq-right, ℕ-discrete, decLt, arith, bitAnd, bitOr, field, Ports, by-cases}
-use Rattle.facts.specs.{mostAsked, bit, Within}
+use Rattle.facts.proofs.Words.{_≡_, refl, sym, ap, _∙_, subst, List, ℕ, _+_, _-_, _*_, _/_, _%_, _^_, _≤_, _<_, min-eq-left}
+use Rattle.facts.proofs.Words.{min-eq-right, decLt, arith, bitAnd, bitOr, field, Ports, eq-eqb}
+use Rattle.facts.specs.{bit, Within}
 use Rattle.layout.specs.{ioIn, IoUsed, IoPairSound}
 use Rattle.io_ranges.proofs.{mod-fewer}
 use Rattle.table_read.specs.{Covers}
-use Rattle.facts.proofs.{one-bit}
-use Rattle.table_read.proofs.{or-left, or-right}
-use Rattle.table_grants.specs.{blockOf, BlocksWithin, AnswersInBlock}
-use Rattle.table_grants.proofs.Covering.{none-common}
+use Rattle.facts.proofs.{shifted-bit, says-eq}
+use Rattle.table_read.proofs.{or-says, all-more}
+use Rattle.table_grants.specs.{blockOf, BlocksWithin, AnswersInBlock, CoversBelow, CompanySound, CompaniesSound}
+use Rattle.table_grants.proofs.Covering.{all-bits, none-common}
 
--- of few ports each is in the block of the first or of the last
-module _ (base count : ℕ) (port : 1 ≤ count) (asked : count ≤ mostAsked) where
-  first-or-last : (p : ℕ) → Within p base count → (blockOf base ≡ blockOf p) ⊎ (blockOf (base + count - 1) ≡ blockOf p)
-  first-or-last p w =
-      by-cases (ℕ-discrete (base / 256) (p / 256)) (λ e. inl (ap (λ (n : ℕ). n % 64) e))
-      (λ n. let e : (base + count - 1) / 256 ≡ p / 256 = omega (arith, n, w .from, w .below) in inr (ap (λ (m : ℕ). m % 64) e))
-
-  pub blocks-within : BlocksWithin (bitOr (2 ^ blockOf base) (2 ^ blockOf (base + count - 1))) base count
-  blocks-within p w =
-      ⊎-elim (λ e. rw (← e) (or-left _ (2 ^ blockOf (base + count - 1)) _ (one-bit (blockOf base))))
-      (λ e. rw (← e) (or-right (2 ^ blockOf base) _ _ (one-bit (blockOf (base + count - 1)))))
-      (first-or-last p w)
+-- the blocks of so many ports are the first of so many, moved up by the block of the first port
+pub blocks-within : (base count set : ℕ) → let first = base / 8 % 64 in
+    let blocks = (base % 8 + count - 1) / 8 + 1 in
+    set ≡ (2 ^ blocks - 1) * 2 ^ first → first + blocks ≤ 64 → BlocksWithin set base count
+blocks-within base count set e fits p w =
+    let first = base / 8 % 64 in
+    let blocks = (base % 8 + count - 1) / 8 + 1 in
+    let past = p / 8 - base / 8 in
+    let block : blockOf p ≡ first + past = omega (arith, w .from, w .below, fits) in
+    rw (e, block) (shifted-bit (2 ^ blocks - 1) first past ∙ all-bits blocks past (omega (arith, w .from, w .below)))
 
 -- ports that are equal modulo two to so many lines are in one block
-same-block : (p q lines : ℕ) → 14 ≤ lines → p % 2 ^ lines ≡ q % 2 ^ lines → blockOf p ≡ blockOf q
-same-block p q lines l e = sym (field p 6 8) ∙ ap (λ (n : ℕ). n / 256) (mod-fewer p q 14 lines l e) ∙ field q 6 8
+same-block : (p q lines : ℕ) → 9 ≤ lines → p % 2 ^ lines ≡ q % 2 ^ lines → blockOf p ≡ blockOf q
+same-block p q lines l e = sym (field p 6 3) ∙ ap (λ (n : ℕ). n / 8) (mod-fewer p q 9 lines l e) ∙ field q 6 3
 
 -- the blocks of a grant's own ports are those in which it answers, where it decodes so many lines
-pub own-blocks : (b : List ℕ) (s set : ℕ) (p : Ports) → p ≡ ioIn b s .ports → 14 ≤ p .lines → BlocksWithin set (p .base) (p .count)
+pub own-blocks : (b : List ℕ) (s set : ℕ) (p : Ports) → p ≡ ioIn b s .ports → 9 ≤ p .lines → BlocksWithin set (p .base) (p .count)
     → Covers set (AnswersInBlock b s)
 own-blocks b s set p is l w k a =
     subst (λ (j : ℕ). bit set j ≡ 1) (sym (same-block (a .port) (a .own) (p .lines) l (rw is (a .equal))) ∙ a .block) (w (a .own) (rw is (a .own-in)))
@@ -52,3 +50,12 @@ blocks-apart b s t x y e below own u u′ m = absurd (below-or-not (decLt (ioIn 
         let fewer : ioIn b s .ports .lines ≤ ioIn b t .ports .lines = omega arith in
         none-common x y e below own (blockOf (m .other)) (answers (m .other) u′ (m .other-in) refl)
         (answers (m .other) u (m .one-in) (sym (rw (min-eq-left fewer) at (m .equal))))
+
+-- one seat more, which has no block in common with those below it
+pub companies-more : (b : List ℕ) (s blocks common own : ℕ) → CoversBelow blocks s (AnswersInBlock b) → Covers own (AnswersInBlock b s)
+    → (common ≡ 0 → CompaniesSound b s)
+    → bitOr common (bitAnd blocks own) ≡ 0
+    → CompaniesSound b (s + 1)
+companies-more b s blocks common own below own-in kept e =
+    let both = or-says common (bitAnd blocks own) (says-eq common 0) (says-eq (bitAnd blocks own) 0) .holds (eq-eqb (bitOr common (bitAnd blocks own)) 0 e) in
+    all-more {P = CompanySound (IoPairSound b)} (kept (both .0)) (λ u l. blocks-apart b s u blocks own (both .1) (below u l) own-in)

@@ -7,6 +7,12 @@ use Rattle.layout.specs.{cardsAt, socketsIn}
 use Rattle.table_read.proofs.{All, all-more, or-says}
 use Rattle.table_grants.specs.{CardsMarked, CardsEnd, CardsSound}
 
+-- what is wrong with each number below n, and with n
+pub flaws-more : {P : ℕ → Type 0} (n flaws flaw : ℕ) → Says (eqb flaws 0) (All n P) → Says (eqb flaw 0) (P n)
+    → Says (eqb (bitOr flaws flaw) 0) (All (n + 1) P)
+flaws-more {P} n flaws flaw a p =
+    says-as (or-says flaws flaw a p) (λ q. all-more {P = P} (q .0) (q .1)) (λ m. (λ k l. m k (omega arith), m n (omega arith)))
+
 module _ (b : List ℕ) where
   pub sound-end : CardsSound b → CardsEnd b
   sound-end c i f l =
@@ -27,6 +33,4 @@ module _ (b : List ℕ) where
   mark-says s = says-as (says-eq (byte b (cardsAt + s) / 2) 0) (λ e. omega arith) (λ l. omega arith)
 
   pub marks-more : (s flaws : ℕ) → Says (eqb flaws 0) (All s Marked) → Says (eqb (bitOr flaws (byte b (cardsAt + s) / 2)) 0) (All (s + 1) Marked)
-  marks-more s flaws a =
-      says-as (or-says flaws (byte b (cardsAt + s) / 2) a (mark-says s)) (λ p. all-more {P = Marked} (p .0) (p .1))
-      (λ m. (λ k l. m k (omega arith), m s (omega arith)))
+  marks-more s flaws a = flaws-more s flaws _ a (mark-says s)

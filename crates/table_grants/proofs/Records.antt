@@ -1,7 +1,7 @@
--- Four bytes are zero where the number that they say is; records that are all zero are sound and keep company; and what is held
--- at a seat is what its record says. Assumes nothing.
-use Rattle.facts.proofs.Words.{_≡_, ap, _∙_, _⊎_, inl, _≢_, List, ℕ, _+_, _-_, _≤_, _<_, add-zero, arith, Ports}
-use Rattle.facts.specs.{mostSeats, byte, word, long, Seat, mostLines, IoGrant, allPorts, mostAsked}
+-- Four bytes are zero where the number that they say is; records that can be no grants are sound exactly if they are all zero; and
+-- what is held at a seat is what its record says. Assumes nothing.
+use Rattle.facts.proofs.Words.{_≡_, ap, _∙_, _⊎_, inl, ⊎-elim, _≢_, List, ℕ, _+_, _-_, _≤_, _<_, add-zero, arith, Ports}
+use Rattle.facts.specs.{mostSeats, byte, word, long, Seat, mostLines, IoGrant, allPorts, mostAsked, Within}
 use Rattle.layout.proofs.{below-at, ports-are, used-sound}
 use Rattle.layout.specs.{portsIn, Zero, IoPlaceSound, IoSound, ioPlace, ioBaseAt, ioCountAt, ioSize, ioLinesAt, ioIn}
 use Rattle.seats.specs.declared.HeldPorts.{HeldPorts}
@@ -29,22 +29,33 @@ module _ (b : List ℕ) (at to : ℕ) (n : to ≡ at + 4) where
         z (at + 2 + 1) (omega arith) (omega arith),
       )
 
--- records that are all zero are sound and keep company: there is no grant
-module _ (b : List ℕ) (from to size : ℕ) (place : ℕ → ℕ) (two : 2 ≤ size) (starts : (s : ℕ) → from ≤ place s)
-    (ends : (s : ℕ) → s < mostSeats → place s + size ≤ to) (z : Zero b from to) where
-  pub zero-sound : {P : ℕ → Type 0} {Q : ℕ → ℕ → Type 0} (s : ℕ) → s < mostSeats
-      → SeatSound (λ t. Zero b (place t) (place t + size) ⊎ ((word b (place t) ≢ 0) × P t))
-      (λ t u. word b (place t) ≢ 0 → word b (place u) ≢ 0 → Q t u) s
-  zero-sound s l =
-      record {
-        place = inl (λ i f m. z i (omega (arith, starts s)) (omega (arith, ends s l)));
-        company = λ t m u u′. absurd
-            (u (omega (
-              arith,
-              z (place s) (starts s) (omega (arith, ends s l)),
-              z (place s + 1) (omega (arith, starts s)) (omega (arith, ends s l)),
-            )));
-      }
+-- the records from a seat on, where none of them can be a grant, are sound and keep company exactly if they are all zero
+module _ (b : List ℕ) (first to size : ℕ) (place : ℕ → ℕ) where
+  abbrev RecordSound : (ℕ → Type 0) → (ℕ → ℕ → Type 0) → ℕ → Type 0
+  RecordSound P Q =
+      SeatSound (λ t. Zero b (place t) (place t + size) ⊎ ((word b (place t) ≢ 0) × P t)) (λ t u. word b (place t) ≢ 0 → word b (place u) ≢ 0 → Q t u)
+
+  module _ (two : 2 ≤ size) (starts : (s : ℕ) → first ≤ s → place first ≤ place s) (ends : (s : ℕ) → s < mostSeats → place s + size ≤ to)
+      (z : Zero b (place first) to) where
+    pub zero-sound : {P : ℕ → Type 0} {Q : ℕ → ℕ → Type 0} (s : ℕ) → first ≤ s → s < mostSeats → RecordSound P Q s
+    zero-sound s f l =
+        record {
+          place = inl (λ i h m. z i (omega (arith, starts s f)) (omega (arith, ends s l)));
+          company = λ t m u u′. absurd
+              (u (omega (
+                arith,
+                z (place s) (starts s f) (omega (arith, ends s l)),
+                z (place s + 1) (omega (arith, starts s f)) (omega (arith, ends s l)),
+              )));
+        }
+
+  -- seat gives the record in which a byte stands
+  pub sound-zero : {P : ℕ → Type 0} {Q : ℕ → ℕ → Type 0} (seat : ℕ → ℕ)
+      → ((i : ℕ) → place first ≤ i → i < to → (first ≤ seat i) × (seat i < mostSeats) × Within i (place (seat i)) size)
+      → ((s : ℕ) → P s → s < first) → ((s : ℕ) → s < mostSeats → RecordSound P Q s) → Zero b (place first) to
+  sound-zero seat at below all i f l =
+      let k = at i f l in
+      ⊎-elim (λ z. z i (k .2 .from) (k .2 .below)) (λ g. absurd (omega (arith, below (seat i) (g .1), k .0))) (all (seat i) (k .1) .place)
 
 -- an I/O grant that is there: its ports are those of its record, which are bytes
 module _ (b : List ℕ) (s : Seat) (x : HeldPorts) (h : HeldIs b s (Held x)) where

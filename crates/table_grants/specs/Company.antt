@@ -17,9 +17,9 @@ use Rattle.table_grants.specs.declared.irqs.Holding.{Holding}
 abbrev pub CoversBelow : ℕ → ℕ → (Seat → ℕ → Type 0) → Type 0
 CoversBelow set n P = (s : Seat) → s < n → Covers set (P s)
 
--- ports stand in blocks of 256, which are counted modulo 64
+-- ports stand in blocks of eight, which are counted modulo 64
 abbrev pub blockOf : ℕ → ℕ
-blockOf p = p / 256 % 64
+blockOf p = p / 8 % 64
 
 -- the set has the block of each of the count ports from base on
 abbrev pub BlocksWithin : ℕ → ℕ → ℕ → Type 0

@@ -4,18 +4,18 @@ use mathlib.Core.List.{List}
 use Prim.Native.Nat.{ℕ, _+_, _^_, _≤_, _<_}
 use Rattle.facts.specs.Table
 use Rattle.facts.specs.Table.{Seat, socketAt, Ports}
-use Rattle.facts.specs.Packets.{byte, word}
-use Rattle.facts.specs.Ports.{Meet}
+use Rattle.facts.specs.Packets.{byte}
 use Rattle.layout.specs.Layout
-use Rattle.layout.specs.Reading.{socketsIn, ioPlace, ioIn}
-use Rattle.layout.specs.Sound.{Zero, LiveIn, CardSound, IoUsed, IoPlaceSound, IrqPlaceSound, IoPairSound, IrqPairSound}
+use Rattle.layout.specs.Reading.{socketsIn, rangesIn, ioPlace}
+use Rattle.layout.specs.Sound.{Zero, rangeBase, rangeCount, CardSound, IoUsed, IoPlaceSound, IrqPlaceSound, IoPairSound, IrqPairSound}
 use Rattle.io_answering.specs.Gaps.{AllManagedIn}
 use Rattle.io_answering.specs.Rows.{GapsAre}
 
--- "every grant .. has a live client and a socket below the count": a client with a grant at the seat s
-pub record HolderSound (b : List ℕ) (client : ℕ) (s : Seat) : Type 0 where
-  pub live : LiveIn b client
-  pub socket : socketAt s < socketsIn b
+-- the ports lie within the managed range in the place i
+pub record InRange (b : List ℕ) (i base count : ℕ) : Type 0 where
+  pub listed : i < rangesIn b
+  pub from : rangeBase b i ≤ base
+  pub to : base + count ≤ rangeBase b i + rangeCount b i
 
 -- "granted .. ports are managed; an I/O grant has base 1 or more, lines 1 to 16 and a count RequestIO allows"; K2: wherever its card answers is managed
 pub record PortsSound (b : List ℕ) (a : Ports) : Type 0 where
@@ -25,12 +25,6 @@ pub record PortsSound (b : List ℕ) (a : Ports) : Type 0 where
   pub lines : a .lines ≤ Table.mostLines
   pub decoded : a .count ≤ 2 ^ a .lines
   pub managed : AllManagedIn b a
-
--- there are I/O grants at both seats, whose ports meet
-pub record IosMeet (b : List ℕ) (s t : Seat) : Type 0 where
-  pub one : IoUsed b s
-  pub other : IoUsed b t
-  pub meet : Meet (ioIn b s .ports) (ioIn b t .ports)
 
 -- the card of the seat's I/O grant decodes so many lines
 abbrev pub LinesAt : List ℕ → Seat → ℕ → Type 0
@@ -61,6 +55,10 @@ PlacesSound Place n = (s : Seat) → s < n → Place s
 -- the grant at a seat, and that at each below it
 abbrev pub CompanySound : (Seat → Seat → Type 0) → Seat → Type 0
 CompanySound Pair s = (t : Seat) → t < s → Pair s t
+
+-- the I/O grant at each seat below n does
+abbrev pub CompaniesSound : List ℕ → ℕ → Type 0
+CompaniesSound b n = (s : Seat) → s < n → CompanySound (IoPairSound b) s
 
 -- the record of the seat s, whose grant keeps company with those at the seats below it
 pub record SeatSound (Place : Seat → Type 0) (Pair : Seat → Seat → Type 0) (s : Seat) : Type 0 where

@@ -1,9 +1,7 @@
 // The IRQ grants: a seat's record, and the company that its grant keeps with those of the seats below it.
-use crate::sockets::holder_sound;
 use facts::Handle;
 use facts::Seat;
 use layout::ALL_LEVELS;
-use layout::CLIENTS_AT;
 use layout::IRQ_LEVEL_AT;
 use layout::IRQ_MANNER_AT;
 use layout::IRQ_SIZE;
@@ -12,17 +10,21 @@ use layout::LEVEL_SIZE;
 use layout::LEVELS_AT;
 use layout::MARKED;
 use layout::MOST_SEATS;
+use layout::SOCKETS_IN;
 ghost use mathlib.Core.Path.{_≡_};
 ghost use Prim.Native.Nat.{_+_, _<_, _≤_};
 ghost use lib.ListN.{length};
 ghost use Rattle.facts.specs.Table;
+ghost use Rattle.facts.specs.Table.{socketAt};
 ghost use Rattle.facts.specs.Says.{Says};
 ghost use Rattle.layout.specs.Layout.{tableSize};
-ghost use Rattle.layout.specs.Reading.{clientsIn};
-ghost use Rattle.layout.specs.Sound.{IoPlaceSound, IrqPlaceSound, IrqPairSound, CountsSound, ClientsSound};
-ghost use Rattle.table_read.specs.Sets.{HasJust};
-ghost use Rattle.table_grants.specs.Parts.{HolderSound, PlacesSound, CompanySound, SeatSound, IosSound, IrqsSound};
-ghost use Rattle.table_grants.specs.Company.{HeldBelow, HoldingIs};
+ghost use Rattle.layout.specs.Reading.{socketsIn, clientsIn};
+ghost use Rattle.layout.specs.Sound.{LiveIn, IoPlaceSound, IrqPlaceSound, CountsSound, ClientsSound};
+ghost use Rattle.table_grants.specs.Parts.{IosSound, IrqsSound};
+ghost use Rattle.table_grants.specs.Company.{HoldingIs};
+
+// Where the records of the seats that can be used end.
+const IRQS_END: usize = IRQS_AT + MOST_SEATS * IRQ_SIZE;
 
 // The manners are 0 to 3.
 const LAST_MANNER: usize = 3;
@@ -30,20 +32,20 @@ const LAST_MANNER: usize = 3;
 // A level and a manner are one number: the level's manners stand side by side, so that a set of them has a bit for each.
 const ALL_MANNERS: usize = LAST_MANNER + 1;
 
-// The client of the IRQ grant at the seat `s`, and the seat's socket: sound where the client holds the seat's I/O grant too, as most often.
-fn irq_holder_sound(t: &[u8], client: Handle, s: Seat) -> bool
+// Whether the client of the IRQ grant at the seat `s` is live: it is where it holds the seat's I/O grant too, as most often.
+fn irq_holder_live(t: &[u8], client: Handle, s: Seat) -> bool
     requires { ⌜ (length (now t) ≡ tableSize) × (clientsIn (now t) ≤ Table.mostClients) × (s .0 < Table.mostSeats) × IoPlaceSound (now t) (s .0) ⌝ }
-    ensures { λ r. ⌜ Says r (HolderSound (now (t .entry)) (client .0) (s .0)) ⌝ }
+    ensures { λ r. ⌜ Says r (LiveIn (now (t .entry)) (client .0)) ⌝ }
 {
     if seats::io_held_by(t, s, client) {
         return true;
     }
-    holder_sound(t, client, s)
+    client_record::live(t, client)
 }
 
-// The IRQ grant at the seat `s`, or a record that is all zero.
+// "every grant .. has a live client and a socket below the count": the IRQ grant at a seat of such a socket, or a record that is all zero.
 fn irq_place_sound(t: &[u8], s: Seat) -> bool
-    requires { ⌜ (length (now t) ≡ tableSize) × (s .0 < Table.mostSeats) × CountsSound (now t) × ClientsSound (now t) ⌝ }
+    requires { ⌜ (length (now t) ≡ tableSize) × (socketAt (s .0) < socketsIn (now t)) × CountsSound (now t) × ClientsSound (now t) ⌝ }
     requires { ⌜ IoPlaceSound (now t) (s .0) ⌝ }
     ensures { λ r. ⌜ Says r (IrqPlaceSound (now (t .entry)) (s .0)) ⌝ }
 {
@@ -61,7 +63,7 @@ fn irq_place_sound(t: &[u8], s: Seat) -> bool
     if LAST_MANNER < table_read::byte(t, at + IRQ_MANNER_AT) {
         return false;
     }
-    irq_holder_sound(t, table_read::handle(t, at), s)
+    irq_holder_live(t, table_read::handle(t, at), s)
 }
 
 // The level that a grant holds: in its own manner, and in each manner that doesn't go with it. For level 5 held as dynamic level, whose number is 2, these
@@ -87,17 +89,21 @@ fn irq_holding(t: &[u8], s: Seat) -> Holding
     Holding { own, against }
 }
 
-// The IRQ grants at all seats: `held` are the levels that the grants passed hold, in their manners. "grants meet only as demand 3 allows": none of them
-// holds the level of the next one in a manner that doesn't go with its own.
+// The IRQ grants at all seats, of which those of sockets from the count on are zero: `held` are the levels that the grants passed hold, in their manners.
+// "grants meet only as demand 3 allows": none of them holds the level of the next one in a manner that doesn't go with its own.
 pub fn irqs_sound(t: &[u8]) -> bool
     requires { ⌜ (length (now t) ≡ tableSize) × CountsSound (now t) × ClientsSound (now t) × IosSound (now t) ⌝ }
     ensures { λ r. ⌜ Says r (IrqsSound (now (t .entry))) ⌝ }
 {
-    if table_read::zero(t, IRQS_AT, CLIENTS_AT) {
+    if table_read::zero(t, IRQS_AT, IRQS_END) {
         return true;
     }
+    let sockets = table_read::byte(t, SOCKETS_IN);
+    if !table_read::zero(t, IRQS_AT + sockets * IRQ_SIZE, IRQS_END) {
+        return false;
+    }
     let mut held: u64 = 0;
-    for s in 0..MOST_SEATS {
+    for s in 0..sockets {
         if !irq_place_sound(t, Seat(s)) {
             return false;
         }

@@ -1,22 +1,17 @@
-// The marks of the sockets' cards, who holds a grant, and what all sockets have.
+// The marks of the sockets' cards, and what all sockets have.
 use crate::ios::ios_sound;
 use crate::irqs::irqs_sound;
-use client_record::ClientFound;
-use facts::Handle;
-use facts::Seat;
 use layout::CARDS_AT;
 use layout::MARKS;
 use layout::MOST_SOCKETS;
 use layout::SOCKETS_IN;
 ghost use mathlib.Core.Path.{_≡_};
-ghost use Prim.Native.Nat.{_+_, _<_, _≤_};
+ghost use Prim.Native.Nat.{_+_};
 ghost use lib.ListN.{length};
-ghost use Rattle.facts.specs.Table;
 ghost use Rattle.facts.specs.Says.{Says};
 ghost use Rattle.layout.specs.Layout.{tableSize};
-ghost use Rattle.layout.specs.Reading.{clientsIn};
 ghost use Rattle.layout.specs.Sound.{CountsSound, ClientsSound, RangesSound};
-ghost use Rattle.table_grants.specs.Parts.{HolderSound, CardsMarked, CardsEnd, CardsSound, SocketsSound};
+ghost use Rattle.table_grants.specs.Parts.{CardsMarked, CardsEnd, CardsSound, SocketsSound};
 
 // What is wrong with any card's mark or-ed together, with no early exit.
 fn cards_marked(t: &[u8]) -> bool
@@ -48,21 +43,6 @@ fn cards_sound(t: &[u8]) -> bool
         return false;
     }
     cards_end(t)
-}
-
-// "every grant .. has a live client and a socket below the count": a client with a grant at the seat `s`.
-pub fn holder_sound(t: &[u8], client: Handle, s: Seat) -> bool
-    requires { ⌜ (length (now t) ≡ tableSize) × (clientsIn (now t) ≤ Table.mostClients) ⌝ }
-    ensures { λ r. ⌜ Says r (HolderSound (now (t .entry)) (client .0) (s .0)) ⌝ }
-{
-    if table_read::byte(t, SOCKETS_IN) <= s.0 {
-        return false;
-    }
-    let holder = client_record::client_at(t, client);
-    match holder {
-        ClientFound::At(_) => true,
-        ClientFound::Nobody => false,
-    }
 }
 
 // The cards and the grants of all sockets.

@@ -1,124 +1,146 @@
-// The clients: their records, in the order of their handles.
-use facts::Handle;
-use layout::ALL_EVENTS;
-use layout::CLIENT_ATTRIBUTES_AT;
-use layout::CLIENT_EVENTS_AT;
-use layout::CLIENT_MASKS_AT;
-use layout::CLIENT_SIZE;
-use layout::CLIENTS_AT;
+// The clients' numbers: handles, attributes and event masks, each kind side by side.
+use layout::ALL_EVENTS_U16;
+use layout::ATTRIBUTES_AT;
+use layout::ATTRIBUTES_SIZE;
 use layout::CLIENTS_IN;
+use layout::EVENTS_AT;
+use layout::EVENTS_SIZE;
+use layout::HANDLE_SIZE;
+use layout::HANDLES_AT;
 use layout::ISSUED_IN;
-use layout::MASK_SIZE;
-use layout::MOST_SOCKETS;
-use layout::SOCKETS_IN;
-use table_read::ALL_WORDS;
+use layout::MOST_CLIENTS;
 ghost use mathlib.Core.Path.{_≡_};
-ghost use Prim.Native.Nat.{_+_, _<_, _≤_};
+ghost use mathlib.Core.Logic.{_⊎_};
+ghost use Prim.Native.Nat.{_<_, _≤_};
+ghost use lib.Dec.{eqb};
 ghost use lib.ListN.{length};
 ghost use Rattle.facts.specs.Table;
 ghost use Rattle.facts.specs.Says.{Says};
+ghost use Rattle.facts.specs.WellFormed.{AttributesAllowed};
 ghost use Rattle.layout.specs.Layout.{tableSize};
 ghost use Rattle.layout.specs.Reading.{clientsIn};
-ghost use Rattle.layout.specs.Sound.{ClientsSound};
-ghost use Rattle.table_lists.specs.Parts.{FourFormed, MasksFormed, MasksEnd, MasksSound, ClientFollows};
+ghost use Rattle.table_lists.specs.Clients.{OneType, PlaceSound, PlaceSoundIn, PlacesSound, Counted, PlacesEnd, ClientsListed};
 
-// Four masks side by side are one number of eight bytes: how many numbers half of it holds, and 1 in place of each mask.
-const ALL_LONGS: usize = ALL_WORDS * ALL_WORDS;
+// A client's attributes are five bits, of which the lowest three say its type.
+const ALL_ATTRIBUTES: u16 = 32;
 
-const IN_EACH: usize = (1 + ALL_WORDS) * (1 + ALL_LONGS);
+const ALL_KINDS: u16 = 8;
 
-// All bits of the four masks, the bit of each that says that it is there, and the bits of one that is there.
-const EACH_BIT: usize = (ALL_WORDS - 1) * IN_EACH;
+const EIGHT: usize = 8;
 
-const EACH_THERE: usize = ALL_EVENTS * IN_EACH;
-
-const MASK_BITS: usize = 2 * ALL_EVENTS - 1;
-
-const LONG_SIZE: usize = 4;
-
-const FOUR_MASKS: usize = 4 * MASK_SIZE;
-
-// Whether each of the four masks from a place on is formed, all at a time: 0 where there is none, or 4,096 and its events. No bits are left but
-// those of the masks that are there. Of the words 1005H, 0, 0 and 2000H only the first has the bit 1000H: what is left to be 0 are its bits E000H, and
-// all bits of the others. So the bit 2000H of the last one shows, and the four are not formed.
-fn four_formed(t: &[u8], at: usize) -> bool
-    requires { ⌜ at + 7 < length (now t) ⌝ }
-    ensures { λ r. ⌜ Says r (FourFormed (now (t .entry)) at) ⌝ }
+// What is wrong with a client's type, 0 if nothing is: it is one bit. Less by one, a number that is one bit has no bit with itself in common: 4 and 3
+// have none, 6 and 5 have the bit 4.
+fn type_flaw(kind: u16) -> u16
+    requires { ⌜ kind < 8 ⌝ }
+    ensures { λ r. ⌜ Says (eqb r 0) (OneType kind) ⌝ }
 {
-    let masks = table_read::long(t, at) + ALL_LONGS * table_read::long(t, at + LONG_SIZE);
-    let there = (masks & EACH_THERE) / ALL_EVENTS;
-    masks & (EACH_BIT - there * MASK_BITS) == 0
+    if kind == 0 {
+        return 1;
+    }
+    kind & (kind - 1)
 }
 
-// Whether each of a client's masks is formed.
-fn masks_formed(t: &[u8], i: usize) -> bool
+// What is wrong with a client's attributes, 0 if nothing is.
+fn attributes_flaw(a: u16) -> u16
+    ensures { λ r. ⌜ Says (eqb r 0) (AttributesAllowed a) ⌝ }
+{
+    a / ALL_ATTRIBUTES | type_flaw(a % ALL_KINDS)
+}
+
+// What is wrong with a handle and the one after it, 0 if nothing is: the next one is over it, or there is none. After 3 comes 9, and 3 is not over 9 - 1;
+// after 9 comes 3, and 9 is 7 over 3 - 1; after 9 comes none.
+fn rise_flaw(h: u16, next: u16) -> u16
+    ensures { λ r. ⌜ Says (eqb r 0) ((next ≡ 0) ⊎ (h < next)) ⌝ }
+{
+    if next == 0 {
+        return 0;
+    }
+    table_read::excess(h, next - 1)
+}
+
+// What is wrong with the numbers in one place, 0 if nothing is: of no client, whose handle is 0, all are 0, and there is no next one.
+fn client_flaw(h: u16, next: u16, events: u16, attributes: u16) -> u16
+    ensures { λ r. ⌜ Says (eqb r 0) (PlaceSound h next events attributes) ⌝ }
+{
+    if h == 0 {
+        return next | events | attributes;
+    }
+    rise_flaw(h, next) | events / ALL_EVENTS_U16 | attributes_flaw(attributes)
+}
+
+// The same of the place `i`.
+fn place_flaw(t: &[u8], i: usize) -> u16
     requires { ⌜ (length (now t) ≡ tableSize) × (i < Table.mostClients) ⌝ }
-    ensures { λ r. ⌜ Says r (MasksFormed (now (t .entry)) i) ⌝ }
+    ensures { λ r. ⌜ Says (eqb r 0) (PlaceSoundIn (now (t .entry)) i) ⌝ }
 {
-    let at = CLIENTS_AT + i * CLIENT_SIZE + CLIENT_MASKS_AT;
-    if !four_formed(t, at) {
-        return false;
-    }
-    four_formed(t, at + FOUR_MASKS)
+    let h = table_read::word_u16(t, HANDLES_AT + i * HANDLE_SIZE);
+    let next = table_read::word_u16(t, HANDLES_AT + (i + 1) * HANDLE_SIZE);
+    let events = table_read::word_u16(t, EVENTS_AT + i * EVENTS_SIZE);
+    let attributes = table_read::byte_u16(t, ATTRIBUTES_AT + i * ATTRIBUTES_SIZE);
+    client_flaw(h, next, events, attributes)
 }
 
-// Whether a client has no mask at a socket from the count on.
-fn masks_end(t: &[u8], i: usize) -> bool
-    requires { ⌜ (length (now t) ≡ tableSize) × (i < Table.mostClients) ⌝ }
-    ensures { λ r. ⌜ Says r (MasksEnd (now (t .entry)) i) ⌝ }
+// What is wrong in any place that a client can have, or-ed together with no early exit, so that many are looked at side by side. Of the handles 3, 9, 0, 0
+// and on, nothing is wrong with 3 before 9, with 9 before 0, nor with 0 before 0; of 3, 0, 9 the 0 before 9 is wrong.
+fn places_sound(t: &[u8]) -> bool
+    requires { ⌜ length (now t) ≡ tableSize ⌝ }
+    ensures { λ r. ⌜ Says r (PlacesSound (now (t .entry))) ⌝ }
 {
-    let sockets = table_read::byte(t, SOCKETS_IN);
-    if MOST_SOCKETS <= sockets {
-        return true;
+    let mut flaws: u16 = 0;
+    for i in 0..MOST_CLIENTS {
+        flaws = flaws | place_flaw(t, i);
     }
-    let at = CLIENTS_AT + i * CLIENT_SIZE + CLIENT_MASKS_AT;
-    table_read::zero(t, at + sockets * MASK_SIZE, at + MOST_SOCKETS * MASK_SIZE)
+    flaws == 0
 }
 
-// A client's masks: at each socket none, or one at a socket below the count.
-fn masks_sound(t: &[u8], i: usize) -> bool
-    requires { ⌜ (length (now t) ≡ tableSize) × (i < Table.mostClients) ⌝ }
-    ensures { λ r. ⌜ Says r (MasksSound (now (t .entry)) i) ⌝ }
-{
-    if !masks_formed(t, i) {
-        return false;
-    }
-    masks_end(t, i)
-}
-
-// The record of the client `i`, whose handle is over that of the client before it.
-fn client_follows(t: &[u8], i: usize, before: Handle) -> bool
-    requires { ⌜ (length (now t) ≡ tableSize) × (i < Table.mostClients) ⌝ }
-    ensures { λ r. ⌜ Says r (ClientFollows (now (t .entry)) (before .0) i) ⌝ }
-{
-    let at = CLIENTS_AT + i * CLIENT_SIZE;
-    let attributes = table_read::word(t, at + CLIENT_ATTRIBUTES_AT);
-    if !client_record::attributes_allowed(attributes) {
-        return false;
-    }
-    if ALL_EVENTS <= table_read::word(t, at + CLIENT_EVENTS_AT) {
-        return false;
-    }
-    let handle = table_read::handle(t, at);
-    if handle.0 <= before.0 {
-        return false;
-    }
-    masks_sound(t, i)
-}
-
-// "live handles differ, aren't 0 and aren't over the number issued": each is over that of the client before it, so none is over the number issued
-// where the last isn't.
-pub fn clients_sound(t: &[u8]) -> bool
+// Whether there are as many clients as the head says: the last of them is there, and none after it. "live handles .. aren't over the number issued": no handle
+// is where the last isn't.
+fn counted(t: &[u8]) -> bool
     requires { ⌜ (length (now t) ≡ tableSize) × (clientsIn (now t) ≤ Table.mostClients) ⌝ }
-    ensures { λ r. ⌜ Says r (ClientsSound (now (t .entry))) ⌝ }
+    ensures { λ r. ⌜ Says r (Counted (now (t .entry))) ⌝ }
 {
     let clients = table_read::byte(t, CLIENTS_IN);
-    let mut before = Handle(0);
-    for i in 0..clients {
-        if !client_follows(t, i, before) {
-            return false;
-        }
-        before = table_read::handle(t, CLIENTS_AT + i * CLIENT_SIZE);
+    if table_read::word(t, HANDLES_AT + clients * HANDLE_SIZE) != 0 {
+        return false;
     }
-    before.0 as usize <= table_read::word(t, ISSUED_IN)
+    if clients == 0 {
+        return true;
+    }
+    let last = table_read::word(t, HANDLES_AT + (clients - 1) * HANDLE_SIZE);
+    if last == 0 {
+        return false;
+    }
+    last <= table_read::word(t, ISSUED_IN)
+}
+
+// Whether the places that no client can have are zero: handles from 302 up to 400, which are twelve eights and one more that overlaps the last of them,
+// attributes from 416 up to 464, and events from 496 up to 592.
+fn places_end(t: &[u8]) -> bool
+    requires { ⌜ length (now t) ≡ tableSize ⌝ }
+    ensures { λ r. ⌜ Says r (PlacesEnd (now (t .entry))) ⌝ }
+{
+    if !table_read::eights_zero(t, ATTRIBUTES_AT - EIGHT, 1) {
+        return false;
+    }
+    if !table_read::eights_zero(t, HANDLES_AT + MOST_CLIENTS * HANDLE_SIZE, 12) {
+        return false;
+    }
+    if !table_read::eights_zero(t, ATTRIBUTES_AT + MOST_CLIENTS * ATTRIBUTES_SIZE, 6) {
+        return false;
+    }
+    table_read::eights_zero(t, EVENTS_AT + MOST_CLIENTS * EVENTS_SIZE, 12)
+}
+
+// "live handles differ, aren't 0 and aren't over the number issued": the clients' numbers, and what no client uses of their places.
+pub fn clients_sound(t: &[u8]) -> bool
+    requires { ⌜ (length (now t) ≡ tableSize) × (clientsIn (now t) ≤ Table.mostClients) ⌝ }
+    ensures { λ r. ⌜ Says r (ClientsListed (now (t .entry))) ⌝ }
+{
+    if !places_sound(t) {
+        return false;
+    }
+    if !counted(t) {
+        return false;
+    }
+    places_end(t)
 }

@@ -10,5 +10,5 @@ pub use Bits.{lowest-bit, higher-bit, no-bit}
 pub use Sets.{one-shifted, or-left, or-right, exactly-none, exactly-empty, exactly-one, bit-and}
 pub use Sets.{exactly-both, exactly-as, exactly-more}
 pub use Some.{NoneYet, none-next, some-found, none-found}
-pub use Zeros.{zero-where, or-says, zero-joined, Gathered, gathered-none, gathered-more, gathered-says, place-false, place-says, live-used}
-pub use Quarters.{quarters-none, quarters-more, quarters-says}
+pub use Zeros.{zero-where, or-says, zero-joined, Gathered, gathered-none, gathered-more, gathered-joined, gathered-eight, gathered-says, place-false, place-says, live-used}
+pub use Quarters.{quarters-none, quarters-more, quarters-says, quarters-join, join-quarters}

@@ -1,8 +1,10 @@
--- Four stretches of one size, one after the other, each or-ed together by itself: what a loop over all four knows. Assumes nothing.
-use Rattle.facts.proofs.Words.{_≡_, sym, subst, List, ℕ, _+_, _*_, arith, bitOr, eqb, Says}
+-- Four stretches of one size, each or-ed together by itself: what a loop over all four knows. Assumes nothing.
+use Rattle.facts.proofs.Words.{_≡_, List, ℕ, _+_, _*_, by-cases, decLt, arith, bitOr, eqb, Says}
 use Rattle.facts.specs.{byte}
+use Rattle.facts.proofs.{says-as}
 use Rattle.layout.specs.{Zero}
-use Rattle.table_read.proofs.Zeros.{Gathered, gathered-none, gathered-more, gathered-joined}
+use Rattle.table_read.specs.{FourZero}
+use Rattle.table_read.proofs.Zeros.{or-says, Gathered, gathered-none, gathered-more}
 
 -- i bytes of each were passed
 pub record Quarters (b : List ℕ) (from second third fourth i x y z w : ℕ) : Type 0 where
@@ -27,18 +29,26 @@ module _ (b : List ℕ) (from second third fourth : ℕ) where
         more : (p all : ℕ) → Gathered b p (p + i) all → Gathered b p (p + (i + 1)) (bitOr all (byte b (p + i)))
         more p all = gathered-more b p (p + i) (p + (i + 1)) all (omega arith) (omega arith)
 
-    pub quarters-says : (size : ℕ) → second ≡ from + size → third ≡ second + size → fourth ≡ third + size → i ≡ size
-        → Says (eqb (bitOr (bitOr (bitOr x y) z) w) 0) (Zero b from (from + 4 * size))
-    quarters-says size e e₂ e₃ s =
-        gathered-joined b from fourth (from + 4 * size) (bitOr (bitOr x y) z) w (omega arith) (omega arith) three
-        (to fourth w (omega arith) (q .four)) .says
-      where
-        to : {end : ℕ} (p all : ℕ) → end ≡ p + i → Gathered b p (p + i) all → Gathered b p end all
-        to p all a = subst (λ (n : ℕ). Gathered b p n all) (sym a)
+    pub quarters-says : (size : ℕ) → i ≡ size → Says (eqb (bitOr (bitOr (bitOr x y) z) w) 0) (FourZero b from second third fourth size)
+    quarters-says size e =
+        let told = or-says (bitOr (bitOr x y) z) w (or-says (bitOr x y) z (or-says x y (q .one .says) (q .two .says)) (q .three .says)) (q .four .says) in
+        says-as (rw e at told) (λ p. record { one = p .0 .0 .0; two = p .0 .0 .1; three = p .0 .1; four = p .1 })
+        (λ p. (((p .one, p .two), p .three), p .four))
 
-        two : Gathered b from third (bitOr x y)
-        two =
-            gathered-joined b from second third x y (omega arith) (omega arith) (to from x (omega arith) (q .one)) (to second y (omega arith) (q .two))
+-- four quarters, one after the other
+pub quarters-join : {b : List ℕ} (from size : ℕ) → FourZero b from (from + size) (from + size + size) (from + size + size + size) size
+    → Zero b from (from + 4 * size)
+quarters-join from size z q l m =
+    by-cases (decLt q (from + size)) (z .one q l)
+    (λ x. by-cases (decLt q (from + size + size)) (z .two q (omega arith))
+    (λ y. by-cases (decLt q (from + size + size + size)) (z .three q (omega arith)) (λ w. z .four q (omega arith) (omega arith))))
 
-        three : Gathered b from fourth (bitOr (bitOr x y) z)
-        three = gathered-joined b from third fourth (bitOr x y) z (omega arith) (omega arith) two (to third z (omega arith) (q .three))
+pub join-quarters : {b : List ℕ} (from size : ℕ) → Zero b from (from + 4 * size)
+    → FourZero b from (from + size) (from + size + size) (from + size + size + size) size
+join-quarters from size z =
+    record {
+      one = λ q l m. z q (omega arith) (omega arith);
+      two = λ q l m. z q (omega arith) (omega arith);
+      three = λ q l m. z q (omega arith) (omega arith);
+      four = λ q l m. z q (omega arith) (omega arith);
+    }

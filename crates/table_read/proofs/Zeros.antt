@@ -1,9 +1,11 @@
 -- Numbers or-ed together are zero exactly if each of them is, and so are bytes; and a record of a grant is used or zero. Assumes nothing.
-use Rattle.facts.proofs.Words.{_≡_, _∙_, ap, _⊎_, inr, ⊎-elim, _≢_, List, Bool, false, ℕ, _+_, _≤_, ℕ-discrete, decLt, arith, eq-eqb, ne-eqb}
+use Rattle.facts.proofs.Words.{_≡_, _∙_, ap, _⊎_, inr, ⊎-elim, _≢_, List, Bool, false, ℕ, _+_, _-_, _≤_, _<_, ℕ-discrete, decLt, arith, eq-eqb, ne-eqb}
 use Rattle.facts.proofs.Words.{bitOr, or-add-and, and-le-l, and-le-r, eqb, Says, by-cases}
 use Rattle.facts.specs.{byte}
 use Rattle.facts.proofs.{told, says-true, says-false, says-as, says-eq}
 use Rattle.layout.specs.{Zero, LiveIn, ClientsSound}
+use Rattle.layout.proofs.{below-at}
+use Rattle.table_read.specs.{eight}
 
 -- a number is zero where what its being zero says is so
 pub zero-where : (n : ℕ) {P : Type 0} → Says (eqb n 0) P → P → n ≡ 0
@@ -41,6 +43,39 @@ gathered-more b from i next all h e g = gathered-joined b from i next all (byte 
   where
     here : Gathered b i next (byte b i)
     here = record { says = says-as (says-eq (byte b i) 0) (λ z k f l. ap (byte b) (omega arith) ∙ z) (λ z. z i (omega arith) (omega arith)) }
+
+-- so is the number of eight bytes
+pub gathered-eight : (b : List ℕ) (at to : ℕ) → to ≡ at + 8 → Gathered b at to (eight b at)
+gathered-eight b at to e =
+    record {
+      says = says-as (says-eq (eight b at) 0)
+          (λ z q l m. let j = q - at in
+          let there : q ≡ at + j = omega arith in
+          let here : at + 0 ≡ at = omega arith in
+          ap (byte b) there
+          ∙ below-at 8 (λ j. byte b (at + j) ≡ 0) (
+            (
+              (
+                (((((tt, ap (byte b) here ∙ omega (arith, z)), omega (arith, z)), omega (arith, z)), omega (arith, z)), omega (arith, z)),
+                omega (arith, z),
+              ),
+              omega (arith, z),
+            ),
+            omega (arith, z),
+          ) j (omega arith))
+          (λ z. let k : (j : ℕ) → j < 8 → byte b (at + j) ≡ 0 = (λ j l. z (at + j) (omega arith) (omega arith)) in
+          omega (
+            arith,
+            z at (omega arith) (omega arith),
+            k 1 (omega arith),
+            k 2 (omega arith),
+            k 3 (omega arith),
+            k 4 (omega arith),
+            k 5 (omega arith),
+            k 6 (omega arith),
+            k 7 (omega arith),
+          ));
+    }
 
 pub gathered-says : (b : List ℕ) (from i to all : ℕ) → i ≡ to → Gathered b from i all → Says (eqb all 0) (Zero b from to)
 gathered-says b from i to all s g = rw s at (g .says)

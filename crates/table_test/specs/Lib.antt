@@ -1,3 +1,3 @@
 -- What the contracts of `table_test` cite. Assumes nothing.
 pub mod Loading
-pub use Loading.{LoadedIs}
+pub use Loading.{ListsSound, RestSound, LoadedIs}

@@ -2,7 +2,7 @@
 use Rattle.facts.proofs.Words.{_≡_, refl, ap, sym, _∙_, _⊎_, inl, inr, ⊎-elim, List, ℕ, _+_, _-_, _≤_, _<_, eq-or-lt-of-le, arith}
 use Rattle.facts.proofs.Words.{length, set, length-set}
 use Rattle.facts.specs.{fresh, byte}
-use Rattle.layout.specs.{image, TakenOut, tableSize}
+use Rattle.layout.specs.{image, layoutMark, ClosedUp, TakenOut, tableSize}
 use Rattle.layout.proofs.{shows-image, fresh-shown, byte-same, byte-other}
 use Rattle.table_write.specs.{Filled, Moved, MovedUp, RoomMade, Cleared}
 
@@ -37,24 +37,31 @@ module _ {g : ℕ → ℕ} {b : List ℕ} where
         out p (inl m) = byte-other b′ i v p (omega arith) ∙ c .other p (inl (omega arith))
         out p (inr m) = byte-other b′ i v p (omega arith) ∙ c .other p (inr m)
 
--- a record taken out: those after it moved down, the last one cleared, the number written
-pub takes : {b b₁ b₂ : List ℕ} {count at bytes end : ℕ} → count < at → at + bytes ≤ end → end ≤ length b → 1 ≤ byte b count
-    → Moved b b₁ at (end - bytes) bytes → Cleared b₁ b₂ (end - bytes) end → TakenOut b (set b₂ count (byte b count - 1)) count at bytes end
-takes {b} {b₂ = b₂} {count} {at} {bytes} {end} before fits lent some m z =
+-- a record taken out: those after it moved down, the last one cleared
+pub closes : {b b₁ b₂ : List ℕ} {at bytes end : ℕ} → at + bytes ≤ end → Moved b b₁ at (end - bytes) bytes → Cleared b₁ b₂ (end - bytes) end
+    → ClosedUp b b₂ at bytes end
+closes fits m z =
     record {
-      size = length-set b₂ count v ∙ z .size ∙ m .size;
-      fewer = omega (arith, byte-same b₂ count v (omega (arith, z .size, m .size)));
-      moved = λ p l h. byte-other b₂ count v p (omega arith) ∙ z .other p (inl (omega arith)) ∙ m .filled p l (omega arith);
-      last = λ p l h. byte-other b₂ count v p (omega arith) ∙ z .filled p (omega arith) h;
-      other = λ p d o. byte-other b₂ count v p d ∙ rest p o;
+      size = z .size ∙ m .size;
+      moved = λ p l h. z .other p (inl (omega arith)) ∙ m .filled p l (omega arith);
+      last = λ p l h. z .filled p (omega arith) h;
+      other = λ p. ⊎-elim (λ l. z .other p (inl (omega arith)) ∙ m .other p (inl l)) (λ l. z .other p (inr l) ∙ m .other p (inr (omega arith)));
+    }
+
+-- and the number written
+pub takes : {b b₁ : List ℕ} {count at bytes end : ℕ} → count < at → at + bytes ≤ end → end ≤ length b → 1 ≤ byte b count → ClosedUp b b₁ at bytes end
+    → TakenOut b (set b₁ count (byte b count - 1)) count at bytes end
+takes {b} {b₁} {count} before fits lent some c =
+    record {
+      size = length-set b₁ count v ∙ c .size;
+      fewer = omega (arith, byte-same b₁ count v (omega (arith, c .size)));
+      moved = λ p l h. byte-other b₁ count v p (omega arith) ∙ c .moved p l h;
+      last = λ p l h. byte-other b₁ count v p (omega arith) ∙ c .last p l h;
+      other = λ p d o. byte-other b₁ count v p d ∙ c .other p o;
     }
   where
     v : ℕ
     v = byte b count - 1
-
-    rest : (p : ℕ) → (p < at) ⊎ (end ≤ p) → byte b₂ p ≡ byte b p
-    rest p (inl l) = z .other p (inl (omega arith)) ∙ m .other p (inl l)
-    rest p (inr l) = z .other p (inr l) ∙ m .other p (inr (omega arith))
 
 -- room made: those from there on moved up, the number written
 pub makes : {b b₁ : List ℕ} {count at bytes end : ℕ} → count < at → at + bytes ≤ end → end ≤ length b → MovedUp b b₁ at (end - bytes) bytes
@@ -71,10 +78,13 @@ makes {b} {b₁} {count} {at} {bytes} {end} before fits lent m =
     v : ℕ
     v = byte b count + 1
 
--- a cleared table with a socket count is a fresh one
-pub fresh-image : {b b′ : List ℕ} (n : ℕ) → length b ≡ tableSize → Cleared b b′ 0 tableSize → set b′ 0 n ≡ image (fresh n)
+-- a cleared table with the layout's mark and a socket count is a fresh one
+pub fresh-image : {b b′ : List ℕ} (n : ℕ) → length b ≡ tableSize → Cleared b b′ 0 tableSize → set (set b′ 0 layoutMark) 1 n ≡ image (fresh n)
 fresh-image {b′ = b′} n e c =
+    let marked = set b′ 0 layoutMark in
+    let long = length-set b′ 0 layoutMark ∙ c .size ∙ e in
+    let mark-there = byte-other marked 1 n 0 (omega arith) ∙ byte-same b′ 0 layoutMark (omega (arith, c .size)) in
     sym
-    (shows-image (fresh n) (set b′ 0 n)
-    (fresh-shown n (set b′ 0 n) (length-set b′ 0 n ∙ c .size ∙ e) (byte-same b′ 0 n (omega (arith, c .size)))
-    (λ p l m. byte-other b′ 0 n p (omega arith) ∙ c .filled p (omega arith) m)))
+    (shows-image (fresh n) (set marked 1 n) (omega arith)
+    (fresh-shown n (set marked 1 n) (length-set marked 1 n ∙ long) mark-there (byte-same marked 1 n (omega (arith, long)))
+    (λ p l m. byte-other marked 1 n p (omega arith) ∙ byte-other b′ 0 layoutMark p (omega arith) ∙ c .filled p (omega arith) m)))

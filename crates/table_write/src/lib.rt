@@ -1,4 +1,6 @@
 // Writes a table's bytes: numbers, a run of zeros, a record taken out, room for another, a fresh table.
+use layout::LAYOUT_MARK;
+use layout::MARK_IN;
 use layout::SOCKETS_IN;
 use layout::TABLE_SIZE;
 ghost use mathlib.Core.Path.{_≡_};
@@ -7,7 +9,7 @@ ghost use lib.ListN.{length};
 ghost use Rattle.facts.specs.Table;
 ghost use Rattle.facts.specs.Packets.{byte, withWord, withLong};
 ghost use Rattle.layout.specs.Layout.{image, tableSize};
-ghost use Rattle.layout.specs.Changed.{TakenOut};
+ghost use Rattle.layout.specs.Changed.{ClosedUp, TakenOut};
 ghost use Rattle.table_write.specs.Writing.{Moved, MovedUp, RoomMade, Cleared};
 
 // A number of two bytes at a place.
@@ -64,15 +66,23 @@ fn move_up(t: &mut [u8], from: usize, to: usize, far: usize)
     }
 }
 
+// The record of so many bytes at a place is taken out of those up to `end`: those after it move down, and the last one is cleared.
+pub fn close_up(t: &mut [u8], at: usize, bytes: usize, end: usize)
+    requires { ⌜ (at + bytes ≤ end) × (end ≤ length (now t)) × (1 ≤ bytes) ⌝ }
+    ensures { λ _. ⌜ ClosedUp (now (t .entry)) (now (t .exit)) at bytes end ⌝ }
+{
+    let last = end - bytes;
+    move_down(t, at, last, bytes);
+    clear(t, last, end);
+}
+
 // The record of so many bytes at a place is taken out, in a part that ends at `end` and whose number of records stands at `count`.
 pub fn take_out(t: &mut [u8], count: usize, at: usize, bytes: usize, end: usize)
     requires { ⌜ (count < at) × (at + bytes ≤ end) × (end ≤ length (now t)) × (1 ≤ bytes) × (1 ≤ byte (now t) count) ⌝ }
     ensures { λ _. ⌜ TakenOut (now (t .entry)) (now (t .exit)) count at bytes end ⌝ }
 {
     let n = t[count];
-    let last = end - bytes;
-    move_down(t, at, last, bytes);
-    clear(t, last, end);
+    close_up(t, at, bytes, end);
     t[count] = n - 1;
 }
 
@@ -92,5 +102,6 @@ pub fn make_fresh(t: &mut [u8], sockets: u8)
     ensures { λ _. ⌜ now (t .exit) ≡ image (Table.fresh sockets) ⌝ }
 {
     clear(t, 0, TABLE_SIZE);
+    t[MARK_IN] = LAYOUT_MARK;
     t[SOCKETS_IN] = sockets;
 }

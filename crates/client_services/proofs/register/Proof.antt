@@ -1,6 +1,6 @@
 -- `client_services::register` meets its contract: each check's answer says which end of the rule it is.
 -- Assumes nothing.
-use Rattle.facts.proofs.Words.{_≡_, refl, inl, needs, length, now}
+use Rattle.facts.proofs.Words.{_≡_, refl, inl, arith, needs, length, now}
 use Rattle.facts.specs.{registerLength}
 use Rattle.layout.proofs.{size-in}
 use Rattle.client_services.specs.{Asks, NextIs}
@@ -45,7 +45,10 @@ returns-3 c =
     register-full (start (sized k) .pre) (length-right (sized k)) (client k) (rw (c .enum-told4 .given .1) at (look .next-place .ensures))
 
 enter-requires : tie.Need-enter-requires
-enter-requires c κs = (size-in _ (start (sized (asked (c .before))) .pre), room (c .before) .room)
+enter-requires c κs =
+    let k = asked (c .before) in
+    let few = client k .attributes-allowed .bits in
+    (size-in _ (start (sized k) .pre), room (c .before) .room, omega (arith, client k .attributes-are, few))
 
 returns-4 : tie.Need-returns-4
 returns-4 c =

@@ -1,7 +1,7 @@
 -- `socket_masks::request` meets its contract: each check's answer says which end of the rule it is.
 -- Assumes nothing.
 use Rattle.facts.proofs.Words.{_≡_, ap, ℕ, _+_, arith, needs, now}
-use Rattle.facts.specs.{word, EventsAllowed, requestMaskLength, allEvents}
+use Rattle.facts.specs.{word, EventsAllowed, requestMaskLength}
 use Rattle.service_checks.specs.{BegunAt}
 use Rattle.service_checks.specs.declared.CardNeed.the-variants.{Needed}
 use Rattle.service_checks.proofs.{refused-ahead}
@@ -68,7 +68,7 @@ returns-3 c =
     let asked = events-of-look look in
     let k = seat-of-events asked in
     rw (written .write .ensures)
-    (request-done (start-of-seat k .pre) (begun k) (allEvents + events asked) (ap (λ (m : ℕ). allEvents + m) (events-allowed asked .0))
+    (request-done (start-of-seat k .pre) (begun k) (events asked + 1) (ap (λ (m : ℕ). m + 1) (events-allowed asked .0))
     (events-allowed asked .1) (rw (told .enum-told2 .given .1) at (look .mask-of .ensures)))
 
 returns-4 : tie.Need-returns-4

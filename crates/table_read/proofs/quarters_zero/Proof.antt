@@ -1,33 +1,14 @@
--- `table_read::quarters_zero` meets its contract. The loop's invariant: of each quarter, what is or-ed together is zero exactly if the bytes passed are.
--- The measure is what is left of one. Assumes nothing.
-use Rattle.facts.proofs.Words.{_-_, _≤_, arith}
-use Rattle.table_read.proofs.Quarters.{Quarters}
-use Rattle.table_read.proofs.{quarters-none, quarters-more, quarters-says}
+-- `table_read::quarters_zero` meets its contract: four stretches, one after the other, are one.
+-- Assumes nothing.
+use Rattle.facts.proofs.Words.{arith}
+use Rattle.facts.proofs.{says-as}
+use Rattle.table_read.proofs.{quarters-join, join-quarters}
 use Rattle.table_read.proofs.quarters_zero.Tie as tie
 
-abbrev Inv-loop : tie.InvT-loop
-Inv-loop t from size second third fourth all₀ all2₀ all3₀ all4₀ i₀ all all2 all3 all4 i =
-    (i ≤ size) × Quarters t from second third fourth i all all2 all3 all4
-
-abbrev μ-loop : tie.MeasureT-loop
-μ-loop t from size second third fourth all₀ all2₀ all3₀ all4₀ i₀ all all2 all3 all4 i = size - i
-
--- where two of the four bytes of a turn were read, and where the turn began
-abbrev halfway : tie.After-shared-slice-known4 Inv-loop μ-loop → tie.After-shared-slice-known2 Inv-loop μ-loop
-halfway c = c .before .before
-
-abbrev turn : tie.After-shared-slice-known2 Inv-loop μ-loop → tie.At-loop Inv-loop μ-loop
-turn c = c .before .before .before
-
-loop-again : tie.Need-loop-again Inv-loop μ-loop
-loop-again c = (omega arith, quarters-more _ _ _ _ _ _ _ _ _ _ (turn (halfway c) .loop .inv .1))
-
-returns : tie.Need-returns Inv-loop μ-loop
-returns c = quarters-says _ _ _ _ _ _ _ _ _ _ (c .before .loop .inv .1) _ (omega arith) (omega arith) (omega arith) (omega arith)
+returns : tie.Need-returns
+returns c =
+    let a = c .before .before .args in
+    says-as (c .four-zero .ensures) (quarters-join (a .from) (a .size)) (join-quarters (a .from) (a .size))
 
 pub quarters-zero-spec : {M : Type 1} → Rattle.table_read.proofs.quarters_zero.Statement.statement M
-quarters-zero-spec =
-    tie.close
-    (tie.spec Inv-loop μ-loop (λ c. omega arith) (λ c. omega arith) (λ c. omega arith) (λ c. (omega arith, quarters-none _ _ _ _ _))
-    (λ c. omega arith) (λ c. omega arith) (λ c. omega arith) (λ c. omega arith) (λ c. omega arith) (λ c. omega arith) (λ c. omega arith)
-    (λ c. omega arith) (λ c. omega arith) (λ c. omega arith) loop-again returns)
+quarters-zero-spec = tie.close (tie.spec (λ c. omega arith) (λ c. omega arith) (λ c. omega arith) (λ c κs. omega arith) returns)

@@ -1,4 +1,4 @@
--- `table_write::make_fresh` meets its contract: the cleared table with the socket count shows the fresh set.
+-- `table_write::make_fresh` meets its contract: the cleared table with the mark and the socket count shows the fresh set.
 -- Assumes nothing.
 use Rattle.facts.proofs.Words.{needs}
 use Rattle.table_write.proofs.{fresh-image}
@@ -11,4 +11,4 @@ returns c =
     fresh-image (start .args .sockets) (start .pre) (cleared .clear .ensures)
 
 pub make-fresh-spec : {M : Type 1} → Rattle.table_write.proofs.make_fresh.Statement.statement M
-make-fresh-spec = tie.close (tie.spec (λ c κs. search needs) (λ c. search needs) (λ c. search needs) returns)
+make-fresh-spec = tie.close (tie.spec (λ c κs. search needs) (λ c. search needs) (λ c. search needs) (λ c. search needs) returns)

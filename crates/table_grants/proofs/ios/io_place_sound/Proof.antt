@@ -7,7 +7,7 @@ use Rattle.layout.specs.{ioSize, ioPlace, ioSharedAt, ioSpareAt, Zero, LiveIn}
 use Rattle.seats.specs.declared.IoSeat.the-variants.{Held}
 use Rattle.seats.specs.{HeldIs}
 use Rattle.table_read.proofs.{place-false, place-says}
-use Rattle.table_grants.specs.{HolderSound, PortsSound}
+use Rattle.table_grants.specs.{PortsSound}
 use Rattle.table_grants.proofs.{long-zero, zero-long, ports-held, client-held, lines-held, held-fits}
 use Rattle.table_grants.proofs.ios.io_place_sound.Tie as tie
 
@@ -46,10 +46,8 @@ marked c = c .before .before
 abbrev tested : tie.Else3 → tie.Else2
 tested c = c .before .before
 
-holder : (c : tie.Else3) → let k = looked (spared (marked (tested c))) in HolderSound (table k) (word (table k) (ioPlace (seat k))) (seat k)
-holder c =
-    let g = spared (marked (tested c)) in
-    subst (λ (n : ℕ). HolderSound (table (looked g)) n (seat (looked g))) (client-held _ _ _ (there g)) (says-yes (c .before .holder-sound .ensures) (c .if3 .left))
+client : (c : tie.After-known-told) → c .before .held2 .given .0 .0 .client .0 ≡ word (table (looked c)) (ioPlace (seat (looked c)))
+client c = client-held _ _ _ (there c)
 
 returns : tie.Need-returns
 returns c =
@@ -73,9 +71,7 @@ returns-3 c =
 returns-4 : tie.Need-returns-4
 returns-4 c =
     let g = spared (marked (c .before .before)) in
-    place-false (used g)
-    (λ p. says-no (c .before .holder-sound .ensures) (c .if3 .taken)
-    (record { live = subst (LiveIn (table (looked g))) (sym (client-held _ _ _ (there g))) (p .client); socket = p .socket }))
+    place-false (used g) (λ p. says-no (c .before .live .ensures) (c .if3 .taken) (subst (LiveIn (table (looked g))) (sym (client g)) (p .client)))
 
 ports-sound-requires : tie.Need-ports-sound-requires
 ports-sound-requires c κs =
@@ -84,7 +80,7 @@ ports-sound-requires c κs =
     let s = start k in
     let pre = s .pre .0 in
     let fits = held-fits _ _ _ (there g) (λ i. omega (arith, k .before .before .shared-slice-known .given i)) in
-    ((pre .0, pre .2 .ranges-most, pre .4, rw (lines-held _ _ _ (there g)) (s .pre .1 _ (holder c .socket) (there g .0))), fits)
+    ((pre .0, pre .2 .ranges-most, pre .4, rw (lines-held _ _ _ (there g)) (s .pre .1 _ (pre .1) (there g .0))), fits)
 
 returns-5 : tie.Need-returns-5
 returns-5 c =
@@ -94,7 +90,8 @@ returns-5 c =
     let k = looked g in
     let at = ioPlace (seat k) in
     let b = table k in
-    let h = holder (c .before) in
+    let socket = start k .pre .0 .1 in
+    let live = subst (LiveIn b) (client g) (says-yes (c .before .before .live .ensures) (c .before .if3 .left)) in
     let mark : byte b (at + ioSharedAt) ≤ 1 = omega (arith, test .if2 .left, test .before .byte .ensures .0 ∙ ap (λ (p : ℕ). byte b (p + ioSharedAt)) (place k)) in
     let none = sym (free .before .long .ensures .0 ∙ ap (λ (p : ℕ). long b (p + ioSpareAt)) (place k)) ∙ free .if1 .left in
     let spare = long-zero b (at + ioSpareAt) (at + ioSize) (omega arith) none in

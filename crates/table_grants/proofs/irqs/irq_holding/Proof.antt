@@ -1,7 +1,6 @@
 -- `table_grants::irqs::irq_holding` meets its contract: a level below 16 and a manner below 4 are a number below 64, so no bit is shifted out.
 -- Assumes nothing.
 use Rattle.facts.proofs.Words.{_≡_, sym, _∙_, _<_, arith, needs, now, shl-exact, List, ℕ}
-use Rattle.facts.specs.{byte, word}
 use Rattle.layout.specs.{irqSize, irqPlace, IrqUsed}
 use Rattle.layout.proofs.{used-sound}
 use Rattle.table_read.proofs.{one-shifted, exactly-none}

@@ -71,9 +71,10 @@ returns-5 c =
     let managed = sym (level-byte (tested .before)) ∙ tested .if3 .left in
     let in-manner = last .before .byte3 .ensures .0 ∙ ap (λ (p : ℕ). byte (table k) (p + irqMannerAt)) (place k) in
     let manner : byte (table k) (at + irqMannerAt) ≤ 3 = omega (arith, last .if4 .left, in-manner) in
-    place-says (used begin) (c .irq-holder-sound .ensures)
-    (λ h. let live = subst (LiveIn (table k)) client (h .live) in (live-used (table k) (start k .pre .0 .3) live, search needs))
-    (λ g. record { live = subst (LiveIn (table k)) (sym client) (g .client); socket = g .socket })
+    let socket = start k .pre .0 .1 in
+    place-says (used begin) (c .irq-holder-live .ensures)
+    (λ h. let live = subst (LiveIn (table k)) client h in (live-used (table k) (start k .pre .0 .3) live, search needs))
+    (λ g. subst (LiveIn (table k)) (sym client) (g .client))
 
 pub irq-place-sound-spec : {M : Type 1} → Rattle.table_grants.proofs.irqs.irq_place_sound.Statement.statement M
 irq-place-sound-spec =
