@@ -12,6 +12,10 @@ Inv-loop t steps from clients over₀ i₀ over i = (i ≤ clients) × (over ≤
 abbrev μ-loop : tie.MeasureT-loop
 μ-loop t steps from clients over₀ i₀ over i = clients - i
 
+-- where the call began
+abbrev start : tie.At-loop Inv-loop μ-loop → tie.Start Inv-loop μ-loop
+start c = c .before .before .before
+
 loop-again : tie.Need-loop-again Inv-loop μ-loop
 loop-again c =
     let row = c .before in
@@ -28,4 +32,4 @@ pub rows-over-spec : {M : Type 1} → Rattle.table_lists.proofs.masks.r
 rows-over-spec =
     tie.close
     (tie.spec Inv-loop μ-loop (λ c κs. omega arith) (λ c. (omega arith, omega arith, flawless-none _)) (λ c. omega arith) (λ c. omega arith)
-    (λ c κs. (omega arith, c .before .before .before .before .pre .2)) (λ c κs. omega arith) (λ c. omega arith) (λ c. omega arith) loop-again returns)
+    (λ c κs. (omega arith, start (c .before) .pre .2)) (λ c κs. omega arith) (λ c. omega arith) (λ c. omega arith) loop-again returns)
