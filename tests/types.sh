@@ -50,7 +50,7 @@ refused() {
 refused client_services lib.rt 'holds(t, i, h)' 'holds(t, i, i)' Handle usize
 refused client_services lib.rt 'enter(t, n, handle,' 'enter(t, handle, n,' usize Handle
 refused client_services lib.rt 'grant_on(t, Seat(s), h)' 'grant_on(t, h, h)' Seat Handle
-refused table_grants company.rt 'enter(t, Seat(s), &mut held)' 'enter(t, s, &mut held)' Seat usize
+refused table_company lib.rt 'enter(t, Seat(s), &mut held)' 'enter(t, s, &mut held)' Seat usize
 refused irq_sharers lib.rt 'sharer(t, level, Seat(s))' 'sharer(t, level, s)' Seat usize
 refused keeper lib.rt 'client_services::deregister(table, h, packet)' \
     'client_services::deregister(table, Socket(3), packet)' Handle Socket

@@ -1,13 +1,12 @@
 -- The rows of the gaps, filled in one after the other, are those of the table. Assumes nothing.
-use Rattle.facts.proofs.Words.{_≡_, refl, ap, sym, subst, _∙_, _⊎_, inl, inr, _≢_, List, ℕ, _+_, _-_, _%_, _^_, _≤_, _<_, min, add-zero, mod-lt}
-use Rattle.facts.proofs.Words.{mod-eq-of-lt, eq-or-lt-of-le, decLt, ℕ-discrete, arith, eqb-true, eqb-false, eqb, length, getD, set, length-set}
-use Rattle.facts.proofs.Words.{replicate, length-replicate, getD-replicate, getD-set-same, getD-set-other, pow-pos, pow-mono, Ports, Says, Bool}
-use Rattle.facts.specs.{Meet, allPorts, mostLines, mostRanges}
-use Rattle.layout.specs.{rangesIn, RangesSound, rangeBase, endBefore}
-use Rattle.layout.proofs.{rangeEnd, end-next}
-use Rattle.table_read.proofs.{All, all-none}
+use Rattle.facts.proofs.Words.{_≡_, refl, ap, sym, subst, subst⁻¹, _∙_, _≢_, List, ℕ, zero, suc, _+_, _-_, _%_, _^_, _≤_, _<_, min, max, mod-lt}
+use Rattle.facts.proofs.Words.{by-cases, decLt, ℕ-discrete, arith, length, set, length-set, replicate, length-replicate, getD-replicate, getD-set-same}
+use Rattle.facts.proofs.Words.{getD-set-other, pow-pos, pow-mono, Ports, Says, Bool}
+use Rattle.facts.specs.{Meet, Within, allPorts, mostLines, mostRanges}
+use Rattle.layout.specs.{below, rangesIn, RangesSound, rangeBase, endBefore}
+use Rattle.layout.proofs.{below-in, below-past, rangeEnd, end-next}
 use Rattle.facts.proofs.{says-as}
-use Rattle.io_ranges.proofs.{meet-near, near-meet}
+use Rattle.io_ranges.proofs.{all-ports-mod, meet-near, near-meet}
 use Rattle.io_answering.specs.{startAt, gapIn, MeetsGap, mostGaps, mostCounted, NoGaps, rowAt, RowsFit, MeetsRows, GapsAre, portsFrom}
 use Rattle.io_answering.proofs.Gaps.{start-listed, start-last, ends-within, gap-ends}
 
@@ -61,42 +60,51 @@ module _ (g row a : Ports) (is : RowIs g row) (all : g .lines ≡ mostLines) (lo
         base : row .base ≡ g .base
         base = is .base (omega (arith, is .count, m .other-in .from, m .other-in .below))
 
--- rows in which one gap is entered
-module _ (rows : List ℕ) (n base count : ℕ) (long : mostGaps + mostGaps ≤ length rows) (l : n < mostGaps) where
-  abbrev entered : List ℕ
-  entered = set (set rows n base) (mostGaps + n) count
-
-  pub entered-long : mostGaps + mostGaps ≤ length entered
-  entered-long = omega (arith, length-set (set rows n base) (mostGaps + n) count ∙ length-set rows n base, long)
-
-  entered-base : rowAt entered n .base ≡ base
-  entered-base =
-      getD-set-other (set rows n base) (mostGaps + n) n count 0 (λ e. omega (arith, e)) ∙ getD-set-same rows n base 0 (omega (arith, long))
-
-  entered-count : rowAt entered n .count ≡ count
-  entered-count = getD-set-same (set rows n base) (mostGaps + n) count 0 (omega (arith, length-set rows n base, long))
-
-  other-base : (i : ℕ) → i < mostGaps → i ≢ n → rowAt entered i .base ≡ rowAt rows i .base
-  other-base i h d =
-      getD-set-other (set rows n base) (mostGaps + n) i count 0 (λ e. omega (arith, e)) ∙ getD-set-other rows n i base 0 (λ e. d (omega (arith, e)))
-
-  other-count : (i : ℕ) → i ≢ n → rowAt entered i .count ≡ rowAt rows i .count
-  other-count i d =
-      getD-set-other (set rows n base) (mostGaps + n) (mostGaps + i) count 0 (λ e. d (omega (arith, e)))
-      ∙ getD-set-other rows n (mostGaps + i) base 0 (λ e. omega (arith, e))
-
--- the gaps before the place n are filled in, and the others have no port
-pub record Filled (b rows : List ℕ) (n : ℕ) : Type 0 where
+-- the gaps of so many places are filled in, and the others have no port
+pub record Filled (gap : ℕ → Ports) (rows : List ℕ) (n : ℕ) : Type 0 where
   pub long : mostGaps + mostGaps ≤ length rows
   pub bases : (i : ℕ) → i < mostGaps → rowAt rows i .base ≤ allPorts
-  pub filled : All n (λ i. RowIs (gapIn b i) (rowAt rows i))
+  pub filled : (i : ℕ) → i < n → RowIs (gap i) (rowAt rows i)
   pub rest : (i : ℕ) → n ≤ i → i < mostGaps → rowAt rows i .count ≡ 0
 
--- a walk over the ranges has come to the place i, and the ranges passed end at `end`
-pub record Filling (b rows : List ℕ) (end i : ℕ) : Type 0 where
-  pub listed : i ≤ rangesIn b
-  pub ends : end ≡ endBefore b i
-  pub filled : Filled b rows i
+-- one gap more is entered in the place k: the others stay, where they are those that were filled in
+module _ {gap gap′ : ℕ → Ports} {rows : List ℕ} {n n′ : ℕ} (f : Filled gap rows n) (k base count : ℕ) (l : k < mostGaps) (here : k < n′) (longer : n ≤ n′)
+    (others : (i : ℕ) → i < n′ → i ≢ k → (i < n) × (gap i ≡ gap′ i)) where
+  abbrev entered : List ℕ
+  entered = set (set rows k base) (mostGaps + k) count
+
+  same-length : length entered ≡ length rows
+  same-length = length-set (set rows k base) (mostGaps + k) count ∙ length-set rows k base
+
+  new-base : rowAt entered k .base ≡ base
+  new-base =
+      getD-set-other (set rows k base) (mostGaps + k) k count 0 (λ e. omega (arith, e)) ∙ getD-set-same rows k base 0 (omega (arith, f .long))
+
+  new-count : rowAt entered k .count ≡ count
+  new-count = getD-set-same (set rows k base) (mostGaps + k) count 0 (omega (arith, length-set rows k base, f .long))
+
+  other-base : (i : ℕ) → i < mostGaps → i ≢ k → rowAt entered i .base ≡ rowAt rows i .base
+  other-base i h d = getD-set-other (set rows k base) (mostGaps + k) i count 0 (λ e. omega (arith, e)) ∙ getD-set-other rows k i base 0 d
+
+  other-count : (i : ℕ) → i ≢ k → rowAt entered i .count ≡ rowAt rows i .count
+  other-count i d =
+      getD-set-other (set rows k base) (mostGaps + k) (mostGaps + i) count 0 (λ e. d (omega (arith, e)))
+      ∙ getD-set-other rows k (mostGaps + i) base 0 (λ e. omega (arith, e))
+
+  pub filled-at : base ≤ allPorts → n′ ≤ mostGaps → RowIs (gap′ k) (record { base = base; count = count; lines = mostLines }) → Filled gap′ entered n′
+  filled-at low most is =
+      record {
+        long = omega (arith, same-length, f .long);
+        bases = λ i m. by-cases (ℕ-discrete i k) (λ e. subst⁻¹ (λ (j : ℕ). rowAt entered j .base ≤ allPorts) e (omega (arith, new-base, low)))
+            (λ d. omega (arith, other-base i m d, f .bases i m));
+        filled = λ i m. by-cases (ℕ-discrete i k)
+            (λ e. subst⁻¹ (λ (j : ℕ). RowIs (gap′ j) (rowAt entered j)) e
+            (record { base = λ some. new-base ∙ is .base some; count = new-count ∙ is .count; lines = is .lines }))
+            (λ d. let old = others i m d in
+            let row = subst (λ (g : Ports). RowIs g (rowAt rows i)) (old .1) (f .filled i (old .0)) in
+            record { base = λ some. other-base i (omega arith) d ∙ row .base some; count = other-count i d ∙ row .count; lines = row .lines });
+        rest = λ i m h. other-count i (λ e. omega (arith, e)) ∙ f .rest i (omega arith) h;
+      }
 
 -- zeros have no gap yet
 pub none-yet : (n : ℕ) (rows : List ℕ) → rows ≡ replicate n 0 → mostGaps + mostGaps ≤ n → NoGaps rows
@@ -106,135 +114,180 @@ none-yet n rows e l = subst NoGaps (sym e) (record { room = omega (arith, long);
     long = length-replicate n 0
 
 -- before the first gap is, all are 0
-pub filled-none : (b rows : List ℕ) → NoGaps rows → Filled b rows 0
-filled-none b rows none =
+filled-none : (gap : ℕ → Ports) (rows : List ℕ) → NoGaps rows → Filled gap rows 0
+filled-none gap rows none =
     record {
       long = none .room;
       bases = λ i l. omega (arith, none .empty i (omega (arith, none .room)));
-      filled = all-none _;
+      filled = λ i l. absurd (omega arith);
       rest = λ i l h. none .empty (mostGaps + i) (omega (arith, none .room));
     }
 
-pub filling-start : (b rows : List ℕ) → NoGaps rows → Filling b rows 0 0
-filling-start b rows none = record { listed = omega arith; ends = refl; filled = filled-none b rows none }
+fits : {gap : ℕ → Ports} {rows : List ℕ} {n : ℕ} → Filled gap rows n → RowsFit rows
+fits {gap} {rows} {n} f =
+    record {
+      bases = f .bases;
+      counts = λ i l. by-cases (decLt i n) (λ m. omega (arith, f .filled i m .count)) (λ m. omega (arith, f .rest i (omega arith) l));
+    }
 
 -- rows without a port, for a card that decodes all lines
 pub none-are : (b rows : List ℕ) (lines : ℕ) → NoGaps rows → lines ≡ mostLines → GapsAre b lines rows
-none-are b rows lines none e =
-    record {
-      fits = record { bases = f .bases; counts = λ i l. omega (arith, f .rest i (omega arith) l) };
-      are = λ l. absurd (omega arith);
-    }
-  where
-    f : Filled b rows 0
-    f = filled-none b rows none
+none-are b rows lines none e = record { fits = fits (filled-none (gapIn b) rows none); are = λ l. absurd (omega arith) }
 
-module _ (b rows : List ℕ) (s : RangesSound b) where
-  -- the next gap, from `end` up to a start
-  module _ (n end start count : ℕ) (l : n < mostGaps) (h : n ≤ rangesIn b) (ends : end ≡ endBefore b n) (starts : start ≡ startAt b n)
-      (counts : count ≡ min (start - end) mostCounted) (f : Filled b rows n) where
-    abbrev new : List ℕ
-    new = set (set rows n (end % allPorts)) (mostGaps + n) count
+-- a walk over the ranges has come to the place i, and the ranges passed end at `end`
+pub record Filling (b rows : List ℕ) (end i : ℕ) : Type 0 where
+  pub listed : i ≤ rangesIn b
+  pub ends : end ≡ endBefore b i
+  pub filled : Filled (gapIn b) rows i
 
-    low : end % allPorts < allPorts
-    low = let positive : 0 < allPorts = omega arith in mod-lt end positive
+pub filling-start : (b rows : List ℕ) → NoGaps rows → Filling b rows 0 0
+filling-start b rows none = record { listed = omega arith; ends = refl; filled = filled-none (gapIn b) rows none }
 
-    -- one that has a port begins below FFFF
-    row : RowIs (gapIn b n) (rowAt new n)
-    row =
-        record {
-          base = λ some.
-              entered-base rows n (end % allPorts) count (f .long) l
-              ∙ mod-eq-of-lt (omega (arith, ends, starts, some, start-most))
-              ∙ ends;
-          count = entered-count rows n (end % allPorts) count (f .long) l ∙ counts ∙ width;
-          lines = refl;
-        }
-      where
-        start-most : startAt b n ≤ allPorts
-        start-most = gap-ends b s n h .1
-
-        width : min (start - end) mostCounted ≡ min (gapIn b n .count) mostCounted
-        width = ap (λ (x : ℕ). min (x - end) mostCounted) starts ∙ ap (λ (x : ℕ). min (startAt b n - x) mostCounted) ends
-
-    pub filled-more : Filled b new (n + 1)
-    filled-more =
-        record {
-          long = entered-long rows n (end % allPorts) count (f .long) l;
-          bases = bases;
-          filled = filled;
-          rest = λ i m k.
-              other-count rows n (end % allPorts) count (f .long) l i (λ e. omega (arith, e)) ∙ f .rest i (omega arith) k;
-        }
-      where
-        bases : (i : ℕ) → i < mostGaps → rowAt new i .base ≤ allPorts
-        bases i m = same-or-not (ℕ-discrete i n)
-          where
-            same-or-not : Dec (i ≡ n) → rowAt new i .base ≤ allPorts
-            same-or-not (yes e) =
-                subst (λ (k : ℕ). rowAt new k .base ≤ allPorts) (sym e)
-                (omega (arith, entered-base rows n (end % allPorts) count (f .long) l, low))
-            same-or-not (no d) = omega (arith, other-base rows n (end % allPorts) count (f .long) l i m d, f .bases i m)
-
-        filled : All (n + 1) (λ i. RowIs (gapIn b i) (rowAt new i))
-        filled i m = either-way (eq-or-lt-of-le (omega arith))
-          where
-            either-way : (i ≡ n) ⊎ (i < n) → RowIs (gapIn b i) (rowAt new i)
-            either-way (inl e) = subst (λ (k : ℕ). RowIs (gapIn b k) (rowAt new k)) (sym e) row
-            either-way (inr k) =
-                let d : i ≢ n = λ e. omega (arith, e) in
-                let old = f .filled i k in
-                record {
-                  base = λ some. other-base rows n (end % allPorts) count (f .long) l i (omega arith) d ∙ old .base some;
-                  count = other-count rows n (end % allPorts) count (f .long) l i d ∙ old .count;
-                  lines = refl;
-                }
-
-  -- the gap before the range in the place i, and the one after the last range
-  pub filling-more : (end start count next i : ℕ) → Filling b rows end i → i < rangesIn b → rangesIn b ≤ mostRanges → start ≡ rangeBase b i
+module _ (b rows : List ℕ) (s : RangesSound b) (most : rangesIn b ≤ mostRanges) where
+  -- the gap before the range in the place i
+  pub filling-more : (end start count next i : ℕ) → Filling b rows end i → i < rangesIn b → start ≡ rangeBase b i
       → count ≡ min (start - end) mostCounted
       → next ≡ rangeEnd b i
       → Filling b (set (set rows i (end % allPorts)) (mostGaps + i) count) next (i + 1)
-  filling-more end start count next i f l most starts counts ends =
+  filling-more end start count next i f l starts counts ends =
       record {
         listed = omega arith;
         ends = ends ∙ sym (end-next b i);
-        filled =
-            filled-more i end start count (omega arith) (f .listed) (f .ends) (starts ∙ sym (start-listed b i l)) counts (f .filled);
+        filled = filled-at (f .filled) i (end % allPorts) count (omega arith) (omega arith) (omega arith) (λ j m d. (omega (arith, d), refl)) (omega arith)
+            (omega arith)
+            (record {
+              base = λ some. omega (arith, f .ends, is, some, gap-ends b s i (f .listed) .1);
+              count = omega (arith, counts, is, f .ends);
+              lines = refl;
+            });
       }
-
-  pub filling-last : (end count i n : ℕ) → Filling b rows end i → n ≡ rangesIn b → n ≤ i → rangesIn b ≤ mostRanges
-      → count ≡ min (allPorts - end) mostCounted
-      → Filled b (set (set rows n (end % allPorts)) (mostGaps + n) count) (n + 1)
-  filling-last end count i n f e l most counts =
-      filled-more n end allPorts count (omega arith) (here .listed) (here .ends) (sym (start-last b n (omega arith))) counts (here .filled)
     where
-      here : Filling b rows end n
-      here = let same : i ≡ n = omega (arith, f .listed) in subst (Filling b rows end) same f
+      is : start ≡ startAt b i
+      is = starts ∙ sym (start-listed b i l)
 
--- once all are filled in, the rows are those of the table
-module _ (b rows : List ℕ) (s : RangesSound b) (most : rangesIn b ≤ mostRanges) (n : ℕ) (all : n ≡ rangesIn b + 1) (f : Filled b rows n) where
-  fits : RowsFit rows
-  fits = record { bases = f .bases; counts = λ i l. counted i l (decLt i n) }
-    where
-      counted : (i : ℕ) → i < mostGaps → Dec (i < n) → rowAt rows i .count ≤ mostCounted
-      counted i l (yes m) = omega (arith, f .filled i m .count)
-      counted i l (no m) = omega (arith, f .rest i (omega arith) l)
+  -- the gap past the last range goes on before the first one, at so many ports
+  module _ (end first count : ℕ) (f : Filling b rows end (rangesIn b)) (is : first ≡ rowAt rows 0 .count)
+      (counts : count ≡ min (allPorts - end + first) mostCounted) where
+    abbrev n : ℕ
+    n = rangesIn b
 
-  has : (a : Ports) → a .lines < mostLines → MeetsGap b a → MeetsRows rows a
-  has a l (i, h, m) =
-      (i, omega arith, met-row (gapIn b i) (rowAt rows i) a (f .filled i (omega arith)) refl (ends-within b s i h) l m)
+    abbrev before : ℕ
+    before = below n 0 (λ _. startAt b 0) 0
 
-  only : (a : Ports) → a .lines < mostLines → MeetsRows rows a → MeetsGap b a
-  only a l (i, h, m) = below-or-not (decLt i n)
-    where
-      below-or-not : Dec (i < n) → MeetsGap b a
-      below-or-not (yes k) =
-          (i, omega arith, row-met (gapIn b i) (rowAt rows i) a (f .filled i k) refl (ends-within b s i (omega arith)) l m)
-      below-or-not (no k) = absurd (omega (arith, f .rest i (omega arith) h, m .other-in .from, m .other-in .below))
+    abbrev around : ℕ → Ports
+    around zero = record { base = end % allPorts; count = allPorts - end + before; lines = mostLines }
+    around (suc i) = gapIn b (suc i)
 
-  pub rows-are : (lines : ℕ) → GapsAre b lines rows
-  rows-are lines = record { fits = fits; are = λ l. record { has = has; only = only } }
+    ends-in : end ≤ allPorts
+    ends-in = omega (arith, f .ends, ends-within b s n (omega arith))
+
+    some-before : 0 < n → before ≡ startAt b 0
+    some-before l = below-in n 0 (λ _. startAt b 0) 0 l
+
+    none-before : n ≡ 0 → before ≡ 0
+    none-before e = below-past n 0 (λ _. startAt b 0) 0 (omega (arith, e))
+
+    counted : first ≡ min before mostCounted
+    counted =
+        by-cases (decLt 0 n) (λ l. omega (arith, is, f .filled .filled 0 l .count, some-before l))
+        (λ l. omega (arith, is, f .filled .rest 0 (omega arith) (omega arith), none-before (omega arith)))
+
+    abbrev last-filled : List ℕ
+    last-filled = set (set rows 0 (end % allPorts)) (mostGaps + 0) count
+
+    all-filled : Filled around last-filled (max n 1)
+    all-filled =
+        filled-at (f .filled) 0 (end % allPorts) count (omega arith) (omega arith) (omega arith) others (omega arith) (omega arith)
+        (record { base = λ some. refl; count = omega (arith, counts, counted); lines = refl })
+      where
+        others : (i : ℕ) → i < max n 1 → i ≢ 0 → (i < n) × (gapIn b i ≡ around i)
+        others zero m d = absurd (d refl)
+        others (suc i) m d = (omega arith, refl)
+
+    -- a card that doesn't decode all lines answers there exactly if it does past the last range or before the first one
+    module _ (a : Ports) (fewer : a .lines < mostLines) where
+      abbrev lines : ℕ
+      lines = min (a .lines) mostLines
+
+      repeats : (p : ℕ) → (p + allPorts) % 2 ^ lines ≡ p % 2 ^ lines
+      repeats = all-ports-mod lines (omega arith)
+
+      moved : (g g′ : Ports) (m : Meet a g) (p : ℕ) → g .lines ≡ mostLines → g′ .lines ≡ mostLines → p % 2 ^ lines ≡ m .other % 2 ^ lines
+          → Within p (g′ .base) (g′ .count) → Meet a g′
+      moved g g′ m p e e′ same w =
+          record {
+            one = m .one;
+            other = p;
+            one-in = m .one-in;
+            other-in = w;
+            equal = subst⁻¹ (λ (k : ℕ). m .one % 2 ^ min (a .lines) k ≡ p % 2 ^ min (a .lines) k) e′
+                (subst (λ (k : ℕ). m .one % 2 ^ min (a .lines) k ≡ m .other % 2 ^ min (a .lines) k) e (m .equal) ∙ sym same);
+          }
+
+      past-last : Meet a (gapIn b n) → Meet a (around 0)
+      past-last m =
+          moved (gapIn b n) (around 0) m (m .other) refl refl refl
+          (record {
+            from = omega (arith, f .ends, m .other-in .from, m .other-in .below, start-last b n (omega arith));
+            below = omega (arith, f .ends, m .other-in .from, m .other-in .below, start-last b n (omega arith));
+          })
+
+      before-first : 0 < n → Meet a (gapIn b 0) → Meet a (around 0)
+      before-first l m =
+          by-cases (decLt end allPorts)
+          (λ h. moved (gapIn b 0) (around 0) m (m .other + allPorts) refl refl (repeats (m .other))
+          (record { from = omega arith; below = omega (arith, some-before l, m .other-in .below) }))
+          (λ h. moved (gapIn b 0) (around 0) m (m .other) refl refl refl
+          (record { from = omega (arith, ends-in); below = omega (arith, some-before l, m .other-in .below) }))
+
+      round-met : Meet a (around 0) → MeetsGap b a
+      round-met m = either-way (decLt end allPorts) (decLt (m .other) allPorts)
+        where
+          first-met : (p : ℕ) → p % 2 ^ lines ≡ m .other % 2 ^ lines → p < before → MeetsGap b a
+          first-met p same l =
+              let some : 0 < n = by-cases (decLt 0 n) (λ h. h) (λ h. absurd (omega (arith, l, none-before (omega arith)))) in
+              (0, omega arith, moved (around 0) (gapIn b 0) m p refl refl same (record { from = omega arith; below = omega (arith, l, some-before some) }))
+
+          either-way : Dec (end < allPorts) → Dec (m .other < allPorts) → MeetsGap b a
+          either-way (yes l) (yes h) = (
+            n,
+            omega arith,
+            moved (around 0) (gapIn b n) m (m .other) refl refl refl
+                (record { from = omega (arith, f .ends, m .other-in .from); below = omega (arith, f .ends, start-last b n (omega arith)) }),
+          )
+          either-way (yes l) (no h) =
+              let p = m .other - allPorts in
+              let up : p + allPorts ≡ m .other = omega arith in
+              first-met p (sym (repeats p) ∙ ap (λ (q : ℕ). q % 2 ^ lines) up) (omega (arith, m .other-in .below))
+          either-way (no l) h = first-met (m .other) refl (omega (arith, ends-in, m .other-in .below))
+
+    has : (a : Ports) → a .lines < mostLines → MeetsGap b a → MeetsRows last-filled a
+    has a l (i, h, m) = in-turn i (ℕ-discrete i n) h m
+      where
+        row : (i : ℕ) → i < max n 1 → around i .lines ≡ mostLines → around i .base ≤ allPorts → Meet a (around i) → MeetsRows last-filled a
+        row i k all low m = (i, omega arith, met-row (around i) (rowAt last-filled i) a (all-filled .filled i k) all low l m)
+
+        first-row : Meet a (around 0) → MeetsRows last-filled a
+        first-row = row 0 (omega arith) refl (omega arith)
+
+        in-turn : (i : ℕ) → Dec (i ≡ n) → i ≤ n → Meet a (gapIn b i) → MeetsRows last-filled a
+        in-turn i (yes e) h m = first-row (past-last a l (subst (λ (k : ℕ). Meet a (gapIn b k)) e m))
+        in-turn zero (no d) h m = first-row (before-first a l (omega (arith, d)) m)
+        in-turn (suc i) (no d) h m = row (suc i) (omega (arith, d)) refl (ends-within b s (suc i) h) m
+
+    only : (a : Ports) → a .lines < mostLines → MeetsRows last-filled a → MeetsGap b a
+    only a l (i, h, m) = in-turn i h m (decLt i (max n 1))
+      where
+        met : (i : ℕ) → i < max n 1 → around i .lines ≡ mostLines → around i .base ≤ allPorts → Meet a (rowAt last-filled i) → Meet a (around i)
+        met i k all low m = row-met (around i) (rowAt last-filled i) a (all-filled .filled i k) all low l m
+
+        in-turn : (i : ℕ) → i < mostGaps → Meet a (rowAt last-filled i) → Dec (i < max n 1) → MeetsGap b a
+        in-turn i h m (no k) = absurd (omega (arith, all-filled .rest i (omega arith) h, m .other-in .from, m .other-in .below))
+        in-turn zero h m (yes k) = round-met a l (met 0 k refl (omega arith) m)
+        in-turn (suc i) h m (yes k) = (suc i, omega arith, met (suc i) k refl (ends-within b s (suc i) (omega arith)) m)
+
+    pub rows-are : (lines : ℕ) → GapsAre b lines last-filled
+    rows-are lines = record { fits = fits all-filled; are = λ l. record { has = has; only = only } }
 
 -- a card answers in no gap of the rows exactly if it does in none of the table
 pub gaps-say : (b rows : List ℕ) (count lines x : ℕ) → GapsAre b lines rows → lines < mostLines → {r : Bool}

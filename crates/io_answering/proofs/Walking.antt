@@ -1,12 +1,11 @@
 -- Whether a card answers in a gap of the rows: how far it is ahead of each. Assumes nothing.
-use Rattle.facts.proofs.Words.{_≡_, refl, ap, sym, _∙_, subst, _⊎_, inl, inr, _≢_, List, Bool, cond, ℕ, _+_, _-_, _*_, _/_, _%_, _^_, _≤_, _<_, min}
-use Rattle.facts.proofs.Words.{max, mod-lt, mod-le, mod-add-mod, add-mul-mod-self-right, div-add-mod', one-mul, add-mul, eq-or-lt-of-le, decLt}
-use Rattle.facts.proofs.Words.{arith, bitAnd, and-mask, ne-eqb, pow-pos, pow-mono, Ports, Says, bitOr, eqb, ℕ-discrete}
+use Rattle.facts.proofs.Words.{_≡_, refl, ap, sym, _∙_, _≢_, List, Bool, cond, ℕ, _+_, _-_, _*_, _/_, _%_, _^_, _≤_, _<_, min}
+use Rattle.facts.proofs.Words.{max, mod-lt, mod-le, mod-add-mod, add-mul-mod-self-right, div-add-mod', one-mul, add-mul, decLt}
+use Rattle.facts.proofs.Words.{arith, bitAnd, and-mask, ne-eqb, pow-pos, pow-mono, Ports, Says, eqb, ℕ-discrete}
 use Rattle.facts.specs.{Meet, allPorts, mostLines}
 use Rattle.facts.proofs.{says-as, says-eq, told}
-use Rattle.table_read.proofs.{or-says}
 use Rattle.io_ranges.proofs.{all-ports-mod, meet-near, near-meet}
-use Rattle.io_answering.specs.{mostGaps, mostCounted, rowAt, RowsFit, MeetsRows, LowBits, reachOf, aheadOf, portsFrom}
+use Rattle.io_answering.specs.{mostGaps, mostCounted, rowAt, RowsFit, LowBits, reachOf, aheadOf, portsFrom}
 
 -- a ones takes the remainder by the period
 pub masked : (n ones : ℕ) → LowBits ones → bitAnd n ones ≡ n % (ones + 1)
@@ -89,28 +88,10 @@ module _ (g : Ports) (low : g .base ≤ allPorts) (counted : g .count ≤ mostCo
       below-or-not (no d) = absurd (n (empty (omega arith)))
       below-or-not (yes h) = near-meet (portsFrom count lines x) g lines least (omega arith) some h low (omega (arith, n, filled h))
 
--- a number is 0 exactly if none of the first n gaps is met
-abbrev pub Clear : List ℕ → ℕ → ℕ → ℕ → ℕ → ℕ → Type 0
-Clear rows count lines x n all = Says (eqb all 0) ((i : ℕ) → i < n → Meet (portsFrom count lines x) (rowAt rows i) → ⊥)
-
-module _ (rows : List ℕ) (count lines x : ℕ) where
-  module _ (fit : RowsFit rows) (some : 1 ≤ count) (fewer : lines < mostLines) where
-    pub clear-more : (n all d : ℕ) → Clear rows count lines x n all → n < mostGaps
-        → d ≡ aheadOf (rowAt rows n .base) (rowAt rows n .count) ((x + count - 1) % 2 ^ lines) (count - 1) (2 ^ lines)
-        → Clear rows count lines x (n + 1) (bitOr all d)
-    clear-more n all d so l e =
-        says-as (or-says all d so here) (λ z i m. either-way z i (eq-or-lt-of-le (omega arith)))
-        (λ z. ((λ i m. z i (omega arith)), z n (omega arith)))
-      where
-        here : Says (eqb d 0) (Meet (portsFrom count lines x) (rowAt rows n) → ⊥)
-        here =
-            says-as (says-eq d 0) (λ z. far-none (rowAt rows n) (fit .bases n l) (fit .counts n l) refl count lines some fewer x (sym e ∙ z))
-            (λ z. told (ℕ-discrete d 0) (λ k. z (far-some (rowAt rows n) (fit .bases n l) (fit .counts n l) refl count lines some fewer x (λ q. k (e ∙ q)))))
-
-        either-way : ((i : ℕ) → i < n → Meet (portsFrom count lines x) (rowAt rows i) → ⊥) × (Meet (portsFrom count lines x) (rowAt rows n) → ⊥)
-            → (i : ℕ) → (i ≡ n) ⊎ (i < n) → Meet (portsFrom count lines x) (rowAt rows i) → ⊥
-        either-way z i (inl q) = subst (λ (j : ℕ). Meet (portsFrom count lines x) (rowAt rows j) → ⊥) (sym q) (z .1)
-        either-way z i (inr q) = z .0 i q
-
-  pub clear-all : (n all : ℕ) → n ≡ mostGaps → Clear rows count lines x n all → Says (eqb all 0) (MeetsRows rows (portsFrom count lines x) → ⊥)
-  clear-all n all e so = says-as so (λ z m. z (m .0) (omega (arith, m .1)) (m .2)) (λ z i l m. z (i, omega arith, m))
+-- how far it is ahead of the gap in the place n is 0 exactly if it doesn't meet that gap
+pub row-says : (rows : List ℕ) (count lines x n d : ℕ) → RowsFit rows → 1 ≤ count → lines < mostLines → n < mostGaps
+    → d ≡ aheadOf (rowAt rows n .base) (rowAt rows n .count) ((x + count - 1) % 2 ^ lines) (count - 1) (2 ^ lines)
+    → Says (eqb d 0) (Meet (portsFrom count lines x) (rowAt rows n) → ⊥)
+row-says rows count lines x n d fit some fewer l e =
+    says-as (says-eq d 0) (λ z. far-none (rowAt rows n) (fit .bases n l) (fit .counts n l) refl count lines some fewer x (sym e ∙ z))
+    (λ z. told (ℕ-discrete d 0) (λ k. z (far-some (rowAt rows n) (fit .bases n l) (fit .counts n l) refl count lines some fewer x (λ q. k (e ∙ q)))))

@@ -11,9 +11,9 @@ use Rattle.facts.specs.Table.{Ports}
 use Rattle.facts.specs.Ports.{Meet}
 use Rattle.io_answering.specs.Gaps.{MeetsGap}
 
--- room for all gaps
+-- room for all gaps: one before each range
 abbrev pub mostGaps : ℕ
-mostGaps = 40
+mostGaps = Table.mostRanges
 
 -- a gap counts up to so many ports: in one that has more, every card answers that doesn't decode all lines
 abbrev pub mostCounted : ℕ

@@ -2,6 +2,7 @@
 // between the managed ranges.
 use layout::ALL_PORTS;
 use layout::MOST_LINES;
+use layout::MOST_RANGES;
 use layout::RANGE_SIZE;
 use layout::RANGES_AT;
 use layout::RANGES_IN;
@@ -17,8 +18,9 @@ ghost use Rattle.io_answering.specs.Gaps.{AllManagedIn};
 ghost use Rattle.io_answering.specs.Rows.{mostCounted, NoGaps, LowBits, reachOf, aheadOf, portsFrom, RowsFit, MeetsRows, GapsAre};
 
 // The gaps stand in two rows of 16-bit numbers, one after the other, so that many are looked at side by side: where each begins, and how many ports it
-// has. There may be one more than ranges; the rows have room for whole eights, and the rest is 0.
-const MOST_GAPS: usize = 40;
+// has; the rest is 0. Each range has the gap before it. Before the first one this is the gap past the last one too, since a card that doesn't decode all lines
+// doesn't tell port 0 from one past FFFFH: with the one range 100H to F7FFH the gap from F800H on has 900H ports.
+const MOST_GAPS: usize = MOST_RANGES;
 
 pub const ROWS: usize = MOST_GAPS + MOST_GAPS;
 
@@ -43,8 +45,9 @@ pub fn gap_rows(t: &[u8], lines: usize, rows: &mut [u16])
         rows[MOST_GAPS + i] = io_ranges::smaller(start - end, MOST_COUNTED) as u16;
         end = managed_search::range_end(t, i);
     }
-    rows[ranges] = (end % ALL_PORTS) as u16;
-    rows[MOST_GAPS + ranges] = io_ranges::smaller(ALL_PORTS - end, MOST_COUNTED) as u16;
+    let first = rows[MOST_GAPS] as usize;
+    rows[0] = (end % ALL_PORTS) as u16;
+    rows[MOST_GAPS] = io_ranges::smaller(ALL_PORTS - end + first, MOST_COUNTED) as u16;
 }
 
 // How far a gap and so many more ports reach; a gap without a port reaches nowhere.

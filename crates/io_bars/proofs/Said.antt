@@ -9,7 +9,7 @@ use Rattle.seats.specs.declared.IoSeat.the-variants as io
 use Rattle.seats.proofs.{io-held}
 use Rattle.io_answering.specs.{rowAt, GapsAre, portsFrom}
 use Rattle.io_answering.proofs.{none-yet}
-use Rattle.io_obstacles.specs.{Stretch, grantPlaces, gapPlaces}
+use Rattle.io_obstacles.specs.{Stretch, grantPlaces, gapPlaces, gapRows}
 use Rattle.io_bars.specs.{StretchIs, seatPorts, PortsFit, SeatFits, GrantBars, GrantBarsOf, GapBars, mostPorts}
 use Rattle.io_bars.proofs.Entering.{Entered, entered-fit, lies-entered, entered-lies}
 
@@ -68,7 +68,7 @@ module _ (b : List ℕ) (count lines : ℕ) (rows : List ℕ) where
         }
 
   -- rows of zeros have no base, as is right for a card that decodes all lines
-  pub no-gaps : lines ≡ mostLines → rows ≡ replicate 120 0 → GapBars b count lines rows
+  pub no-gaps : lines ≡ mostLines → rows ≡ replicate gapRows 0 → GapBars b count lines rows
   no-gaps e zeros =
       record {
         fits = record {
@@ -84,11 +84,11 @@ module _ (b : List ℕ) (count lines : ℕ) (rows : List ℕ) where
         only = λ l. absurd (omega arith);
       }
     where
-      long : length rows ≡ 120
-      long = ap length zeros ∙ length-replicate {A = ℕ} 120 0
+      long : length rows ≡ gapRows
+      long = ap length zeros ∙ length-replicate {A = ℕ} gapRows 0
 
-      none : (i : ℕ) → i < 120 → getD rows i 0 ≡ 0
-      none i l = none-yet 120 rows zeros (omega arith) .empty i (omega (arith, long))
+      none : (i : ℕ) → i < gapRows → getD rows i 0 ≡ 0
+      none i l = none-yet gapRows rows zeros (omega arith) .empty i (omega (arith, long))
 
   module _ (gaps : List ℕ) (are : GapsAre b lines gaps) (few : lines < mostLines) (so : Entered (OfGap gaps count lines) gapPlaces gapPlaces rows) where
     pub gaps-are : GapBars b count lines rows

@@ -14,6 +14,7 @@ ghost use Prim.Native.Nat.{_+_, _≤_, _<_};
 ghost use lib.ListN.{length, replicate};
 ghost use Rattle.facts.specs.Table;
 ghost use Rattle.layout.specs.Sound.{Accepted};
+ghost use Rattle.io_obstacles.specs.Search.{gapPlaces, grantRows, gapRows};
 ghost use Rattle.io_bars.specs.Bars.{mostPorts, BarIs, seatPorts, SeatFits, barEntered, GrantBarsOf, GapBars};
 
 // A bar as it stands in the rows: where it starts, its period less one, and how many bases it has.
@@ -59,7 +60,7 @@ fn seat_bar(held: IoSeat, count: usize, lines: usize) -> Bar
 
 // A bar is entered in its place.
 fn enter(rows: &mut [u16], places: usize, i: usize, bar: Bar)
-    requires { ⌜ (places + places + places ≤ length (now rows)) × (places ≤ 40) × (i < places) ⌝ }
+    requires { ⌜ (places + places + places ≤ length (now rows)) × (places ≤ gapPlaces) × (i < places) ⌝ }
     ensures { λ _. ⌜ now (rows .exit) ≡ barEntered (now (rows .entry)) places i bar ⌝ }
 {
     rows[i] = bar.start;
@@ -69,7 +70,7 @@ fn enter(rows: &mut [u16], places: usize, i: usize, bar: Bar)
 
 // The bars of the live grants.
 pub fn grant_bars(t: &[u8], count: usize, lines: usize, rows: &mut [u16])
-    requires { ⌜ Accepted (now t) × (1 ≤ count) × (count < 256) × (lines ≤ Table.mostLines) × (now rows ≡ replicate 24 0) ⌝ }
+    requires { ⌜ Accepted (now t) × (1 ≤ count) × (count < 256) × (lines ≤ Table.mostLines) × (now rows ≡ replicate grantRows 0) ⌝ }
     ensures { λ _. ⌜ GrantBarsOf (now (t .entry)) count lines (now (rows .exit)) ⌝ }
 {
     for s in 0..MOST_SEATS {
@@ -81,7 +82,7 @@ pub fn grant_bars(t: &[u8], count: usize, lines: usize, rows: &mut [u16])
 // The bars of the gaps, each in the place of its gap; none, for a card that decodes all lines, which answers at its own ports alone. A card that decodes
 // 10 lines and asks for four ports answers in a gap of 16 ports from 6F0H on at the bases 6EDH to 6FFH, and so at 2EDH to 2FFH: a bar of 4 + 16 - 1 bases.
 pub fn gap_bars(t: &[u8], count: usize, lines: usize, rows: &mut [u16])
-    requires { ⌜ Accepted (now t) × (1 ≤ count) × (count < 256) × (lines ≤ Table.mostLines) × (now rows ≡ replicate 120 0) ⌝ }
+    requires { ⌜ Accepted (now t) × (1 ≤ count) × (count < 256) × (lines ≤ Table.mostLines) × (now rows ≡ replicate gapRows 0) ⌝ }
     ensures { λ _. ⌜ GapBars (now (t .entry)) count lines (now (rows .exit)) ⌝ }
 {
     if lines == MOST_LINES {

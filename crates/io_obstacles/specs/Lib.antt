@@ -7,4 +7,4 @@ pub use Bars.{around, Power, Multiple, FirstMultiple, Lies, StretchFits, barAt, 
 pub use Bars.{Repeats, Period, StretchBetween, LearntIs, Everywhere}
 pub use declared.Gaps.{Gaps}
 pub use declared.Gaps.the-variants.{Counted, Ignored}
-pub use Search.{grantPlaces, gapPlaces, GapsFor, BarredByGap, BarredBy, BarredFor, WantedFits, SearchFits, OpenedIs}
+pub use Search.{grantPlaces, gapPlaces, grantRows, gapRows, GapsFor, BarredByGap, BarredBy, BarredFor, WantedFits, SearchFits, OpenedIs}

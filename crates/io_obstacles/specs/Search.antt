@@ -10,12 +10,18 @@ use Rattle.io_obstacles.specs.declared.Wanted.{Wanted}
 use Rattle.io_obstacles.specs.declared.Search.{Search}
 use Rattle.io_obstacles.specs.Bars.{Power, RowsFit, LiesInRows, Opened, Barring}
 
--- places for the bars of grants, and for those of gaps
+-- places for the bars of grants, and for those of gaps; and their rows
 abbrev pub grantPlaces : ℕ
-grantPlaces = 8
+grantPlaces = Table.mostSeats
 
 abbrev pub gapPlaces : ℕ
-gapPlaces = 40
+gapPlaces = Table.mostRanges
+
+abbrev pub grantRows : ℕ
+grantRows = grantPlaces + grantPlaces + grantPlaces
+
+abbrev pub gapRows : ℕ
+gapRows = gapPlaces + gapPlaces + gapPlaces
 
 -- gaps count for a card of so many lines exactly if it doesn't decode all
 abbrev pub GapsFor : ℕ → Gaps → Type 0

@@ -2,6 +2,8 @@
 // another; and the search that leaps from the end of one to the next.
 use layout::ALL_PORTS;
 use layout::MOST_LINES;
+use layout::MOST_RANGES;
+use layout::MOST_SEATS;
 ghost use mathlib.Core.Path.{_≡_};
 ghost use Prim.Native.Nat.{_+_, _^_, _≤_, _<_};
 ghost use Rattle.facts.specs.Table;
@@ -62,11 +64,11 @@ fn past(start: u16, ones: u16, width: u16, limit: u16, base: u16) -> u16
 
 // Bars stand in three rows of 16-bit numbers, one after the other, so that many are looked at side by side: where each starts, its period less one, and
 // how many bases it has. A place that isn't used has none.
-pub const GRANT_PLACES: usize = 8;
+pub const GRANT_PLACES: usize = MOST_SEATS;
 
 pub const GRANT_ROWS: usize = GRANT_PLACES + GRANT_PLACES + GRANT_PLACES;
 
-pub const GAP_PLACES: usize = 40;
+pub const GAP_PLACES: usize = MOST_RANGES;
 
 pub const GAP_ROWS: usize = GAP_PLACES + GAP_PLACES + GAP_PLACES;
 

@@ -1,13 +1,13 @@
 -- A table with another card, and a fresh table. Assumes nothing.
-use Rattle.facts.proofs.Words.{_≡_, by-cases, decLt, List·getD-eq-default, getD, refl, sym, _∙_, List, [], _∷_, Bool, ℕ, _+_, _*_, _≤_, _<_, arith}
-use Rattle.facts.proofs.Words.{length, set}
+use Rattle.facts.proofs.Words.{_≡_, drop, by-cases, decLt, List·getD-eq-default, getD, refl, sym, _∙_, List, [], _∷_, Bool, ℕ, _+_, _*_, _≤_, _<_}
+use Rattle.facts.proofs.Words.{arith, length, set}
 use Rattle.layout.proofs.Of
-use Rattle.facts.specs.{fresh, put, byte, withCard, mostClients, mostSockets}
-use Rattle.layout.specs.{image, mark, Accepted, cardSize, cardsAt, handleSize, attributesSize, eventsSize, masksSize, ioSize, irqSize, rangeSize}
-use Rattle.layout.specs.{layoutMark, headSize, tableSize}
+use Rattle.facts.specs.{fresh, byte, withCard, mostClients, mostSockets}
+use Rattle.layout.specs.{image, mark, Accepted, cardSize, cardsAt, handleSize, attributesSize, eventsSize, masksSize, ioSize, irqSize}
+use Rattle.layout.specs.{rangeSize, layoutMark, headSize, tableSize}
 use Rattle.layout.proofs.Parts.{below-at, zeros}
 use Rattle.layout.proofs.Image.{Part, parts, end, Shown}
-use Rattle.layout.proofs.Shows.{Shows, headBytes, wrote-image, put-stands}
+use Rattle.layout.proofs.Shows.{Shows, headBytes, put-image}
 use Rattle.layout.proofs.Entered.{wrote-none, wrote-byte}
 
 -- a card's byte
@@ -15,8 +15,8 @@ pub card-written : (b : List ℕ) (a : Accepted b) (s : ℕ) (v : Bool) → s < 
 card-written b a s v l =
     let w = Of.shows-in b a in
     let wrote = wrote-byte (wrote-none b (cardsAt + s * cardSize)) (cardsAt + s) (mark v) (omega arith) (omega (arith, w .size)) in
-    wrote-image (withCard (a .facts) s v) 0 (λ i. mark (put (a .facts .card) s v i) ∷ []) (omega arith) w wrote (omega arith) (omega arith)
-    (put-stands (λ (t : Bool). mark t ∷ []) (a .facts .card) s v cardsAt mostSockets cardSize refl (w .shown .0) wrote) (λ h t. (h, t))
+    put-image (λ (t : Bool). mark t ∷ []) (a .facts .card) s v 0 (parts mostClients (a .facts)) refl refl l wrote (w .shown) (withCard (a .facts) s v)
+    (w .size) (w .heads) (λ t. t)
 
 -- parts whose records are zero are shown by zero bytes
 abbrev Zeroed : List Part → Type 0
@@ -44,19 +44,9 @@ fresh-shown n b size mark-is count zero-past =
     all q l = by-cases (decLt q tableSize) (zero-past q l) (λ h. List·getD-eq-default b 0 (omega (arith, size)))
 
     empty : Zeroed (parts mostClients (fresh n))
-    empty = (
-      λ s. zeros 1,
-      (
-        λ l. zeros 2,
-        (
-          λ i. zeros rangeSize,
-          (
-            λ i. zeros handleSize,
-            (
-              λ i. zeros attributesSize,
-              (λ i. zeros eventsSize, (λ s. zeros ioSize, (λ s. zeros irqSize, (λ i. zeros 1, (λ i. zeros masksSize, tt))))),
-            ),
-          ),
-        ),
-      ),
-    )
+    empty =
+        let last : Zeroed (drop 6 (parts mostClients (fresh n))) =
+        (λ s. zeros ioSize, (λ s. zeros irqSize, (λ i. zeros 1, (λ i. zeros masksSize, tt)))) in
+        let rows : Zeroed (drop 3 (parts mostClients (fresh n))) =
+        (λ i. zeros handleSize, (λ i. zeros attributesSize, (λ i. zeros eventsSize, last))) in
+        (λ s. zeros 1, (λ l. zeros 2, (λ i. zeros rangeSize, rows)))

@@ -1,10 +1,10 @@
 -- A record written byte by byte. Assumes nothing.
-use Rattle.facts.proofs.Words.{_≡_, refl, ap, sym, _∙_, subst, _⊎_, inl, inr, ⊎-elim, by-cases, List, [], _∷_, _++_, ℕ, _+_, _-_, _/_, _%_, _≤_, _<_}
+use Rattle.facts.proofs.Words.{_≡_, refl, ap, sym, _∙_, subst, _⊎_, inl, inr, ⊎-elim, by-cases, List, [], _∷_, _++_, ℕ, _+_, _/_, _%_, _≤_, _<_}
 use Rattle.facts.proofs.Words.{eq-or-lt-of-le, decLt, arith, length, getD, set, replicate, length-set, length-append, length-replicate}
-use Rattle.facts.proofs.Words.{List·getD-append, getD-append-add, getD-append-seam}
+use Rattle.facts.proofs.Words.{List·getD-append, List·getD-eq-default, getD-append-seam}
 use Rattle.facts.specs.{byte, withWord, withLong}
 use Rattle.layout.specs.{Zero, two, four}
-use Rattle.layout.proofs.Parts.{below-at, zeros}
+use Rattle.layout.proofs.Parts.{below-at, zeros-after}
 use Rattle.layout.proofs.Written.{byte-same, byte-other}
 
 -- from the place on stand the bytes xs, and all others are as before
@@ -51,18 +51,17 @@ pub wrote-zeros : {b : List ℕ} {at : ℕ} {xs b′ : List ℕ} → Wrote b at 
 wrote-zeros {b} {at} {xs} {b′} w n stood =
     record {
       size = w .size;
-      bytes = λ j m. by-cases (decLt j (length xs)) (λ h. w .bytes j h ∙ sym (List·getD-append xs (replicate n 0) 0 j h))
-          (λ h. w .other (at + j) (inr (omega arith)) ∙ stood (at + j) (omega arith) (omega (arith, m, longer)) ∙ sym (past j (omega arith)));
+      bytes = λ j m. there j (omega (arith, m, longer)) ∙ sym (zeros-after xs n j);
       other = λ q. ⊎-elim (λ m. w .other q (inl m)) (λ m. w .other q (inr (omega (arith, m, longer))));
     }
   where
     longer : length (xs ++ replicate n 0) ≡ length xs + n
     longer = length-append xs (replicate n 0) ∙ ap (λ (k : ℕ). length xs + k) (length-replicate {A = ℕ} n 0)
 
-    past : (j : ℕ) → length xs ≤ j → getD (xs ++ replicate n 0) j 0 ≡ 0
-    past j l =
-        let there : j ≡ length xs + (j - length xs) = omega arith in
-        ap (λ (i : ℕ). getD (xs ++ replicate n 0) i 0) there ∙ getD-append-add xs (replicate n 0) (j - length xs) 0 ∙ zeros n (j - length xs)
+    there : (j : ℕ) → j < length xs + n → byte b′ (at + j) ≡ getD xs j 0
+    there j l =
+        by-cases (decLt j (length xs)) (w .bytes j)
+        (λ h. w .other (at + j) (inr (omega arith)) ∙ stood (at + j) (omega arith) (omega arith) ∙ sym (List·getD-eq-default xs 0 (omega arith)))
 
 -- the bytes of a number of four bytes, the lowest first
 pub long-bytes : (b : List ℕ) (at n : ℕ) → at + 3 < length b → n < 4294967296 → (j : ℕ) → j < 4 → byte (withLong b at n) (at + j) ≡ getD (four n) j 0
@@ -70,4 +69,4 @@ long-bytes b at n l h j m =
     let lower = wrote-word (wrote-none b at) at (n % 65536) (omega arith) (omega arith) (omega arith) in
     wrote-word lower (at + 2) (n / 65536 % 65536) refl (omega arith) (omega arith) .bytes j m
     ∙ below-at 4 (λ j. getD (two (n % 65536) ++ two (n / 65536 % 65536)) j 0 ≡ getD (four n) j 0)
-    ((((tt, omega arith), omega arith), omega arith), omega arith) j m
+    (omega arith) j m

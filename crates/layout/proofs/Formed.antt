@@ -1,6 +1,6 @@
 -- The facts read off sound bytes are well formed. Assumes nothing.
 use Rattle.facts.proofs.Words.{_≡_, refl, ap, sym, _∙_, subst, subst⁻¹, ⊎-elim, by-cases, List, Bool, true, false, false≢true, ℕ, suc, _+_, _-_, _≤_}
-use Rattle.facts.proofs.Words.{_<_, decLt, arith, eqb-true, eq-eqb, WellFormed, some}
+use Rattle.facts.proofs.Words.{_<_, decLt, arith, eqb-true, eq-eqb, WellFormed, some, needs}
 use Rattle.facts.specs.{Level, Range, byte, word, Bytes, ClientFits, IoFits, IrqFits, EventsAllowed, IoCompany, IrqCompany, allLevels, mostClients}
 use Rattle.facts.specs.{allPorts, mostSockets}
 use Rattle.facts.proofs.Formed.{io-turned, irq-turned}
@@ -31,13 +31,7 @@ module _ {n size : ℕ} (few : n ≤ mostClients) (b : List ℕ) (bytes : Bytes 
 
   client-formed : (i : ℕ) → i < clientsIn b → ClientFits (factsIn b) (clientIn b i)
   unfolding factsIn clientIn
-  client-formed i l =
-      record {
-        issued = s .clients i l .issued;
-        attributes = s .clients i l .attributes;
-        events = s .clients i l .events;
-        mask = λ t m e. mask-formed i t m l e;
-      }
+  client-formed i l = let sound = s .clients i l in search (needs, mask-formed)
 
   -- a level below the bound is what its record says, and one past it is not managed
   level-below : (l : ℕ) → l < allLevels → factsIn b .level l ≡ levelIn b l
@@ -65,28 +59,11 @@ module _ {n size : ℕ} (few : n ≤ mostClients) (b : List ℕ) (bytes : Bytes 
 
   io-fits : (t : ℕ) → IoSound b t → IoFits (factsIn b) t (ioIn b t)
   unfolding factsIn ioIn
-  io-fits t u =
-      record {
-        client = live-of b (word b (ioPlace t)) (u .client);
-        socket = u .socket;
-        base = u .base;
-        line = u .line;
-        lines = u .lines;
-        port = u .port;
-        asked = omega (arith, bytes (ioPlace t + ioCountAt));
-        decoded = u .decoded;
-        managed = λ p h. managed-of b p (u .managed p h);
-        answers = λ p h. managed-of b p (u .answers p h);
-      }
+  io-fits t u = let low = bytes (ioPlace t + ioCountAt) in search (needs, live-of, managed-of, u .managed, u .answers)
 
   irq-fits : (t : ℕ) → IrqSound b t → IrqFits (factsIn b) t (irqIn b t)
   unfolding factsIn irqIn
-  irq-fits t u =
-      record {
-        client = live-of b (word b (irqPlace t)) (u .client);
-        socket = u .socket;
-        managed = level-managed (byte b (irqPlace t + irqLevelAt)) (u .level) (u .managed);
-      }
+  irq-fits t u = let managed = level-managed (byte b (irqPlace t + irqLevelAt)) (u .level) (u .managed) in search (needs, live-of)
 
   pub formed : WellFormed (factsIn b)
   unfolding factsIn clientIn rangeIn ioHere irqHere

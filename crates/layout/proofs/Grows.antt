@@ -1,20 +1,12 @@
 -- A table for so many clients, with zeros put after it, is the table for more clients that says the same. Assumes nothing.
-use Rattle.facts.proofs.Words.{_≡_, ap, sym, _∙_, by-cases, List, [], _∷_, _++_, Option, none, ℕ, _+_, _*_, _-_, _≤_, decLt, arith, length, getD, getElem?}
-use Rattle.facts.proofs.Words.{replicate, length-append, length-replicate, List·getD-append, List·getD-eq-default, getD-append-add}
+use Rattle.facts.proofs.Words.{_≡_, ap, sym, _∙_, by-cases, List, [], _∷_, _++_, Option, ℕ, _+_, _*_, _≤_, decLt, arith, length, getD, getElem?}
+use Rattle.facts.proofs.Words.{replicate, length-append, length-replicate, List·getD-eq-default}
 use Rattle.facts.specs.{Facts, Client, byte}
 use Rattle.layout.specs.{imageOf, masksBytes, cardsAt, masksAt, masksSize, restAt}
-use Rattle.layout.proofs.Parts.{zeros}
+use Rattle.layout.proofs.Parts.{zeros, zeros-after}
 use Rattle.layout.proofs.Lists.{at-past}
 use Rattle.layout.proofs.Image.{Part, part, firstParts, maskPart, end, ends, Stands, Shown}
 use Rattle.layout.proofs.Shows.{Shows, image-shows, shows-image, masks-are, rest-is}
-
--- zeros after a list say nothing more
-zeros-after : (c : List ℕ) (k q : ℕ) → byte (c ++ replicate k 0) q ≡ byte c q
-zeros-after c k q =
-    by-cases (decLt q (length c)) (List·getD-append c (replicate k 0) 0 q)
-    (λ h. let past : q ≡ length c + (q - length c) = omega arith in
-    ap (byte (c ++ replicate k 0)) past ∙ getD-append-add c (replicate k 0) (q - length c) 0 ∙ zeros k (q - length c)
-    ∙ sym (List·getD-eq-default c 0 (omega arith)))
 
 module _ (F : Facts) (n m size more : ℕ) (few : length (F .clients) ≤ n) (up : n ≤ m) (room : restAt n ≤ size) (fits : restAt m ≤ size + more) where
   abbrev small : List ℕ

@@ -2,45 +2,30 @@
 use Rattle.facts.proofs.Words.{_≡_, refl, ap, ap₂, sym, _∙_, subst⁻¹, List, [], _∷_, _++_, Option, none, some, ℕ, suc, _+_, _*_, _-_, _<_, add-zero}
 use Rattle.facts.proofs.Words.{add-assoc, add-one, arith, length, getD, drop, getElem?, replicate, length-append, length-replicate, List·getD-append}
 use Rattle.facts.proofs.Words.{drop-at, drop-drop, getD-drop, _≤_}
-use Rattle.facts.specs.{Facts, Client, Range, IoGrant, IrqGrant, byte, word, allLevels, mostRanges, mostSockets}
-use Rattle.layout.specs.{each, mark, maskBytes, handleBytes, attributesBytes, eventsBytes, masksBytes, levelBytes, rangeBytes, ioBytes, irqBytes}
-use Rattle.layout.specs.{head, cards, levels, ranges, handles, attributes, events, ios, irqs, spare, masks, rest, imageOf, Zero, clientRoom, handleRoom}
-use Rattle.layout.specs.{seatRoom, cardSize, cardsAt, levelSize, rangeSize, handleSize, attributesSize, eventsSize, ioSize, irqSize, spareSize}
-use Rattle.layout.specs.{maskSize, masksSize, restAt}
+use Rattle.facts.specs.{Facts, Client, IoGrant, IrqGrant, byte, word, allLevels, mostRanges, mostSockets}
+use Rattle.layout.specs.{each, mark, maskBytes, handleBytes, attributesBytes, eventsBytes, masksBytes, levelBytes, rangeBytes, ioBytes}
+use Rattle.layout.specs.{irqBytes, head, cards, levels, ranges, handles, attributes, events, ios, irqs, spare, masks, rest, imageOf, Zero}
+use Rattle.layout.specs.{clientRoom, handleRoom, seatRoom, cardSize, cardsAt, levelSize, rangeSize, handleSize, attributesSize, eventsSize}
+use Rattle.layout.specs.{ioSize, irqSize, spareSize, maskSize, masksSize, restAt}
 use Rattle.layout.proofs.Parts.{each-length, each-at, record-below, zeros}
 
--- the size of each record
+-- the size of each record: of none, and of one
+of-size : {A : Type 0} (bytes : Option A → List ℕ) (k : ℕ) → length (bytes none) ≡ k → ((x : A) → length (bytes (some x)) ≡ k) → (o : Option A)
+    → length (bytes o) ≡ k
+of-size bytes k e f none = e
+of-size bytes k e f (some x) = f x
+
 pub mask-size : (m : Option ℕ) → length (maskBytes m) ≡ maskSize
-mask-size none = refl
-mask-size (some m) = refl
-
-handle-size : (c : Option Client) → length (handleBytes c) ≡ handleSize
-handle-size none = refl
-handle-size (some c) = refl
-
-attributes-size : (c : Option Client) → length (attributesBytes c) ≡ attributesSize
-attributes-size none = refl
-attributes-size (some c) = refl
-
-events-size : (c : Option Client) → length (eventsBytes c) ≡ eventsSize
-events-size none = refl
-events-size (some c) = refl
+mask-size = of-size maskBytes maskSize refl (λ m. refl)
 
 pub masks-size : (c : Option Client) → length (masksBytes c) ≡ masksSize
-masks-size none = refl
-masks-size (some c) = each-length maskSize (λ s. maskBytes (c .mask s)) (λ s. mask-size (c .mask s)) seatRoom
-
-range-size : (r : Option Range) → length (rangeBytes r) ≡ rangeSize
-range-size none = refl
-range-size (some r) = refl
+masks-size = of-size masksBytes masksSize refl (λ c. each-length maskSize (λ s. maskBytes (c .mask s)) (λ s. mask-size (c .mask s)) seatRoom)
 
 pub io-size : (g : Option IoGrant) → length (ioBytes g) ≡ ioSize
-io-size none = refl
-io-size (some g) = refl
+io-size = of-size ioBytes ioSize refl (λ g. refl)
 
 pub irq-size : (g : Option IrqGrant) → length (irqBytes g) ≡ irqSize
-irq-size none = refl
-irq-size (some g) = refl
+irq-size = of-size irqBytes irqSize refl (λ g. refl)
 
 -- a part: so many records of so many bytes
 pub record Part : Type 0 where
@@ -77,22 +62,15 @@ Sized (p ∷ ps) = ((i : ℕ) → length (p .bytes i) ≡ p .size) × Sized ps
 
 sized : (n : ℕ) (F : Facts) → Sized (parts n F)
 sized n F =
-    let client : ℕ → Option Client = getElem? (F .clients) in (
-      λ s. refl,
-      (
-        λ l. refl,
-        (
-          λ i. range-size (getElem? (F .ranges) i),
-          (
-            λ i. handle-size (client i),
-            (
-              λ i. attributes-size (client i),
-              (λ i. events-size (client i), (λ s. io-size (F .io s), (λ s. irq-size (F .irq s), (λ i. refl, (λ i. masks-size (client i), tt))))),
-            ),
-          ),
-        ),
-      ),
-    )
+    let client : ℕ → Option Client = getElem? (F .clients) in
+    let handles : (i : ℕ) → length (handleBytes (client i)) ≡ handleSize = (λ i. of-size handleBytes handleSize refl (λ c. refl) (client i)) in
+    let attributes : (i : ℕ) → length (attributesBytes (client i)) ≡ attributesSize =
+    (λ i. of-size attributesBytes attributesSize refl (λ c. refl) (client i)) in
+    let events : (i : ℕ) → length (eventsBytes (client i)) ≡ eventsSize = (λ i. of-size eventsBytes eventsSize refl (λ c. refl) (client i)) in
+    let range : (i : ℕ) → length (rangeBytes (getElem? (F .ranges) i)) ≡ rangeSize =
+    (λ i. of-size rangeBytes rangeSize refl (λ r. refl) (getElem? (F .ranges) i)) in
+    let last : Sized (drop 6 (parts n F)) = (λ s. io-size (F .io s), (λ s. irq-size (F .irq s), (λ i. refl, (λ i. masks-size (client i), tt)))) in
+    (λ s. refl, (λ l. refl, (range, (handles, (attributes, (events, last))))))
 
 -- the parts one after the other, and what follows them
 abbrev joined : List Part → List ℕ → List ℕ

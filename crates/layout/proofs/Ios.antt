@@ -1,12 +1,10 @@
 -- What the record of an I/O grant says; and that a table with another record is the image of the facts with that grant. Assumes nothing.
-use Rattle.facts.proofs.Words.{_≡_, refl, subst, ⊎-elim, List, _∷_, _++_, [], true, Option, none, some, ℕ, _+_, _<_, arith, eq-eqb, eqb-true}
-use Rattle.facts.proofs.Words.{replicate, Ports}
+use Rattle.facts.proofs.Words.{_≡_, refl, subst, ⊎-elim, List, _∷_, _++_, [], Option, none, some, ℕ, _+_, _<_, arith, replicate, Ports}
 use Rattle.layout.proofs.Of
-use Rattle.facts.specs.{IoGrant, put, byte, withIo, mostSeats}
+use Rattle.facts.specs.{IoGrant, withIo, mostClients, mostSeats}
 use Rattle.layout.specs.{image, two, ioBytes, mark, ioPlace, portsIn, ioIn, Accepted, ioEntered, ioBaseAt, ioCountAt, ioLinesAt, ioSharedAt}
-use Rattle.layout.specs.{ioSize, iosAt, seatRoom}
-use Rattle.layout.proofs.Image.{io-size}
-use Rattle.layout.proofs.Shows.{ios-are, wrote-image, put-stands}
+use Rattle.layout.proofs.Image.{parts, io-size}
+use Rattle.layout.proofs.Shows.{put-image}
 use Rattle.layout.proofs.Entered.{Wrote, wrote-none, wrote-byte, wrote-word, wrote-zeros}
 
 -- what a grant's record says, field by field
@@ -14,15 +12,6 @@ module _ (b : List ℕ) (s : ℕ) where
   pub ports-are : _≡_ {A = Ports} (ioIn b s .ports) (portsIn b (ioPlace s))
   unfolding ioIn
   ports-are = refl
-
-  -- it shares exactly if its mark is 1
-  pub marked-shared : byte b (ioPlace s + ioSharedAt) ≡ 1 → ioIn b s .shared ≡ true
-  unfolding ioIn
-  marked-shared e = eq-eqb (byte b (ioPlace s + ioSharedAt)) 1 e
-
-  pub shared-marked : ioIn b s .shared ≡ true → byte b (ioPlace s + ioSharedAt) ≡ 1
-  unfolding ioIn
-  shared-marked e = eqb-true (byte b (ioPlace s + ioSharedAt)) 1 e
 
 -- the facts with the grant g, and with none
 module _ (b : List ℕ) (a : Accepted b) (s : ℕ) (l : s < mostSeats) where
@@ -41,8 +30,8 @@ module _ (b : List ℕ) (a : Accepted b) (s : ℕ) (l : s < mostSeats) where
       let w₅ = wrote-byte w₄ (place + ioSharedAt) shared refl (omega (arith, w .size)) in
       let wrote = subst (λ (x : List ℕ). Wrote b place x (ioEntered b s client base count lines shared)) is
       (wrote-zeros w₅ 4 (λ q h m. ⊎-elim (λ z. z q (omega arith) (omega arith)) (λ g. g .1 .spare q h (omega arith)) (Of.sound-in b a .ios s (omega arith)))) in
-      wrote-image (withIo (a .facts) s o) 6 (λ i. ioBytes (put (a .facts .io) s o i)) (omega arith) w wrote (omega arith) (omega (arith, io-size o))
-      (put-stands ioBytes (a .facts .io) s o iosAt seatRoom ioSize (io-size o) (ios-are w) wrote) (λ h t. (h, t))
+      put-image ioBytes (a .facts .io) s o 6 (parts mostClients (a .facts)) refl (io-size o) (omega arith) wrote (w .shown)
+      (withIo (a .facts) s o) (w .size) (w .heads) (λ t. t)
 
   pub granted-image : (g : IoGrant) → g .client < 65536 → g .ports .base < 65536
       → image (withIo (a .facts) s (some g))

@@ -1,10 +1,10 @@
 -- A table with another record of an IRQ grant is the image of the facts with that grant. Assumes nothing.
 use Rattle.facts.proofs.Words.{_≡_, refl, subst, List, [], _∷_, _++_, Option, none, some, ℕ, _+_, _<_, arith}
 use Rattle.layout.proofs.Of
-use Rattle.facts.specs.{IrqGrant, put, withIrq, mostSeats}
-use Rattle.layout.specs.{image, two, irqBytes, mannerByte, irqPlace, Accepted, irqEntered, irqLevelAt, irqMannerAt, irqSize, irqsAt, seatRoom}
-use Rattle.layout.proofs.Image.{irq-size}
-use Rattle.layout.proofs.Shows.{irqs-are, wrote-image, put-stands}
+use Rattle.facts.specs.{IrqGrant, withIrq, mostClients, mostSeats}
+use Rattle.layout.specs.{image, two, irqBytes, mannerByte, irqPlace, Accepted, irqEntered, irqLevelAt, irqMannerAt}
+use Rattle.layout.proofs.Image.{parts, irq-size}
+use Rattle.layout.proofs.Shows.{put-image}
 use Rattle.layout.proofs.Entered.{Wrote, wrote-none, wrote-byte, wrote-word}
 
 -- the facts with the grant g, and with none
@@ -19,8 +19,8 @@ module _ (b : List ℕ) (a : Accepted b) (s : ℕ) (l : s < mostSeats) where
       let w₂ = wrote-byte w₁ (place + irqLevelAt) level refl (omega (arith, w .size)) in
       let w₃ = wrote-byte w₂ (place + irqMannerAt) manner refl (omega (arith, w .size)) in
       let wrote = subst (λ (x : List ℕ). Wrote b place x (irqEntered b s client level manner)) is w₃ in
-      wrote-image (withIrq (a .facts) s o) 7 (λ i. irqBytes (put (a .facts .irq) s o i)) (omega arith) w wrote (omega arith) (omega (arith, irq-size o))
-      (put-stands irqBytes (a .facts .irq) s o irqsAt seatRoom irqSize (irq-size o) (irqs-are w) wrote) (λ h t. (h, t))
+      put-image irqBytes (a .facts .irq) s o 7 (parts mostClients (a .facts)) refl (irq-size o) (omega arith) wrote (w .shown)
+      (withIrq (a .facts) s o) (w .size) (w .heads) (λ t. t)
 
   pub granted-image : (g : IrqGrant) → g .client < 65536
       → image (withIrq (a .facts) s (some g)) ≡ irqEntered b s (g .client) (g .level) (mannerByte (g .manner))

@@ -37,5 +37,5 @@ pub use Clients.{entered-image, withdrawn-image}
 pub use Managed.{rangeEnd, end-before, end-next, ends-before, bases-rise, HasPort, same-range, range-placed, range-taken-out, range-put-in}
 pub use Managed.{level-written}
 pub use Masks.{mask-socket, mask-said, said-mask, mask-written}
-pub use Ios.{granted-image, released-image, ports-are, marked-shared, shared-marked}
+pub use Ios.{granted-image, released-image, ports-are}
 pub use Serve.{kept, left, stays, becomes, refused-by, done-by}

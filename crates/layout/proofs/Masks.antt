@@ -1,19 +1,17 @@
 -- A client's mask and its word: what the word says, and the table with another word there. Assumes nothing.
 use Rattle.facts.proofs.Words.{_≡_, subst⁻¹, set, refl, ap, sym, _∙_, subst, inl, inr, ⊎-elim, by-cases, _≢_, List, Bool, cond, Option, none, some}
-use Rattle.facts.proofs.Words.{Option·some-injective, Option·none-ne-some, ℕ, _-_, _<_, decLt, arith, length, getD, getElem?, eqb, eq-eqb}
-use Rattle.facts.proofs.Words.{ne-eqb}
+use Rattle.facts.proofs.Words.{Option·some-injective, Option·none-ne-some, ℕ, _-_, _<_, decLt, arith, length, getD, getElem?, eqb, eq-eqb, ne-eqb}
 use Rattle.layout.proofs.Of
 use Rattle.facts.specs.{Client, word, withWord, put, Masks, MaskHeld, withClients, masking, withMask, mostClients, mostSeats, mostSockets}
 use Rattle.facts.proofs.{length-map}
 use Rattle.facts.proofs.Sets.{put-all}
 use Rattle.layout.specs.{image, two, maskBytes, handleBytes, attributesBytes, eventsBytes, masksBytes, maskOf, clientsIn, handleIn, clientIn}
-use Rattle.layout.specs.{masksPlace, maskPlace, Accepted, MaskUsed, headClients, cardsAt, handlesAt, handleRoom, handleSize, attributesAt}
-use Rattle.layout.specs.{attributesSize, eventsAt, eventsSize, clientRoom, seatRoom, masksAt, masksSize, maskSize, tableSize}
+use Rattle.layout.specs.{masksPlace, maskPlace, Accepted, MaskUsed, headClients, cardsAt, seatRoom, maskSize, tableSize}
 use Rattle.layout.proofs.Lists.{below-in, at-in, in-at, at-below, at-past, at-map}
 use Rattle.layout.proofs.RoundTrip.{masks-stand, masks-join}
 use Rattle.layout.proofs.Grants.{zero-test, positive-test}
-use Rattle.layout.proofs.Image.{part, parts, Stands, Shown, masks-size, mask-size}
-use Rattle.layout.proofs.Shows.{Heads, headBytes, masks-are, changing, shown-at, shown-changed, wrote-image, put-stands}
+use Rattle.layout.proofs.Image.{parts, Shown, masks-size, mask-size}
+use Rattle.layout.proofs.Shows.{Heads, headBytes, masks-are, changing, put-stands, put-image, rows-listed, row-same}
 use Rattle.layout.proofs.Entered.{Wrote, wrote-none, wrote-word}
 
 -- the client listed in the place i, whose handle is h
@@ -110,41 +108,17 @@ module _ (b : List ℕ) (a : Accepted b) (i h : ℕ) (l : i < clientsIn b) (e : 
               (λ m. wrote .other q (inr (omega (arith, m, mask-size o, masks-size (some new)))));
         }
 
-    -- what else the client is said by stays
-    abbrev row : (Option Client → List ℕ) → ℕ → List ℕ
-    row bytes k = bytes (getElem? masked k)
-
-    row-kept : (bytes : Option Client → List ℕ) → bytes (some here) ≡ bytes (some new) → (at count k : ℕ)
-        → Stands changed at (part count k (λ j. bytes (getElem? (a .facts .clients) j)))
-        → Stands changed at (part count k (row bytes))
-    row-kept bytes same at count k stands j m r q =
-        stands j m r q
-        ∙ put-all (λ (k : ℕ) (c : Option Client). getD (bytes (getElem? (a .facts .clients) k)) r 0 ≡ getD (bytes c) r 0)
-        (getElem? (a .facts .clients)) i (some new)
-        (ap (λ (c : Option Client). getD (bytes c) r 0) (Of.client-at b a i l) ∙ ap (λ (x : List ℕ). getD x r 0) same) (λ k d. refl) j
-        ∙ ap (λ (c : Option Client). getD (bytes c) r 0) (sym (masked-at j))
-
-    rows-kept : Shown tableSize changed cardsAt (changing 9 (row masksBytes) (parts mostClients (a .facts)))
-        → Shown tableSize changed cardsAt (parts mostClients (withClients (a .facts) masked))
-    rows-kept t =
-        let ps₀ = changing 9 (row masksBytes) (parts mostClients (a .facts)) in
-        let ps₁ = changing 3 (row handleBytes) ps₀ in
-        let ps₂ = changing 4 (row attributesBytes) ps₁ in
-        let t₁ = shown-changed tableSize changed changed 3 (row handleBytes) cardsAt ps₀ t (λ q l d. refl)
-        (row-kept handleBytes refl handlesAt handleRoom handleSize (shown-at tableSize changed 3 cardsAt ps₀ t)) in
-        let t₂ = shown-changed tableSize changed changed 4 (row attributesBytes) cardsAt ps₁ t₁ (λ q l d. refl)
-        (row-kept attributesBytes refl attributesAt clientRoom attributesSize (shown-at tableSize changed 4 cardsAt ps₁ t₁)) in
-        shown-changed tableSize changed changed 5 (row eventsBytes) cardsAt ps₂ t₂ (λ q l d. refl)
-        (row-kept eventsBytes refl eventsAt clientRoom eventsSize (shown-at tableSize changed 5 cardsAt ps₂ t₂))
-
-    -- the table with the word there is the image of the facts with the mask
+    -- the table with the word there is the image of the facts with the mask: what else the client is said by stays
     pub mask-written : image (withClients (a .facts) masked) ≡ changed
     mask-written =
-        wrote-image (withClients (a .facts) masked) 9 (row masksBytes) (omega arith) (Of.shows-in b a) masks-wrote (omega arith)
-        (omega (arith, listed, masks-size (some new)))
-        (λ k m j q. put-stands masksBytes (getElem? (a .facts .clients)) i (some new) masksAt mostClients masksSize (masks-size (some new))
-        (masks-are (Of.shows-in b a)) masks-wrote k m j q ∙ ap (λ (c : Option Client). getD (masksBytes c) j 0) (sym (masked-at k)))
-        (λ h t. (
-          subst⁻¹ (λ (n : ℕ). Heads (set (headBytes (a .facts)) headClients n) changed) (length-map as-masked (a .facts .clients)) h,
-          rows-kept t,
-        ))
+        let g : ℕ → Option Client = getElem? (a .facts .clients) in
+        let ps = changing 9 (λ k. masksBytes (put g i (some new) k)) (parts mostClients (a .facts)) in
+        let handles = row-same handleBytes g i new (ap handleBytes (Of.client-at b a i l)) in
+        let attributes = row-same attributesBytes g i new (ap attributesBytes (Of.client-at b a i l)) in
+        let events = row-same eventsBytes g i new (ap eventsBytes (Of.client-at b a i l)) in
+        let w = Of.shows-in b a in
+        put-image masksBytes g i (some new) 9 (parts mostClients (a .facts)) refl (masks-size (some new)) listed masks-wrote (w .shown)
+        (withClients (a .facts) masked) (w .size)
+        (subst⁻¹ (λ (n : ℕ). Heads (set (headBytes (a .facts)) headClients n) b) (length-map as-masked (a .facts .clients)) (w .heads))
+        (λ t. rows-listed changed (a .facts) (put g i (some new)) masked masked-at
+        (subst (Shown tableSize changed cardsAt) (λ k. changing 3 (handles k) (changing 4 (attributes k) (changing 5 (events k) ps))) t))

@@ -1,7 +1,7 @@
 -- Laws of records that stand one after the other, and of what holds at each place below a bound. Assumes nothing.
 use Rattle.facts.proofs.Words.{_≡_, sym, _∙_, subst, subst⁻¹, _⊎_, inl, inr, ⊎-elim, by-cases, _≢_, List, _++_, ℕ, zero, suc, _+_, _*_, _-_, _≤_, _<_}
 use Rattle.facts.proofs.Words.{suc-mul, mul-le-mul-right, not-suc-le-zero, le-of-suc-le-suc, eq-or-lt-of-le, zero-mul, decLt, arith, length, getD}
-use Rattle.facts.proofs.Words.{replicate, refl, length-append, List·getD-append, getD-append-add}
+use Rattle.facts.proofs.Words.{replicate, refl, length-append, List·getD-append, getD-append-add, ap, List·getD-eq-default}
 use Rattle.layout.specs.{each}
 
 -- what holds at each place below n, and at n, holds at each below one more
@@ -17,11 +17,23 @@ pub below-at : (n : ℕ) (P : ℕ → Type 0) → Below n P → (j : ℕ) → j 
 below-at zero P a j l = absurd (not-suc-le-zero l)
 below-at (suc n) P a j l = below-or-last P (below-at n P (a .0)) (a .1) j l
 
+pub below-all : (n : ℕ) (P : ℕ → Type 0) → ((j : ℕ) → j < n → P j) → Below n P
+below-all zero P a = tt
+below-all (suc n) P a = (below-all n P (λ j l. a j (omega arith)), a n (omega arith))
+
 -- the bytes of a record that is not used are zero
 pub zeros : (n j : ℕ) → _≡_ {A = ℕ} (getD (replicate n 0) j 0) 0
 zeros zero j = refl
 zeros (suc n) zero = refl
 zeros (suc n) (suc j) = zeros n j
+
+-- zeros after a list say nothing more
+pub zeros-after : (c : List ℕ) (k q : ℕ) → getD (c ++ replicate k 0) q 0 ≡ getD c q 0
+zeros-after c k q =
+    by-cases (decLt q (length c)) (List·getD-append c (replicate k 0) 0 q)
+    (λ h. let past : q ≡ length c + (q - length c) = omega arith in
+    ap (λ (p : ℕ). getD (c ++ replicate k 0) p 0) past ∙ getD-append-add c (replicate k 0) (q - length c) 0 ∙ zeros k (q - length c)
+    ∙ sym (List·getD-eq-default c 0 (omega arith)))
 
 -- past the first n
 pub skip : (A B : List ℕ) (n x : ℕ) → length A ≡ n → getD (A ++ B) (n + x) 0 ≡ getD B x 0

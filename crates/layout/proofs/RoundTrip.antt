@@ -1,20 +1,20 @@
 -- What is read off the image of a well-formed set is that set, so no two sets share an image. Assumes nothing.
-use Rattle.facts.proofs.Words.{_≡_, refl, ap, ap₂, sym, _∙_, subst, List, Bool, true, false, Option, none, some, ℕ, _+_, _*_, _-_}
-use Rattle.facts.proofs.Words.{_/_, _%_, _≤_, _<_, add-assoc, arith, length, getD, getElem?, WellFormed}
+use Rattle.facts.proofs.Words.{_≡_, refl, ap, ap₂, sym, _∙_, subst, List, Bool, true, false, Option, none, some, ℕ, _+_, _*_, _-_, _/_, _%_, _≤_, _<_}
+use Rattle.facts.proofs.Words.{add-assoc, arith, length, getD, getElem?, WellFormed}
 use Rattle.layout.proofs.Image
 use Rattle.facts.specs.{Manner, Exclusive, TimeMultiplexed, DynamicLevel, DynamicPulse, Facts, Client, Range, IoGrant, IrqGrant, byte, word, Live}
 use Rattle.facts.specs.{allLevels, mostSockets, mostClients}
 use Rattle.facts.proofs.{rising-over}
 use Rattle.layout.specs.{mark, maskBytes, handleBytes, attributesBytes, eventsBytes, masksBytes, levelBytes, rangeBytes, ioBytes, irqBytes}
-use Rattle.layout.specs.{mannerByte, image, marked, maskOf, masksPlace, maskPlace, mannerOf, handlePlace, attributesPlace, eventsPlace, rangePlace}
-use Rattle.layout.specs.{levelPlace, ioPlace, irqPlace, clientIn, rangeIn, levelIn, ioIn, irqIn, ioHere, irqHere, factsIn, upTo, below, clientRoom}
-use Rattle.layout.specs.{headSockets, headClients, headRanges, headIssued, seatRoom, cardsAt, attributesSize, eventsSize, handleSize}
-use Rattle.layout.specs.{ioSize, iosAt, irqSize, irqsAt, levelSize, maskSize, masksSize, rangeSize, tableSize}
-use Rattle.layout.proofs.Parts.{each-at, zeros}
+use Rattle.layout.specs.{mannerByte, image, marked, maskOf, masksPlace, maskPlace, mannerOf, handlePlace, attributesPlace, eventsPlace}
+use Rattle.layout.specs.{rangePlace, levelPlace, ioPlace, irqPlace, clientIn, rangeIn, levelIn, ioIn, irqIn, ioHere, irqHere, factsIn, upTo}
+use Rattle.layout.specs.{below, clientRoom, headSockets, headClients, headRanges, headIssued, seatRoom, cardsAt, attributesSize, eventsSize}
+use Rattle.layout.specs.{handleSize, ioSize, iosAt, irqSize, irqsAt, levelSize, maskSize, masksSize, rangeSize, tableSize}
+use Rattle.layout.proofs.Parts.{each-at}
 use Rattle.layout.proofs.Lists.{below-back, absent, at-in, listed}
 use Rattle.layout.proofs.Grants.{zero-test, positive-test, grants-back}
-use Rattle.layout.proofs.Shows.{Shows, image-shows, card-at, levels-are, ranges-are, handles-are, attributes-are, events-are, ios-are, irqs-are}
-use Rattle.layout.proofs.Shows.{masks-are}
+use Rattle.layout.proofs.Shows.{Shows, image-shows, card-at, levels-are, ranges-are, handles-are, attributes-are, events-are, ios-are}
+use Rattle.layout.proofs.Shows.{irqs-are, masks-are}
 
 -- numbers of two and four bytes
 pub two-back : (n : ℕ) → n % 256 + 256 * (n / 256) ≡ n
@@ -57,21 +57,6 @@ module _ (b : List ℕ) (p : ℕ) (c : Client) where
       let place : j ≡ s * maskSize + r = omega arith in
       ap (byte b) (omega arith) ∙ stand s (omega arith) r (omega arith)
       ∙ sym (ap (λ (k : ℕ). getD (masksBytes (some c)) k 0) place ∙ of-mask s r (omega arith) (omega arith))
-
--- those of a client without masks are zero
-pub masks-zero : (c : Client) → ((s : ℕ) → c .mask s ≡ none) → (j : ℕ) → j < masksSize → getD (masksBytes (some c)) j 0 ≡ 0
-masks-zero c empty j m =
-    let s = j / 2 in
-    let r = j % 2 in
-    let place : j ≡ s * maskSize + r = omega arith in
-    ap (λ (k : ℕ). getD (masksBytes (some c)) k 0) place
-    ∙ each-at maskSize (λ s. maskBytes (c .mask s)) (λ s. Image.mask-size (c .mask s)) seatRoom s r (omega arith) (omega arith)
-    ∙ ap (λ (o : Option ℕ). getD (maskBytes o) r 0) (empty s)
-    ∙ zeros maskSize r
-
-pub mask-word : (b : List ℕ) (i : ℕ) (c : Client) → MasksStand b (masksPlace i) c → (s : ℕ) → s < seatRoom
-    → word b (maskPlace i s) ≡ getD (maskBytes (c .mask s)) 0 0 + 256 * getD (maskBytes (c .mask s)) 1 0
-mask-word b i c stand s h = Image.first-word b (maskPlace i s) maskSize (maskBytes (c .mask s)) (stand s h) (omega arith)
 
 -- a range's record is the range
 range-back : (b : List ℕ) (i : ℕ) (r : Range) → ((j : ℕ) → j < rangeSize → byte b (rangePlace i + j) ≡ getD (rangeBytes (some r)) j 0)
@@ -168,7 +153,8 @@ module _ {n size : ℕ} (F : Facts) (w : WellFormed F) (few : length (F .clients
         events = (Image.first-word b (eventsPlace i) eventsSize (eventsBytes (some c))
             (λ j h. events-are v i (omega arith) j h ∙ bytes eventsBytes j) (omega arith) ∙ two-back (c .events)) k;
         mask = below-back seatRoom none (λ s. maskOf (word b (maskPlace i s))) (c .mask)
-            (λ s h. mask-back (c .mask s) (word b (maskPlace i s)) (mask-word b i c masks s h)) none-past k;
+            (λ s h. let said = Image.first-word b (maskPlace i s) maskSize (maskBytes (c .mask s)) (masks s h) (omega arith) in
+            mask-back (c .mask s) (word b (maskPlace i s)) said) none-past k;
       }
 
   range-is : (i : ℕ) (r : Range) → getElem? (F .ranges) i ≡ some r → i < length (F .ranges) → rangeIn b i ≡ r

@@ -1,21 +1,20 @@
 -- Bytes that show the facts read off them are sound where these are well formed. Assumes nothing.
 use Rattle.facts.proofs.Words.{_≡_, refl, ap, sym, _∙_, subst, inl, inr, by-cases, List, Bool, true, false, Option, none, some, ℕ, zero, suc, _+_}
-use Rattle.facts.proofs.Words.{_-_, _≤_, _<_, decLt, ℕ-discrete, arith, length, getD, WellFormed}
+use Rattle.facts.proofs.Words.{_-_, _≤_, _<_, decLt, ℕ-discrete, arith, length, getD, getElem?, WellFormed, _*_, needs}
 use Rattle.layout.proofs.Image
-use Rattle.facts.specs.{Manner, Exclusive, TimeMultiplexed, DynamicLevel, DynamicPulse, Client, Range, IoGrant, IrqGrant, byte, word}
-use Rattle.facts.specs.{allLevels, mostRanges, mostSockets}
+use Rattle.facts.specs.{Manner, Exclusive, TimeMultiplexed, DynamicLevel, DynamicPulse, Client, Range, IoGrant, IrqGrant, byte, word, allLevels}
+use Rattle.facts.specs.{mostRanges, mostSockets}
 use Rattle.facts.proofs.{rising-over, apart-port}
-use Rattle.layout.specs.{mark, handleBytes, attributesBytes, eventsBytes, masksBytes, rangeBytes, levelBytes, ioBytes, irqBytes}
-use Rattle.layout.specs.{mannerByte, clientsIn, rangesIn, masksPlace, maskPlace, rangePlace, levelPlace, ioPlace, handleIn, clientIn, rangeIn}
-use Rattle.layout.specs.{ioIn, irqIn, ioHere, irqHere, factsIn, maskOf, Zero, CardSound, LevelSound, ClientSound, ClientsEnd, RangeSound, MaskSound}
-use Rattle.layout.specs.{IoUsed, IrqUsed, IoSound, IrqSound, handleBefore, endBefore, rangeBase, clientRoom, handleRoom, seatRoom}
-use Rattle.layout.specs.{rangesAt, rangeSize, handlesAt, handleSize, attributesAt, attributesSize, eventsAt, eventsSize, iosAt, ioSize}
-use Rattle.layout.specs.{ioSpareAt, irqsAt, irqSize, levelSize, masksAt, masksSize, restAt}
+use Rattle.layout.specs.{mark, handleBytes, attributesBytes, eventsBytes, masksBytes, rangeBytes, levelBytes, ioBytes, irqBytes, mannerByte}
+use Rattle.layout.specs.{clientsIn, rangesIn, masksPlace, maskPlace, rangePlace, levelPlace, ioPlace, handleIn, clientIn, rangeIn, ioIn, irqIn}
+use Rattle.layout.specs.{ioHere, irqHere, factsIn, maskOf, Zero, CardSound, LevelSound, ClientSound, ClientsEnd, RangeSound, MaskSound, IoUsed}
+use Rattle.layout.specs.{IrqUsed, IoSound, IrqSound, handleBefore, endBefore, rangeBase, clientRoom, handleRoom, seatRoom, rangesAt, rangeSize}
+use Rattle.layout.specs.{handlesAt, handleSize, attributesAt, attributesSize, eventsAt, eventsSize, iosAt, ioSize, ioSpareAt, irqsAt, irqSize}
+use Rattle.layout.specs.{levelSize, masksAt, masksSize, restAt, ioSharedAt, irqMannerAt, irqPlace}
 use Rattle.layout.specs.Sound.{SoundOf}
 use Rattle.layout.proofs.Parts.{below-at, zeros}
 use Rattle.layout.proofs.Lists.{below-in, upTo-in, at-upTo, upTo-length, rising-before, apart-next}
 use Rattle.layout.proofs.Records.{unused}
-use Rattle.layout.proofs.RoundTrip.{masks-stand}
 use Rattle.layout.proofs.Grants.{positive-test, grants-placed}
 use Rattle.layout.proofs.Said.{live-in, managed-in, io-here, irq-here}
 use Rattle.layout.proofs.Shows.{Shows, card-at, levels-are, ranges-are, handles-are, attributes-are, events-are, ios-are, irqs-are, spare-is}
@@ -53,11 +52,8 @@ module _ {n size : ℕ} (room : n ≤ clientRoom) {b : List ℕ} (few : length (
   level-sound : (l : ℕ) → l < allLevels → LevelSound b l
   level-sound l h =
       let level = factsIn b .level l in
-      let m = managed-byte l h in
-      record {
-        managed = omega (arith, m, mark-most (level .managed));
-        reserved = omega (arith, m, levels-are v l h 1 (omega arith), mark-below (level .reserved) (level .managed) (w .reserved l));
-      }
+      let reserved = mark-below (level .reserved) (level .managed) (w .reserved l) in
+      omega (arith, managed-byte l h, mark-most (level .managed), levels-are v l h 1 (omega arith), reserved)
 
   -- the ith client
   listed-few : clientsIn b ≤ n
@@ -68,9 +64,6 @@ module _ {n size : ℕ} (room : n ≤ clientRoom) {b : List ℕ} (few : length (
   unfolding factsIn clientIn
   mask-sound i l t h =
       let word-is = word b (maskPlace i t) in
-      let its-bytes = ap (λ (o : Option Client). masksBytes o) (at-upTo (clientsIn b) (clientIn b) i l) in
-      let masks = masks-stand b (masksPlace i) (clientIn b i)
-      (λ j m. masks-are v i (omega (arith, listed-few)) j m ∙ ap (λ (x : List ℕ). getD x j 0) its-bytes) in
       by-cases (ℕ-discrete word-is 0) inl
       (λ u. let used = positive-test word-is none (some (word-is - 1)) (omega (arith, u)) in
       let is = below-in seatRoom none (λ t. maskOf (word b (maskPlace i t))) t h ∙ used in
@@ -91,25 +84,25 @@ module _ {n size : ℕ} (room : n ≤ clientRoom) {b : List ℕ} (few : length (
       record { over = over i l; issued = fits .issued; attributes = fits .attributes; events = fits .events }
 
   -- past the last of them
-  clients-end : ClientsEnd b
+  row-end : (bytes : Option Client → List ℕ) (at k count : ℕ) → ((j : ℕ) → getD (bytes none) j 0 ≡ 0)
+      → Image.Stands b at (Image.part count k (λ i. bytes (getElem? (factsIn b .clients) i)))
+      → Zero b (at + clientsIn b * k) (at + count * k)
   unfolding factsIn
+  row-end bytes at k count empty stands =
+      subst (λ (m : ℕ). Zero b (at + m * k) (at + count * k)) (upTo-length (clientsIn b) (clientIn b))
+      (unused bytes at k count empty (factsIn b .clients) b stands)
+
+  clients-end : ClientsEnd b
   clients-end =
-      let clients = factsIn b .clients in
-      let same = upTo-length (clientsIn b) (clientIn b) in
       record {
-        handles = λ q l. unused handleBytes handlesAt handleSize handleRoom (zeros handleSize) clients b (handles-are v) q (omega (arith, same));
-        attributes =
-            λ q l. unused attributesBytes attributesAt attributesSize clientRoom (zeros attributesSize) clients b (attributes-are v) q
-            (omega (arith, same));
-        events = λ q l. unused eventsBytes eventsAt eventsSize clientRoom (zeros eventsSize) clients b (events-are v) q (omega (arith, same));
+        handles = row-end handleBytes handlesAt handleSize handleRoom (zeros handleSize) (handles-are v);
+        attributes = row-end attributesBytes attributesAt attributesSize clientRoom (zeros attributesSize) (attributes-are v);
+        events = row-end eventsBytes eventsAt eventsSize clientRoom (zeros eventsSize) (events-are v);
       }
 
   masks-end : Zero b (masksPlace (clientsIn b)) size
-  unfolding factsIn
   masks-end q l m =
-      by-cases (decLt q (restAt n))
-      (unused masksBytes masksAt masksSize n (zeros masksSize) (factsIn b .clients) b (masks-are v) q
-      (omega (arith, upTo-length (clientsIn b) (clientIn b)))) (λ h. rest-is v q (omega arith) m)
+      by-cases (decLt q (restAt n)) (row-end masksBytes masksAt masksSize n (zeros masksSize) (masks-are v) q l) (λ h. rest-is v q (omega arith) m)
 
   -- the ith range
   from : (i : ℕ) → i < rangesIn b → endBefore b i ≤ rangeBase b i
@@ -153,19 +146,9 @@ module _ {n size : ℕ} (room : n ≤ clientRoom) {b : List ℕ} (few : length (
   unfolding factsIn ioIn
   io-sound t l u =
       let fits = w .ios t (ioIn b t) (io-here b t l u) in
-      record {
-        client = live-in b (word b (ioPlace t)) (fits .client);
-        socket = fits .socket;
-        base = fits .base;
-        port = fits .port;
-        line = fits .line;
-        lines = fits .lines;
-        decoded = fits .decoded;
-        managed = λ p h. managed-in b p (fits .managed p h);
-        answers = λ p h. managed-in b p (fits .answers p h);
-        mark = omega (arith, io-row t l u 6 (omega arith), mark-most (ioIn b t .shared));
-        spare = io-spare t l u;
-      }
+      let mark : byte b (ioPlace t + ioSharedAt) ≤ 1 = omega (arith, io-row t l u 6 (omega arith), mark-most (ioIn b t .shared)) in
+      let spare = io-spare t l u in
+      search (needs, live-in, managed-in, fits .managed, fits .answers)
 
   irq-sound : (t : ℕ) → t < seatRoom → IrqUsed b t → IrqSound b t
   unfolding factsIn irqIn
@@ -173,13 +156,9 @@ module _ {n size : ℕ} (room : n ≤ clientRoom) {b : List ℕ} (few : length (
       let fits = w .irqs t (irqIn b t) (irq-here b t l u) in
       let level = w .levels (irqIn b t .level) (fits .managed) in
       let row = irqs-are v t l 3 (omega arith) ∙ ap (λ (o : Option IrqGrant). getD (irqBytes o) 3 0) (irq-here b t l u) in
-      record {
-        client = live-in b (irqIn b t .client) (fits .client);
-        socket = fits .socket;
-        level = level;
-        managed = managed-byte (irqIn b t .level) level ∙ ap mark (fits .managed);
-        manner = omega (arith, row, manner-most (irqIn b t .manner));
-      }
+      let managed = managed-byte (irqIn b t .level) level ∙ ap mark (fits .managed) in
+      let manner : byte b (irqPlace t + irqMannerAt) ≤ 3 = omega (arith, row, manner-most (irqIn b t .manner)) in
+      search (needs, live-in)
 
   pub sound : SoundOf n size b
   unfolding factsIn ioHere irqHere

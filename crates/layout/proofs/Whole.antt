@@ -1,15 +1,15 @@
 -- Sound bytes are the image of the facts read off them. Assumes nothing.
-use Rattle.facts.proofs.Words.{_≡_, refl, ap, sym, _∙_, List, [], _∷_, false, Option, none, some, ℕ, zero, suc, _+_, _*_, _-_, _/_, _%_}
-use Rattle.facts.proofs.Words.{_≤_, _<_, add-assoc, add-zero, by-cases, ℕ-discrete, arith, getD, getElem?}
-use Rattle.facts.specs.{Client, Level, byte, word, long, Bytes, allLevels, mostRanges, mostSockets}
+use Rattle.facts.proofs.Words.{_≡_, refl, ap, sym, _∙_, List, [], _∷_, false, Option, none, some, ℕ, _+_, _*_, _-_, _≤_, _<_, add-assoc, add-zero}
+use Rattle.facts.proofs.Words.{by-cases, ℕ-discrete, arith, getD, getElem?, replicate}
+use Rattle.facts.specs.{Client, Level, byte, word, Bytes, allLevels, mostRanges, mostSockets}
 use Rattle.layout.specs.{mark, two, maskBytes, handleBytes, attributesBytes, eventsBytes, masksBytes, levelBytes, rangeBytes, ioBytes, irqBytes}
-use Rattle.layout.specs.{mannerByte, clientsIn, rangesIn, marked, maskOf, masksPlace, maskPlace, mannerOf, handlePlace, attributesPlace, eventsPlace}
-use Rattle.layout.specs.{rangePlace, levelPlace, ioPlace, irqPlace, clientIn, rangeIn, levelIn, ioIn, irqIn, ioHere, irqHere, factsIn}
-use Rattle.layout.specs.{IoSound, IrqSound, Zero, clientRoom, handleRoom, seatRoom, headSize, cardSize, cardsAt, levelSize, levelsAt, rangeSize}
-use Rattle.layout.specs.{rangesAt, handleSize, handlesAt, attributesSize, attributesAt, eventsSize, eventsAt, ioSize, iosAt, irqSize, irqsAt}
-use Rattle.layout.specs.{masksSize, masksAt, restAt, levelReservedAt, spareSize, spareAt}
+use Rattle.layout.specs.{mannerByte, clientsIn, rangesIn, marked, maskOf, masksPlace, maskPlace, mannerOf, handlePlace, attributesPlace}
+use Rattle.layout.specs.{eventsPlace, rangePlace, levelPlace, ioPlace, irqPlace, clientIn, rangeIn, levelIn, ioIn, irqIn, ioHere, irqHere}
+use Rattle.layout.specs.{factsIn, IoSound, IrqSound, Zero, clientRoom, handleRoom, seatRoom, headSize, cardSize, cardsAt, levelSize, levelsAt}
+use Rattle.layout.specs.{rangeSize, rangesAt, handleSize, handlesAt, attributesSize, attributesAt, eventsSize, eventsAt, ioSize, iosAt, irqSize}
+use Rattle.layout.specs.{irqsAt, masksSize, masksAt, restAt, levelReservedAt, spareSize, spareAt}
 use Rattle.layout.specs.Sound.{SoundOf}
-use Rattle.layout.proofs.Parts.{below-at, zeros}
+use Rattle.layout.proofs.Parts.{Below, below-at, below-all, zeros}
 use Rattle.layout.proofs.Lists.{below-in, upTo-length}
 use Rattle.layout.proofs.Image.{part, Stands}
 use Rattle.layout.proofs.Shows.{Shows, headBytes}
@@ -19,45 +19,33 @@ use Rattle.layout.proofs.RoundTrip.{masks-join}
 
 -- a byte that is 0 or 1 is its mark's
 mark-of : (n : ℕ) → n ≤ 1 → n ≡ mark (marked n)
-mark-of zero l = refl
-mark-of (suc zero) l = refl
-mark-of (suc (suc n)) l = absurd (omega arith)
+mark-of n l = below-at 2 (λ n. n ≡ mark (marked n)) ((tt, refl), refl) n (omega arith)
 
 mannerByte-of : (n : ℕ) → n ≤ 3 → n ≡ mannerByte (mannerOf n)
-mannerByte-of zero l = refl
-mannerByte-of (suc zero) l = refl
-mannerByte-of (suc (suc zero)) l = refl
-mannerByte-of (suc (suc (suc zero))) l = refl
-mannerByte-of (suc (suc (suc (suc n)))) l = absurd (omega arith)
+mannerByte-of n l = below-at 4 (λ n. n ≡ mannerByte (mannerOf n)) ((((tt, refl), refl), refl), refl) n (omega arith)
 
 module _ (b : List ℕ) (bytes : Bytes b) where
-  -- the bytes of a number at a place, and of one o past it
-  first-low : (p : ℕ) → byte b (p + 0) ≡ word b p % 256
-  first-low p = ap (byte b) (add-zero p) ∙ omega (arith, bytes p, bytes (p + 1))
+  -- the bytes of a number of two bytes, and of one
+  word-bytes : (p j : ℕ) → j < 2 → byte b (p + j) ≡ getD (two (word b p)) j 0
+  word-bytes p = below-at 2 (λ j. byte b (p + j) ≡ getD (two (word b p)) j 0) (omega (arith, ap (byte b) (add-zero p), bytes p, bytes (p + 1)))
 
-  first-high : (p : ℕ) → byte b (p + 1) ≡ word b p / 256
-  first-high p = omega (arith, bytes p, bytes (p + 1))
+  only-byte : (p j : ℕ) → j < 1 → byte b (p + j) ≡ getD (byte b p ∷ []) j 0
+  only-byte p = below-at 1 (λ j. byte b (p + j) ≡ getD (byte b p ∷ []) j 0) (tt, ap (byte b) (add-zero p))
 
-  low : (p o : ℕ) → byte b (p + o) ≡ word b (p + o) % 256
-  low p o = omega (arith, bytes (p + o), bytes (p + o + 1))
+  -- what is known of a record that begins with one number and has another at 2, of two bytes and of four
+  pub record Known (p : ℕ) : Type 0 where
+    pub first : byte b (p + 0) ≡ byte b p
+    pub two-high : byte b (p + 2 + 1) ≡ byte b (p + 3)
+    pub third : byte b (p + 2 + 2) ≡ byte b (p + 4)
+    pub last : byte b (p + 2 + 2 + 1) ≡ byte b (p + 5)
+    pub low : Below 6 (λ j. byte b (p + j) < 256)
 
-  high : (p o : ℕ) → byte b (p + (o + 1)) ≡ word b (p + o) / 256
-  high p o = ap (byte b) (sym (add-assoc p o 1)) ∙ first-high (p + o)
-
-  four-bytes : (p o : ℕ) → (byte b (p + o) ≡ long b (p + o) % 256) × (byte b (p + (o + 1)) ≡ long b (p + o) / 256 % 256)
-      × (byte b (p + (o + 2)) ≡ long b (p + o) / 65536 % 256)
-      × (byte b (p + (o + 3)) ≡ long b (p + o) / 16777216)
-  four-bytes p o =
-      let b₀ = bytes (p + o) in
-      let b₁ = bytes (p + o + 1) in
-      let b₂ = bytes (p + o + 2) in
-      let b₃ = bytes (p + o + 2 + 1) in
-      let last : p + (o + 3) ≡ p + o + 2 + 1 = omega arith in (
-        omega arith,
-        ap (byte b) (sym (add-assoc p o 1)) ∙ omega arith,
-        ap (byte b) (sym (add-assoc p o 2)) ∙ omega arith,
-        ap (byte b) last ∙ omega arith,
-      )
+  known : (p : ℕ) → Known p
+  known p =
+      let five : p + 2 + 2 + 1 ≡ p + 5 = omega arith in
+      let low = below-all 6 (λ j. byte b (p + j) < 256) (λ j l. bytes (p + j)) in
+      let high = ap (byte b) (add-assoc p 2 1) in
+      record { first = ap (byte b) (add-zero p); two-high = high; third = ap (byte b) (add-assoc p 2 2); last = ap (byte b) five; low = low }
 
   module _ {n size : ℕ} (room : n ≤ clientRoom) (s : SoundOf n size b) where
     card-bytes : Stands b cardsAt (part mostSockets cardSize (λ i. mark (factsIn b .card i) ∷ []))
@@ -84,30 +72,25 @@ module _ (b : List ℕ) (bytes : Bytes b) where
         used : (i : ℕ) → IoSound b i → (j : ℕ) → j < ioSize → byte b (ioPlace i + j) ≡ getD (ioBytes (some (ioIn b i))) j 0
         used i u =
             let p = ioPlace i in
-            let shared = mark-of (byte b (p + 6)) (u .mark) in
-            let s₇ = u .spare (p + 7) (omega arith) (omega arith) in
-            let s₈ = u .spare (p + 8) (omega arith) (omega arith) in
-            let s₉ = u .spare (p + 9) (omega arith) (omega arith) in
-            let s₁₀ = u .spare (p + 10) (omega arith) (omega arith) in
-            below-at ioSize (λ j. byte b (p + j) ≡ getD (ioBytes (some (ioIn b i))) j 0)
-            (((((((((((tt, first-low p), first-high p), low p 2), high p 2), refl), refl), shared), s₇), s₈), s₉), s₁₀)
+            let k = known p in
+            let spare = below-all 4 (λ j. byte b (p + (7 + j)) ≡ 0) (λ j l. u .spare (p + (7 + j)) (omega arith) (omega arith)) in
+            below-at ioSize (λ j. byte b (p + j) ≡ getD (ioBytes (some (ioIn b i))) j 0) (omega (arith, mark-of (byte b (p + 6)) (u .mark)))
 
     irq-bytes : Stands b irqsAt (part seatRoom irqSize (λ i. irqBytes (factsIn b .irq i)))
     unfolding factsIn irqHere irqIn
     irq-bytes =
         grants-stand irqBytes irqsAt irqSize (omega arith) refl b (irqIn b) (IrqSound b) (s .irqs)
-        (λ i u. let p = irqPlace i in
-        below-at 4 (λ j. byte b (p + j) ≡ getD (irqBytes (some (irqIn b i))) j 0)
-        ((((tt, first-low p), first-high p), refl), mannerByte-of (byte b (p + 3)) (u .manner)))
+        (λ i u. let k = known (irqPlace i) in
+        below-at 4 (λ j. byte b (irqPlace i + j) ≡ getD (irqBytes (some (irqIn b i))) j 0)
+        (omega (arith, mannerByte-of (byte b (irqPlace i + 3)) (u .manner))))
 
     range-bytes : Stands b rangesAt (part mostRanges rangeSize (λ i. rangeBytes (getElem? (factsIn b .ranges) i)))
     unfolding factsIn rangeIn
     range-bytes =
         listed-stand rangeBytes rangesAt rangeSize mostRanges (zeros rangeSize) (rangesIn b) (rangeIn b) b
-        (λ i l. let p = rangePlace i in
-        let c = four-bytes p 2 in
-        below-at rangeSize (λ j. byte b (p + j) ≡ getD (rangeBytes (some (rangeIn b i))) j 0)
-        (((((((tt, first-low p), first-high p), c .0), c .1), c .2), c .3), mark-of (byte b (p + 6)) (s .ranges i l .mark)))
+        (λ i l. let k = known (rangePlace i) in
+        below-at rangeSize (λ j. byte b (rangePlace i + j) ≡ getD (rangeBytes (some (rangeIn b i))) j 0)
+        (omega (arith, mark-of (byte b (rangePlace i + 6)) (s .ranges i l .mark))))
         (s .ranges-end)
 
     -- a sound mask's two bytes
@@ -121,52 +104,27 @@ module _ (b : List ℕ) (bytes : Bytes b) where
     unfolding clientIn
     mask-bytes i =
         masks-join b (masksPlace i) (clientIn b i)
-        (λ t h r m. let q = maskPlace i t in
-        below-at 2 (λ r. byte b (q + r) ≡ getD (two (word b q)) r 0) ((tt, first-low q), first-high q) r m
-        ∙ ap (λ (x : List ℕ). getD x r 0) (sym (mask-two i t))
+        (λ t h r m. word-bytes (maskPlace i t) r m ∙ ap (λ (x : List ℕ). getD x r 0) (sym (mask-two i t))
         ∙ ap (λ (o : Option ℕ). getD (maskBytes o) r 0) (sym (below-in seatRoom none (λ t. maskOf (word b (maskPlace i t))) t h)))
 
     -- one row of what clients are said by
-    row-bytes : (bytes : Option Client → List ℕ) (at k room : ℕ) → ((j : ℕ) → getD (bytes none) j 0 ≡ 0)
+    row-bytes : (bytes : Option Client → List ℕ) (at k room : ℕ) → bytes none ≡ replicate k 0
         → ((i j : ℕ) → j < k → byte b (at + i * k + j) ≡ getD (bytes (some (clientIn b i))) j 0)
         → Zero b (at + clientsIn b * k) (at + room * k)
         → Stands b at (part room k (λ i. bytes (getElem? (factsIn b .clients) i)))
     unfolding factsIn
-    row-bytes bytes at k room none-zero said past =
-        listed-stand bytes at k room none-zero (clientsIn b) (clientIn b) b (λ i l. said i) past
-
-    handle-bytes : Stands b handlesAt (part handleRoom handleSize (λ i. handleBytes (getElem? (factsIn b .clients) i)))
-    unfolding clientIn
-    handle-bytes =
-        row-bytes handleBytes handlesAt handleSize handleRoom (zeros handleSize)
-        (λ i. let p = handlePlace i in
-        below-at handleSize (λ j. byte b (p + j) ≡ getD (handleBytes (some (clientIn b i))) j 0) ((tt, first-low p), first-high p))
-        (s .clients-end .handles)
-
-    attribute-bytes : Stands b attributesAt (part clientRoom attributesSize (λ i. attributesBytes (getElem? (factsIn b .clients) i)))
-    unfolding clientIn
-    attribute-bytes =
-        row-bytes attributesBytes attributesAt attributesSize clientRoom (zeros attributesSize)
-        (λ i. let p = attributesPlace i in
-        below-at attributesSize (λ j. byte b (p + j) ≡ getD (attributesBytes (some (clientIn b i))) j 0) (tt, ap (byte b) (add-zero p)))
-        (s .clients-end .attributes)
-
-    event-bytes : Stands b eventsAt (part clientRoom eventsSize (λ i. eventsBytes (getElem? (factsIn b .clients) i)))
-    unfolding clientIn
-    event-bytes =
-        row-bytes eventsBytes eventsAt eventsSize clientRoom (zeros eventsSize)
-        (λ i. let p = eventsPlace i in
-        below-at eventsSize (λ j. byte b (p + j) ≡ getD (eventsBytes (some (clientIn b i))) j 0) ((tt, first-low p), first-high p))
-        (s .clients-end .events)
-
-    masks-bytes : restAt n ≤ size → Stands b masksAt (part n masksSize (λ i. masksBytes (getElem? (factsIn b .clients) i)))
-    masks-bytes fits =
-        row-bytes masksBytes masksAt masksSize n (zeros masksSize) mask-bytes (λ q l m. s .masks-end q l (omega arith))
+    row-bytes bytes at k room empty said past =
+        listed-stand bytes at k room (λ j. ap (λ (x : List ℕ). getD x j 0) empty ∙ zeros k j) (clientsIn b) (clientIn b) b (λ i l. said i) past
 
     -- the bytes show the facts read off them
     pub whole : restAt n ≤ size → Shows n size (factsIn b) b
-    unfolding factsIn
+    unfolding factsIn clientIn
     whole fits =
+        let past = s .clients-end in
+        let handles = row-bytes handleBytes handlesAt handleSize handleRoom refl (λ i. word-bytes (handlePlace i)) (past .handles) in
+        let attrs = row-bytes attributesBytes attributesAt attributesSize clientRoom refl (λ i. only-byte (attributesPlace i)) (past .attributes) in
+        let events = row-bytes eventsBytes eventsAt eventsSize clientRoom refl (λ i. word-bytes (eventsPlace i)) (past .events) in
+        let masks = row-bytes masksBytes masksAt masksSize n refl mask-bytes (λ q l m. s .masks-end q l (omega arith)) in
         let clients = sym (upTo-length (clientsIn b) (clientIn b)) in
         let ranges = sym (upTo-length (rangesIn b) (rangeIn b)) in
         let spare : Stands b spareAt (part spareSize 1 (λ i. 0 ∷ [])) = (λ i l. below-at 1 (λ j. byte b (spareAt + i * 1 + j) ≡ getD (0 ∷ []) j 0)
@@ -175,6 +133,6 @@ module _ (b : List ℕ) (bytes : Bytes b) where
         record {
           size = s .size;
           heads = below-at headSize (λ j. byte b j ≡ getD (headBytes (factsIn b)) j 0)
-              ((((((tt, s .marked), refl), clients), ranges), low 0 4), high 0 4);
-          shown = (card-bytes, (level-bytes, (range-bytes, (handle-bytes, (attribute-bytes, (event-bytes, (io-bytes, (irq-bytes, (spare, (masks-bytes fits, rest))))))))));
+              (omega (arith, s .marked, clients, ranges, bytes 4, bytes 5));
+          shown = (card-bytes, (level-bytes, (range-bytes, (handles, (attrs, (events, (io-bytes, (irq-bytes, (spare, (masks, rest))))))))));
         }

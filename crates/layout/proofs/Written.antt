@@ -1,5 +1,5 @@
 -- The bytes of a table after a byte, or a number of two or of four bytes, is written. Assumes nothing.
-use Rattle.facts.proofs.Words.{_≡_, _∙_, _⊎_, inl, inr, _≢_, List, ℕ, _+_, _/_, _%_, _≤_, _<_, arith, length, set, length-set, getD-set-same}
+use Rattle.facts.proofs.Words.{_≡_, _∙_, _⊎_, ⊎-elim, _≢_, List, ℕ, _+_, _/_, _%_, _≤_, _<_, arith, length, set, length-set, getD-set-same}
 use Rattle.facts.proofs.Words.{getD-set-other}
 use Rattle.facts.specs.{byte, withWord, withLong}
 
@@ -32,9 +32,6 @@ module _ (b : List ℕ) (at n : ℕ) where
   long-length = word-length lower (at + 2) (n / 65536 % 65536) ∙ word-length b at (n % 65536)
 
   pub long-other : (p : ℕ) → (p < at) ⊎ (at + 4 ≤ p) → byte (withLong b at n) p ≡ byte b p
-  long-other p (inl l) =
-      word-other lower (at + 2) (n / 65536 % 65536) p (λ e. omega (arith, e)) (λ e. omega (arith, e))
-      ∙ word-other b at (n % 65536) p (λ e. omega (arith, e)) (λ e. omega (arith, e))
-  long-other p (inr l) =
-      word-other lower (at + 2) (n / 65536 % 65536) p (λ e. omega (arith, e)) (λ e. omega (arith, e))
-      ∙ word-other b at (n % 65536) p (λ e. omega (arith, e)) (λ e. omega (arith, e))
+  long-other p o =
+      let apart : (p ≢ at) × (p ≢ at + 1) × (p ≢ at + 2) × (p ≢ at + 2 + 1) = ⊎-elim (λ l. omega arith) (λ l. omega arith) o in
+      word-other lower (at + 2) (n / 65536 % 65536) p (apart .2) (apart .3) ∙ word-other b at (n % 65536) p (apart .0) (apart .1)

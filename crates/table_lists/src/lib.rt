@@ -1,7 +1,4 @@
-// The lists of a table: the head, the clients in the order of their handles, their masks, the ranges in the order of their ports, the levels, and what lies
-// past the last of each.
-pub mod clients;
+// The lists of a table: the head, the ranges in the order of their ports, the levels, and what lies past the last range and the last seat.
 pub mod counts;
 pub mod levels;
-pub mod masks;
 pub mod ranges;

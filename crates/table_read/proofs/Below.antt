@@ -1,6 +1,5 @@
 -- What holds of every number below a bound: how a loop that stops at the first that fails decides it. Assumes nothing.
-use Rattle.facts.proofs.Words.{_≡_, sym, subst, ⊎-elim, Bool, true, false, not, ℕ, _+_, _≤_, _<_, eq-or-lt-of-le, arith, Says}
-use Rattle.facts.proofs.{says-true, says-yes, says-false-by}
+use Rattle.facts.proofs.Words.{sym, subst, ⊎-elim, ℕ, _+_, _≤_, _<_, eq-or-lt-of-le, arith}
 
 abbrev pub All : ℕ → (ℕ → Type 0) → Type 0
 All n P = (i : ℕ) → i < n → P i
@@ -22,13 +21,3 @@ module _ {n : ℕ} {P : ℕ → Type 0} where
 
   pub so-far-more : {i : ℕ} → SoFar n P i → i < n → P i → SoFar n P (i + 1)
   so-far-more a h p = record { within = omega arith; each = all-more (a .each) p }
-
-  -- it asks of the next one, and goes on or stops; or it has come to the end
-  pub so-far-next : {r : Bool} {i : ℕ} → SoFar n P i → i < n → Says r (P i) → not r ≡ false → SoFar n P (i + 1)
-  so-far-next a h s e = so-far-more a h (says-yes s e)
-
-  pub so-far-stop : {r : Bool} {i : ℕ} → i < n → Says r (P i) → not r ≡ true → Says false (All n P)
-  so-far-stop {r} {i} h s e = says-false-by s e (λ a. a i h)
-
-  pub so-far-end : {i m : ℕ} → SoFar n P i → m ≤ i → Says true (All m P)
-  so-far-end a h = says-true (λ k l. a .each k (omega arith))

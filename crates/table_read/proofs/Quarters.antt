@@ -1,5 +1,5 @@
 -- Four stretches of one size, each or-ed together by itself: what a loop over all four knows. Assumes nothing.
-use Rattle.facts.proofs.Words.{_≡_, List, ℕ, _+_, _*_, by-cases, decLt, arith, bitOr, eqb, Says}
+use Rattle.facts.proofs.Words.{_≡_, List, ℕ, _+_, _*_, _≤_, by-cases, decLt, arith, bitOr, eqb, Says}
 use Rattle.facts.specs.{byte}
 use Rattle.facts.proofs.{says-as}
 use Rattle.layout.specs.{Zero}
@@ -43,9 +43,12 @@ quarters-join from size z q l m =
     (λ x. by-cases (decLt q (from + size + size)) (z .two q (omega arith))
     (λ y. by-cases (decLt q (from + size + size + size)) (z .three q (omega arith)) (λ w. z .four q (omega arith) (omega arith))))
 
-pub join-quarters : {b : List ℕ} (from size : ℕ) → Zero b from (from + 4 * size)
-    → FourZero b from (from + size) (from + size + size) (from + size + size + size) size
-join-quarters from size z =
+-- and each of four stretches within one that is zero
+pub four-within : {b : List ℕ} {from to : ℕ} (one two three four size : ℕ) → (from ≤ one) × (from ≤ two) × (from ≤ three) × (from ≤ four)
+    → (one + size ≤ to) × (two + size ≤ to) × (three + size ≤ to) × (four + size ≤ to)
+    → Zero b from to
+    → FourZero b one two three four size
+four-within one two three four size low high z =
     record {
       one = λ q l m. z q (omega arith) (omega arith);
       two = λ q l m. z q (omega arith) (omega arith);

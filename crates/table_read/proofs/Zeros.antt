@@ -1,10 +1,10 @@
 -- Numbers or-ed together are zero exactly if each of them is, and so are bytes; and a record of a grant is used or zero. Assumes nothing.
-use Rattle.facts.proofs.Words.{_≡_, _∙_, ap, _⊎_, inr, ⊎-elim, _≢_, List, Bool, false, ℕ, _+_, _-_, _≤_, _<_, ℕ-discrete, decLt, arith, eq-eqb, ne-eqb}
-use Rattle.facts.proofs.Words.{bitOr, or-add-and, and-le-l, and-le-r, eqb, Says, by-cases}
-use Rattle.facts.specs.{byte}
+use Rattle.facts.proofs.Words.{_≡_, _∙_, ap, _⊎_, inr, ⊎-elim, _≢_, List, Bool, false, ℕ, _+_, _-_, _≤_, ℕ-discrete, decLt, arith, add-zero, eq-eqb}
+use Rattle.facts.proofs.Words.{ne-eqb, bitOr, or-add-and, and-le-l, and-le-r, eqb, Says, by-cases}
+use Rattle.facts.specs.{byte, long}
 use Rattle.facts.proofs.{told, says-true, says-false, says-as, says-eq}
 use Rattle.layout.specs.{Zero, LiveIn, ClientsSound}
-use Rattle.layout.proofs.{below-at}
+use Rattle.layout.proofs.Parts.{below-at, below-all}
 use Rattle.table_read.specs.{eight}
 
 -- a number is zero where what its being zero says is so
@@ -17,11 +17,6 @@ or-says x y p q =
     (λ e. (p .holds (eq-eqb x 0 (omega (arith, or-add-and x y, and-le-r x y))), q .holds (eq-eqb y 0 (omega (arith, or-add-and x y, and-le-l x y)))))
     (λ h. omega (arith, or-add-and x y, zero-where x p (h .0), zero-where y q (h .1)))
 
--- a stretch of two parts is zero exactly if both are
-module _ (b : List ℕ) (from mid to : ℕ) (f : from ≤ mid) (l : mid ≤ to) where
-  pub zero-joined : Zero b from mid → Zero b mid to → Zero b from to
-  zero-joined z z′ i h m = by-cases (decLt i mid) (z i h) (λ n. z′ i (omega arith) m)
-
 -- the number is zero exactly if the bytes from one place up to another are
 pub record Gathered (b : List ℕ) (from to all : ℕ) : Type 0 where
   pub says : Says (eqb all 0) (Zero b from to)
@@ -33,7 +28,7 @@ pub gathered-joined : (b : List ℕ) (from mid to x y : ℕ) → from ≤ mid �
     → Gathered b from to (bitOr x y)
 gathered-joined b from mid to x y f l g g′ =
     record {
-      says = says-as (or-says x y (g .says) (g′ .says)) (λ z. zero-joined b from mid to f l (z .0) (z .1))
+      says = says-as (or-says x y (g .says) (g′ .says)) (λ z i h m. by-cases (decLt i mid) (z .0 i h) (λ n. z .1 i (omega arith) m))
           (λ z. (λ i h m. z i h (omega arith), λ i h m. z i (omega arith) m));
     }
 
@@ -49,32 +44,10 @@ pub gathered-eight : (b : List ℕ) (at to : ℕ) → to ≡ at + 8 → Gathered
 gathered-eight b at to e =
     record {
       says = says-as (says-eq (eight b at) 0)
-          (λ z q l m. let j = q - at in
-          let there : q ≡ at + j = omega arith in
-          let here : at + 0 ≡ at = omega arith in
-          ap (byte b) there
-          ∙ below-at 8 (λ j. byte b (at + j) ≡ 0) (
-            (
-              (
-                (((((tt, ap (byte b) here ∙ omega (arith, z)), omega (arith, z)), omega (arith, z)), omega (arith, z)), omega (arith, z)),
-                omega (arith, z),
-              ),
-              omega (arith, z),
-            ),
-            omega (arith, z),
-          ) j (omega arith))
-          (λ z. let k : (j : ℕ) → j < 8 → byte b (at + j) ≡ 0 = (λ j l. z (at + j) (omega arith) (omega arith)) in
-          omega (
-            arith,
-            z at (omega arith) (omega arith),
-            k 1 (omega arith),
-            k 2 (omega arith),
-            k 3 (omega arith),
-            k 4 (omega arith),
-            k 5 (omega arith),
-            k 6 (omega arith),
-            k 7 (omega arith),
-          ));
+          (λ z q l m. let there : q ≡ at + (q - at) = omega arith in
+          ap (byte b) there ∙ below-at 8 (λ j. byte b (at + j) ≡ 0) (omega (arith, z, ap (byte b) (add-zero at))) (q - at) (omega arith))
+          (λ z. let all = below-all 8 (λ j. byte b (at + j) ≡ 0) (λ j l. z (at + j) (omega arith) (omega arith)) in
+          omega (arith, ap (byte b) (add-zero at)));
     }
 
 pub gathered-says : (b : List ℕ) (from i to all : ℕ) → i ≡ to → Gathered b from i all → Says (eqb all 0) (Zero b from to)
@@ -91,3 +64,23 @@ module _ {Zeroed Used P : Type 0} (not-zero : Zeroed → ⊥) where
 -- the handle of a live client is not 0
 pub live-used : (b : List ℕ) {h : ℕ} → ClientsSound b → LiveIn b h → h ≢ 0
 live-used b s l e = omega (arith, s (l .0) (l .1) .over, l .2, e)
+
+-- four bytes are zero exactly if the number that they say is
+module _ (b : List ℕ) (at to : ℕ) (n : to ≡ at + 4) where
+  pub long-zero : long b at ≡ 0 → Zero b at to
+  long-zero e i f l =
+      let here : i ≡ at + (i - at) = omega arith in
+      let last : at + 3 ≡ at + 2 + 1 = omega arith in
+      ap (byte b) here
+      ∙ below-at 4 (λ k. byte b (at + k) ≡ 0)
+      ((((tt, rw (add-zero at) (omega (arith, e))), omega (arith, e)), omega (arith, e)), rw last (omega (arith, e))) (i - at) (omega arith)
+
+  pub zero-long : Zero b at to → long b at ≡ 0
+  zero-long z =
+      omega (
+        arith,
+        z at (omega arith) (omega arith),
+        z (at + 1) (omega arith) (omega arith),
+        z (at + 2) (omega arith) (omega arith),
+        z (at + 2 + 1) (omega arith) (omega arith),
+      )

@@ -1,11 +1,11 @@
 -- The seats of sockets, and those that no socket has, whose records are zero: together they are all seats that have room. Assumes nothing.
-use Rattle.facts.proofs.Words.{_⊎_, inl, ⊎-elim, by-cases, List, ℕ, _+_, _-_, _/_, _≤_, _<_, decLt, arith}
+use Rattle.facts.proofs.Words.{inl, ⊎-elim, by-cases, List, ℕ, _+_, _-_, _/_, _≤_, _<_, decLt, arith}
 use Rattle.facts.specs.{mostSeats}
-use Rattle.layout.specs.{ioPlace, irqPlace, ioSize, irqSize, iosAt, irqsAt, spareAt, seatRoom, Zero, IoPlaceSound, IrqPlaceSound, IoPairSound, IrqPairSound}
+use Rattle.layout.specs.{ioPlace, irqPlace, ioSize, irqSize, iosAt, irqsAt, spareAt, seatRoom, Zero, IoPlaceSound, IrqPlaceSound, IoPairSound}
+use Rattle.layout.specs.{IrqPairSound}
 use Rattle.layout.specs.Sound.{Sound}
 use Rattle.table_lists.specs.{SeatsEnd}
-use Rattle.table_grants.specs.{IosSound}
-use Rattle.table_grants.specs.Parts.{IrqsSound}
+use Rattle.seats.specs.{IosSound, IrqsSound}
 
 module _ {b : List ℕ} where
   pub io-places : IosSound b → SeatsEnd b → (s : ℕ) → s < seatRoom → IoPlaceSound b s

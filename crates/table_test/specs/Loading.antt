@@ -4,7 +4,8 @@ use Prim.Native.Nat.{ℕ}
 use Rattle.layout.specs.Layout.{handlesAt, tableSize}
 use Rattle.layout.specs.Reading.{clientsIn, rangesIn, masksPlace, rangePlace}
 use Rattle.layout.specs.Sound.{Accepted, Zero, CountsSound, RangesSound, MasksSound}
-use Rattle.table_lists.specs.{LevelsSound, ClientsListed, SeatsEnd}
+use Rattle.table_clients.specs.{ClientsListed}
+use Rattle.table_lists.specs.{LevelsSound, SeatsEnd}
 use Rattle.table_test.specs.declared.Loaded.{Loaded}
 use Rattle.table_test.specs.declared.Loaded.the-variants.{Formed, Unformed}
 

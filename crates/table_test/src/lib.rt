@@ -1,14 +1,16 @@
 // The test of the whole table: whether its bytes are the image of a well-formed set.
+mod sockets;
+
+use crate::sockets::sockets_sound;
 use layout::TABLE_SIZE;
-use table_grants::sockets::sockets_sound;
-use table_lists::clients::clients_sound;
+use table_clients::clients_sound;
 use table_lists::counts::counts_sound;
 use table_lists::counts::ranges_end;
 use table_lists::counts::seats_end;
 use table_lists::levels::levels_sound;
-use table_lists::masks::masks_end;
-use table_lists::masks::masks_sound;
 use table_lists::ranges::ranges_sound;
+use table_masks::masks_end;
+use table_masks::masks_sound;
 ghost use mathlib.Core.Path.{_≡_};
 ghost use lib.ListN.{length};
 ghost use Rattle.facts.specs.Says.{Says};

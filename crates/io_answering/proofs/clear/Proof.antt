@@ -1,13 +1,15 @@
 -- `io_answering::clear` meets its contract: none of the gaps passed is met exactly if what was gathered is 0.
 -- Assumes nothing.
 use Rattle.facts.proofs.Words.{_≡_, ap, _∙_, ℕ, _+_, _-_, _%_, _^_, _≤_, mod-lt, arith, now, needs, bitAnd, pow-pos, pow-mono}
-use Rattle.facts.proofs.{says-true}
-use Rattle.io_answering.specs.{mostGaps, rowAt, LowBits, aheadOf}
-use Rattle.io_answering.proofs.{masked, Clear, clear-more, clear-all}
+use Rattle.facts.proofs.{says-as}
+use Rattle.facts.specs.{Meet}
+use Rattle.table_read.proofs.{Flawless, flawless-none, flawless-more, flawless-says}
+use Rattle.io_answering.specs.{mostGaps, rowAt, LowBits, aheadOf, portsFrom}
+use Rattle.io_answering.proofs.{masked, row-says}
 use Rattle.io_answering.proofs.clear.Tie as tie
 
 abbrev Inv-loop : tie.InvT-loop
-Inv-loop rows base count lines period ones last more some₀ i₀ some i = (i ≤ mostGaps) × Clear rows count lines base i some
+Inv-loop rows base count lines period ones last more some₀ i₀ some i = (i ≤ mostGaps) × Flawless (λ k. Meet (portsFrom count lines base) (rowAt rows k) → ⊥) i some
 
 abbrev μ-loop : tie.MeasureT-loop
 μ-loop rows base count lines period ones last more some₀ i₀ some i = mostGaps - i
@@ -74,22 +76,23 @@ loop-again c =
     let k = turn at in
     let s = start k in (
       omega (arith, at .before .before .loop-test .taken),
-      clear-more _ (s .args .count) (s .args .lines) (s .args .base) (s .pre .0) (s .pre .2) (s .pre .4) (k .loop .i) (k .loop .some) (c .ahead .result)
-          (k .loop .inv .1) (omega (arith, at .before .before .loop-test .taken)) (c .ahead .ensures ∙ by-period k (k .loop .i)),
+      flawless-more (c .ahead .result) (k .loop .inv .1)
+          (row-says _ (s .args .count) (s .args .lines) (s .args .base) (k .loop .i) (c .ahead .result) (s .pre .0) (s .pre .2) (s .pre .4)
+          (omega (arith, at .before .before .loop-test .taken)) (c .ahead .ensures ∙ by-period k (k .loop .i))),
     )
 
 returns : tie.Need-returns Inv-loop μ-loop
 returns c =
     let k = c .before in
-    let a = start k .args in
-    clear-all (now (a .rows)) (a .count) (a .lines) (a .base) (k .loop .i) (k .loop .some) (omega (arith, c .loop-test .left, k .loop .inv .0)) (k .loop .inv .1)
+    let all = flawless-says mostGaps (omega (arith, c .loop-test .left, k .loop .inv .0)) (k .loop .inv .1) in
+    says-as all (λ none m. none (m .0) (m .1) (m .2)) (λ none i l m. none (i, l, m))
 
 pub clear-spec : {M : Type 1} → Rattle.io_answering.proofs.clear.Statement.statement M
 clear-spec =
     tie.close
     (tie.spec Inv-loop μ-loop (λ c κs. omega (arith, c .pre .4)) (λ c. omega (arith, period c .0))
     (λ c. omega (arith, c .before .pre .1, c .before .pre .3)) (λ c. omega (arith, c .before .pre .2)) (λ c. omega (arith, c .before .pre .2))
-    (λ c. (omega arith, says-true (λ i l. absurd (omega arith)))) (λ c. omega (arith, c .loop-test .taken)) (λ c. omega (arith, c .loop-test .taken))
+    (λ c. (omega arith, flawless-none _)) (λ c. omega (arith, c .loop-test .taken)) (λ c. omega (arith, c .loop-test .taken))
     (λ c. omega (arith, c .before .loop-test .taken)) (λ c. omega (arith, c .before .loop-test .taken))
     (λ c. omega (arith, c .before .loop-test .taken)) cast-ahead (λ c. omega (arith, start (turn c) .pre .3))
     (λ c. omega (arith, period (turn c .before) .1)) ahead-requires add-i loop-less loop-again returns)

@@ -1,10 +1,10 @@
 -- `io_answering::gap_rows` meets its contract: the gaps passed are filled in, and `end` is where the ranges passed end.
 -- Assumes nothing.
-use Rattle.facts.proofs.Words.{_≡_, refl, _∙_, length, set, length-set, List, ℕ, _+_, _-_, _%_, _≤_, _<_, mod-lt, arith, now, needs}
+use Rattle.facts.proofs.Words.{_≡_, refl, subst, _∙_, getD, length, set, length-set, List, ℕ, _+_, _-_, _%_, _≤_, _<_, mod-lt, arith, now, needs}
 use Rattle.facts.specs.{allPorts, mostRanges}
 use Rattle.layout.specs.{rangesIn}
 use Rattle.io_answering.specs.{mostGaps}
-use Rattle.io_answering.proofs.{ends-within, none-are, filling-start, filling-more, filling-last, rows-are}
+use Rattle.io_answering.proofs.{ends-within, none-are, filling-start, filling-more, rows-are}
 use Rattle.io_answering.proofs.Filling.{Filling}
 use Rattle.io_answering.proofs.gap_rows.Tie as tie
 
@@ -60,25 +60,37 @@ loop-again c =
     let read = c .before .before in
     let at = read .before in
     let k = at .before in (
-      filling-more (table k) (k .loop .rows) (start k .pre .0 .2) (k .loop .end) (read .word .result) (c .before .smaller .result) (c .range-end .result)
-          (k .loop .i) (k .loop .inv .0) (listed at) (start k .pre .0 .1) (read .word .ensures .0) (c .before .smaller .ensures) (c .range-end .ensures),
+      filling-more (table k) (k .loop .rows) (start k .pre .0 .2) (start k .pre .0 .1) (k .loop .end) (read .word .result) (c .before .smaller .result)
+          (c .range-end .result) (k .loop .i) (k .loop .inv .0) (listed at) (read .word .ensures .0) (c .before .smaller .ensures) (c .range-end .ensures),
       twice-set (k .loop .rows) _ _ _ _ ∙ k .loop .inv .1,
     )
 
+-- after the last range, all gaps before one are filled in
+abbrev passed : tie.After-slice-known2 Inv-loop μ-loop → tie.At-loop Inv-loop μ-loop
+passed c = c .before .before
+
+walked : (c : tie.After-slice-known2 Inv-loop μ-loop) → let k = passed c in Filling (table k) (k .loop .rows) (k .loop .end) (rangesIn (table k))
+walked c =
+    let k = passed c in
+    let f = k .loop .inv .0 in
+    let all : k .loop .i ≡ rangesIn (table k) = omega (arith, f .listed, c .before .loop-test .left, k .before .byte .ensures .0) in
+    subst (Filling (table k) (k .loop .rows) (k .loop .end)) all f
+
 returns-2 : tie.Need-returns-2 Inv-loop μ-loop
 returns-2 c =
-    let k = c .before .before in
-    let n = k .before .byte .result in
-    rows-are (table k) _ (start k .pre .0 .2) (start k .pre .0 .1) (n + 1) (omega (arith, k .before .byte .ensures .0))
-    (filling-last (table k) (k .loop .rows) (start k .pre .0 .2) (k .loop .end) (c .smaller2 .result) (k .loop .i) n (k .loop .inv .0)
-    (k .before .byte .ensures .0) (omega (arith, c .before .loop-test .left)) (start k .pre .0 .1) (c .smaller2 .ensures)) _
+    let k = passed (c .before) in
+    rows-are (table k) (k .loop .rows) (start k .pre .0 .2) (start k .pre .0 .1) (k .loop .end) _ (c .smaller2 .result) (walked (c .before)) refl
+    (c .smaller2 .ensures) _
 
 -- there is room for what is written in a place
-room : (c : tie.At-loop Inv-loop μ-loop) (n : ℕ) → n ≤ mostRanges → (n < length (c .loop .rows)) × (mostGaps + n < length (c .loop .rows))
+room : (c : tie.At-loop Inv-loop μ-loop) (n : ℕ) → n < mostRanges → (n < length (c .loop .rows)) × (mostGaps + n < length (c .loop .rows))
 room c n l = let long = c .loop .inv .0 .filled .long in (omega arith, omega arith)
 
-room-after : (c : tie.At-loop Inv-loop μ-loop) (n x : ℕ) → n ≤ mostRanges → mostGaps + n < length (set (c .loop .rows) n x)
+room-after : (c : tie.At-loop Inv-loop μ-loop) (n x : ℕ) → n < mostRanges → mostGaps + n < length (set (c .loop .rows) n x)
 room-after c n x l = omega (arith, room c n l .1, length-set (c .loop .rows) n x)
+
+first-fits : (c : tie.After-slice-known2 Inv-loop μ-loop) → getD (passed c .loop .rows) mostGaps 0 ≤ 65535
+first-fits c = omega (arith, c .slice-known2 .given mostGaps)
 
 pub gap-rows-spec : {M : Type 1} → Rattle.io_answering.proofs.gap_rows.Statement.statement M
 gap-rows-spec =
@@ -92,9 +104,7 @@ gap-rows-spec =
     (λ c. omega (arith, c .smaller .ensures)) (λ c. omega (arith, placed (c .before .before))) (λ c. omega (arith, placed (c .before .before)))
     (λ c. let at = c .before .before in room-after (at .before) (at .before .loop .i) _ (omega (arith, placed at)))
     range-end-requires (λ c. omega (arith, placed (c .before .before .before))) (λ c. omega arith)
-    loop-again (λ c. omega (arith, below (c .before))) (λ c. omega (arith, last (c .before))) (λ c. room (c .before) _ (last (c .before)) .0)
-    (λ c. omega (arith, ends (c .before))) (λ c κs. search needs) (λ c. omega (arith, c .smaller2 .ensures))
-    (λ c. omega (arith, last (c .before .before))) (λ c. omega (arith, last (c .before .before)))
-    (λ c. room-after (c .before .before) _ _ (last (c .before .before)))
-    (λ c. let k = c .before .before in twice-set (k .loop .rows) _ _ _ _ ∙ k .loop .inv .1)
+    loop-again (λ c. room (passed c) 0 (omega arith) .1) (λ c. omega (arith, first-fits c)) (λ c. omega (arith, below (passed c))) (λ c. room (passed c) 0 (omega arith) .0)
+    (λ c. omega (arith, ends (passed c))) (λ c. omega (arith, first-fits c)) (λ c κs. search needs) (λ c. omega (arith, c .smaller2 .ensures))
+    (λ c. room-after (passed (c .before)) 0 _ (omega arith)) (λ c. let k = passed (c .before) in twice-set (k .loop .rows) _ _ _ _ ∙ k .loop .inv .1)
     returns-2)

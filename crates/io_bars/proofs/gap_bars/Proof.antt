@@ -4,7 +4,7 @@ use Rattle.facts.proofs.Words.{_≡_, refl, ap, subst, sym, _∙_, List, ℕ, _
 use Rattle.layout.proofs.{size-in, sound-in}
 use Rattle.io_answering.specs.{GapsAre}
 use Rattle.io_answering.proofs.{none-yet}
-use Rattle.io_obstacles.specs.{gapPlaces}
+use Rattle.io_obstacles.specs.{gapPlaces, gapRows}
 use Rattle.facts.specs.{allPorts}
 use Rattle.io_bars.specs.{mostPorts}
 use Rattle.io_bars.proofs.{Entered, none-entered, one-entered, Kept, kept-on, OfGap, no-gaps, gaps-are}
@@ -63,7 +63,7 @@ gap-rows-requires c κs =
     let s = called (c .before .before) in
     let b = now (s .args .t) in
     let sound = sound-in b (s .pre .0) in
-    ((size-in b (s .pre .0), sound .ranges-most, sound .ranges), none-yet 120 (now (s .args .rows)) (s .pre .4) (omega arith))
+    ((size-in b (s .pre .0), sound .ranges-most, sound .ranges), none-yet gapRows (now (s .args .rows)) (s .pre .4) (omega arith))
 
 loop-holds : tie.Need-loop-holds Inv-loop μ-loop
 loop-holds c = (none-entered _ _ _ (long c), record { bases = λ i l h. refl; counts = λ i l h. refl }, omega arith)

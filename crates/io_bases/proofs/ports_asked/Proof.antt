@@ -5,6 +5,7 @@ use Rattle.facts.specs.{allPorts}
 use Rattle.facts.proofs.{says-yes, says-no}
 use Rattle.layout.specs.Sound.{Sound}
 use Rattle.layout.proofs.{size-in, sound-in}
+use Rattle.io_answering.specs.{mostGaps}
 use Rattle.io_answering.proofs.{none-yet}
 use Rattle.io_bases.proofs.{all-managed}
 use Rattle.io_bases.proofs.Said.{unmanaged}
@@ -32,7 +33,7 @@ abbrev rows-of-look : tie.After-managed → tie.After-gap-rows
 rows-of-look c = let lent = c .before in lent .before .before
 
 gap-rows-requires : tie.Need-gap-rows-requires
-gap-rows-requires c κs = let k = c .before in ((size-in (table k) (start k .pre .0), sound k .ranges-most, sound k .ranges), none-yet 80 _ refl (omega arith))
+gap-rows-requires c κs = let k = c .before in ((size-in (table k) (start k .pre .0), sound k .ranges-most, sound k .ranges), none-yet (mostGaps + mostGaps) _ refl (omega arith))
 
 managed-requires : tie.Need-managed-requires
 managed-requires c κs =

@@ -1,7 +1,7 @@
 -- `io_obstacles::leap` meets its contract: the farthest end of the bars passed.
 -- Assumes nothing.
 use Rattle.facts.proofs.Words.{_≡_, ℕ, _+_, _-_, _≤_, _<_, arith, length, now, needs}
-use Rattle.io_obstacles.specs.{LiesInFirst, Leaps}
+use Rattle.io_obstacles.specs.{gapPlaces, LiesInFirst, Leaps}
 use Rattle.io_obstacles.proofs.{leap-start, leap-more}
 use Rattle.io_obstacles.proofs.leap.Tie as tie
 
@@ -22,7 +22,7 @@ turn c = c .before .before .before
 placed : (c : tie.In-loop Inv-loop μ-loop)
     → let a = start (c .before) .args in
     let i = c .before .loop .i in
-    (i < a .places) × (a .places ≤ 40) × (a .places + a .places + a .places ≤ length (now (a .rows)))
+    (i < a .places) × (a .places ≤ gapPlaces) × (a .places + a .places + a .places ≤ length (now (a .rows)))
 placed c = let s = start (c .before) in (c .loop-test .taken, s .pre .1, s .pre .0 .size)
 
 past-requires : tie.Need-past-requires Inv-loop μ-loop

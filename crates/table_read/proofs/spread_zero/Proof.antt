@@ -2,6 +2,7 @@
 -- Assumes nothing.
 use Rattle.facts.proofs.Words.{by-cases, decLt, _+_, _-_, _*_, _/_, arith, needs}
 use Rattle.facts.proofs.{says-as}
+use Rattle.table_read.proofs.{four-within}
 use Rattle.table_read.proofs.spread_zero.Tie as tie
 
 returns-2 : tie.Need-returns-2
@@ -12,12 +13,7 @@ returns-2 c =
     (λ z q l m. by-cases (decLt q (a .from + size)) (λ x. z .one q l (omega arith))
     (λ x. by-cases (decLt q (a .from + size + size)) (λ y. z .two q (omega arith) (omega arith))
     (λ y. by-cases (decLt q (a .to - size)) (λ u. z .three q (omega arith) (omega arith)) (λ u. z .four q (omega arith) (omega arith)))))
-    (λ z. record {
-      one = λ q l m. z q (omega arith) (omega arith);
-      two = λ q l m. z q (omega arith) (omega arith);
-      three = λ q l m. z q (omega arith) (omega arith);
-      four = λ q l m. z q (omega arith) (omega arith);
-    })
+    (four-within _ _ _ _ _ (omega arith) (omega arith))
 
 pub spread-zero-spec : {M : Type 1} → Rattle.table_read.proofs.spread_zero.Statement.statement M
 spread-zero-spec =

@@ -2,6 +2,7 @@
 -- Assumes nothing.
 use Rattle.facts.proofs.Words.{arith, needs, now}
 use Rattle.facts.proofs.{says-false, says-as, says-yes, says-false-by}
+use Rattle.layout.specs.{Zero, spareAt, masksAt}
 use Rattle.table_test.specs.{ListsSound}
 use Rattle.table_test.proofs.{io-places, irq-places, io-pairs, irq-pairs, no-seats}
 use Rattle.table_test.proofs.sound.Tie as tie
@@ -16,18 +17,7 @@ lists c = says-yes (c .before .lists-sound .ensures) (c .if2 .left)
 returns-2 : tie.Need-returns-2
 returns-2 c =
     says-false-by (c .before .lists-sound .ensures) (c .if2 .taken)
-    (λ s. record {
-      counts = record {
-        mark = s .marked;
-        sockets-least = s .sockets-least;
-        sockets-most = s .sockets-most;
-        clients-most = s .clients-most;
-        ranges-most = s .ranges-most;
-      };
-      levels = s .levels;
-      clients = record { sound = s .clients; end = s .clients-end };
-      ranges = s .ranges;
-    })
+    (λ s. search needs)
 
 sockets-sound-requires : tie.Need-sockets-sound-requires
 sockets-sound-requires c κs = let l = lists c in (search needs, l .counts, l .clients .sound, l .ranges)
@@ -48,27 +38,13 @@ returns-4 c =
     let sockets = says-yes (placed .before .sockets-sound .ensures) (placed .if3 .left) in
     let l = lists listed in
     says-as (c .rest-sound .ensures)
-    (λ e. record {
-      size = sized listed .if1 .left;
-      marked = l .counts .mark;
-      sockets-least = l .counts .sockets-least;
-      sockets-most = l .counts .sockets-most;
-      cards = sockets .cards;
-      levels = l .levels;
-      ranges-most = l .counts .ranges-most;
-      ranges = l .ranges;
-      ranges-end = e .ranges-end;
-      clients-most = l .counts .clients-most;
-      clients = l .clients .sound;
-      clients-end = l .clients .end;
-      masks = e .masks;
-      masks-end = e .masks-end;
-      ios = io-places (sockets .ios) (e .seats-end);
-      irqs = irq-places (sockets .irqs) (e .seats-end);
-      io-company = io-pairs (sockets .ios) (e .seats-end);
-      irq-company = irq-pairs (sockets .irqs) (e .seats-end);
-      spare = λ q l m. e .seats-end .irqs q (omega arith) m;
-    })
+    (λ e. let size = sized listed .if1 .left in
+    let ios = io-places (sockets .ios) (e .seats-end) in
+    let irqs = irq-places (sockets .irqs) (e .seats-end) in
+    let io-company = io-pairs (sockets .ios) (e .seats-end) in
+    let irq-company = irq-pairs (sockets .irqs) (e .seats-end) in
+    let spare : Zero (now (sized listed .before .before .args .t)) spareAt masksAt = (λ q l m. e .seats-end .irqs q (omega arith) m) in
+    search needs)
     (λ s. record { ranges-end = s .ranges-end; seats-end = no-seats s; masks = s .masks; masks-end = s .masks-end })
 
 pub sound-spec : {M : Type 1} → Rattle.table_test.proofs.sound.Statement.statement M

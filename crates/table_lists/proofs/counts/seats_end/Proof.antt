@@ -1,15 +1,16 @@
 -- `table_lists::counts::seats_end` meets its contract: two stretches that overlap are one.
 -- Assumes nothing.
-use Rattle.facts.proofs.Words.{by-cases, decLt, arith, needs}
+use Rattle.facts.proofs.Words.{by-cases, decLt, _-_, arith, needs}
 use Rattle.facts.proofs.{says-as}
+use Rattle.layout.specs.{irqsAt, masksAt}
 use Rattle.table_lists.proofs.counts.seats_end.Tie as tie
 
 returns : tie.Need-returns
 returns c =
     says-as (c .four-zero .ensures)
     (λ z. record {
-      ios = λ q l m. by-cases (decLt q 1000) (z .one q (omega arith)) (λ h. z .two q (omega arith) (omega arith));
-      irqs = λ q l m. by-cases (decLt q 1648) (z .three q (omega arith)) (λ h. z .four q (omega arith) (omega arith));
+      ios = λ q l m. by-cases (decLt q (irqsAt - 320)) (λ h. z .one q (omega arith) (omega arith)) (λ h. z .two q (omega arith) (omega arith));
+      irqs = λ q l m. by-cases (decLt q (masksAt - 320)) (λ h. z .three q (omega arith) (omega arith)) (λ h. z .four q (omega arith) (omega arith));
     })
     (λ z. record {
       one = λ q l m. z .ios q (omega arith) (omega arith);

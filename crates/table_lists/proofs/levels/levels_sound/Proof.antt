@@ -4,7 +4,7 @@ use Rattle.facts.proofs.Words.{_≡_, List, ℕ, _+_, _-_, _/_, _%_, _≤_, ari
 use Rattle.facts.specs.{Bytes, word, allLevels}
 use Rattle.facts.proofs.{says-as}
 use Rattle.layout.specs.{LevelSound, levelPlace}
-use Rattle.table_lists.proofs.{Flawless, flawless-none, flawless-more, flawless-says}
+use Rattle.table_read.proofs.{Flawless, flawless-none, flawless-more, flawless-says}
 use Rattle.table_lists.proofs.levels.levels_sound.Tie as tie
 
 abbrev Inv-loop : tie.InvT-loop
