@@ -1,7 +1,6 @@
 -- Ports that meet or don't, and the base that RequestIO gives where one range is managed: for N1 to N4, N8 and N9. Assumes nothing.
-use Rattle.facts.proofs.Words.{_≡_, refl, by-cases, sym, _∙_, _≢_, inl, inr, ⊎-elim, List, [], _∷_, true≢false, Option, none, some}
+use Rattle.facts.proofs.Words.{_≡_, refl, by-cases, sym, _∙_, _≢_, inl, inr, ⊎-elim, List, [], _∷_, true≢false, Option, none, some, Ports}
 use Rattle.facts.proofs.Words.{Option·none-ne-some, Option·some-injective, ℕ, _+_, _-_, _*_, _^_, _≤_, _<_, min, mod-eq-of-lt, decLe, arith, pow-mono}
-use Rattle.facts.proofs.Words.{Ports}
 use Rattle.facts.specs.{Code, BadBase, InUse, Passed, FirstGiven, withWord, BaseTaken, CandidateTaken, NoCandidate, NotAllManaged, InTheWay}
 use Rattle.facts.specs.{baseAsked, ioAheadChecks, baseChecks, Facts, Range, IoGrant, Meet, Has, Managed, Answers, Candidate, SmallestPower, RequestIo}
 use Rattle.facts.specs.{ioAsked}

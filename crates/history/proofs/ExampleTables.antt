@@ -1,5 +1,5 @@
 -- The tables of the examples, and that they are well formed: a run of requests, and two tables that are full. Assumes nothing.
-use Rattle.facts.proofs.Words.{_≡_, refl, ap, inl, inr, ⊎-elim, List, [], _∷_, true, true≢false, false≢true, some, Option·none-ne-some, ℕ, zero, suc}
+use Rattle.facts.proofs.Words.{_≡_, refl, ap, inl, inr, List, [], _∷_, true, true≢false, false≢true, some, Option·none-ne-some, ℕ, zero, suc}
 use Rattle.facts.proofs.Words.{_+_, _≤_, _<_, arith, length, WellFormed}
 use Rattle.facts.specs.{Exclusive, Facts, Range, fresh, _∈_, Apart, withClients, RequestSocketMask, withCard, withMask, levelAdded, rangeAdded}
 use Rattle.facts.specs.{withRanges, RequestIrq, Fits, IrqAttributesBad, IrqInfoBad, RequestIo, IoAttributesBad, IoSizeBad, requestIrq, requestIo}

@@ -2,9 +2,8 @@
 use Rattle.facts.proofs.Words.{_≡_, List, Bool, ℕ, length}
 use Rattle.facts.specs.{Record, Width, IoGrant, IrqGrant, clientAttributes, clientEvents, socketOf, eventsAsked, actionOf, resourceOf, add, remove}
 use Rattle.facts.specs.{irqLevel, ioRange, levelGiven, levelAttributes, ioAdjustLength, reserves, baseGiven, countGiven, attributesGiven, typeOf}
-use Rattle.facts.specs.{assignedIrq, typeAsked, mannerAsked, baseAsked, countAsked, portsAt, registerClient, deregisterClient}
+use Rattle.facts.specs.{assignedIrq, typeAsked, baseAsked, countAsked, registerClient, deregisterClient, ioAsked, irqAsked}
 use Rattle.facts.specs.{adjustResourceInfo, requestIrq, releaseIrq, requestIo, releaseIo, requestSocketMask, releaseSocketMask, ioGrant, irqGrant}
-use Rattle.facts.specs.{ioAsked, irqAsked}
 use Rattle.history.specs.{Fact, client, mask, level, range, io, irq, Made, GivenBack, Recorded, client-made, mask-made, level-made, range-made}
 use Rattle.history.specs.{io-made, irq-made, client-back, mask-back, level-back, range-back, io-back, irq-back, level-recorded, range-recorded}
 

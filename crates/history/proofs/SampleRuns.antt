@@ -1,9 +1,8 @@
 -- Runs for the wrong keepers: what happens before a first grant, on tables of the examples. Assumes nothing.
 use Rattle.facts.proofs.Words.{_≡_, refl, inl, inr, List, [], _∷_, _++_, true, false≢true, some, Option·none-ne-some, ℕ, _<_, arith, length}
 use Rattle.facts.proofs.Words.{WellFormed}
-use Rattle.facts.specs.{Code, Success, Facts, IrqGrant, fresh, mostClients, mostIssued, Register, nextHandle, registered as entered, withCard}
+use Rattle.facts.specs.{Code, Success, Facts, IrqGrant, fresh, mostClients, mostIssued, Register, nextHandle, registered as entered, withCard, Wide}
 use Rattle.facts.specs.{Passed, levelAdded, addLevelChecks, addRangeChecks, registerClient, adjustResourceInfo, requestIrq, requestIo, serviceNumber}
-use Rattle.facts.specs.{Wide}
 use Rattle.facts.proofs.{card-formed, level-added-formed}
 use Rattle.layout.specs.{image, Accepted}
 use Rattle.layout.proofs.{image-size}

@@ -1,7 +1,6 @@
 -- Wrong keepers whose grants meet: they make every check but one, as they should. Assumes nothing.
-use Rattle.facts.proofs.Words.{_≡_, refl, ap, sym, _∙_, subst, _⊎_, inl, inr, ⊎-elim, _≢_, List, [], _∷_, _++_, append-assoc, true, true≢false}
+use Rattle.facts.proofs.Words.{_≡_, refl, ap, sym, _∙_, subst, _⊎_, inl, inr, ⊎-elim, _≢_, List, [], _∷_, _++_, append-assoc, true, true≢false, T}
 use Rattle.facts.proofs.Words.{false≢true, some, Option·none-ne-some, Option·some-injective, ℕ, _+_, _*_, _^_, _≤_, _<_, ℕ-discrete, arith, length}
-use Rattle.facts.proofs.Words.{T}
 use Rattle.facts.specs.{Code, Success, BadBase, Exclusive, Facts, Range, IoGrant, IrqGrant, _∈_, withWord, Meet, Overlap, Managed, Together, Holds}
 use Rattle.facts.specs.{typeOf, Check, _gives_, Passed, socketOf, RequestIrq, IrqAttributesBad, IrqInfoBad, Fits, Mask, irqAheadChecks, withIrq}
 use Rattle.facts.specs.{irqGrant, levelAsked, mannerAsked, assigning, assignedIrq, RequestIo, IoAttributesBad, IoSizeBad, NotAllManaged}

@@ -3,10 +3,9 @@ use Rattle.facts.proofs.Words.{_≡_, refl, ap, sym, _∙_, subst, _⊎_, inl, 
 use Rattle.facts.proofs.Words.{_+_, _<_, add-zero, arith, length, WellFormed}
 use Rattle.facts.specs.{Code, Success, Record, Width, Facts, IoGrant, IrqGrant, _∈_, Meet, Together, typeOf, clientAttributes, clientEvents}
 use Rattle.facts.specs.{socketOf, eventsAsked, actionOf, resourceOf, add, remove, first, next, irqLevel, ioRange, levelGiven, ioAdjustLength}
-use Rattle.facts.specs.{baseGiven, countGiven, levelAttributes, attributesGiven, reserves, assignedIrq, typeAsked, mannerAsked, baseAsked}
-use Rattle.facts.specs.{countAsked, portsAt, recordsIn, Service, registerClient, deregisterClient, adjustResourceInfo, requestIrq}
+use Rattle.facts.specs.{baseGiven, countGiven, levelAttributes, attributesGiven, reserves, assignedIrq, typeAsked, baseAsked, ioGrant, ioAsked}
+use Rattle.facts.specs.{countAsked, recordsIn, Service, registerClient, deregisterClient, adjustResourceInfo, requestIrq}
 use Rattle.facts.specs.{releaseIrq, requestIo, releaseIo, requestSocketMask, releaseSocketMask, serviceNumber, mostSockets, irqGrant, irqAsked}
-use Rattle.facts.specs.{ioGrant, ioAsked}
 use Rattle.facts.proofs.{in-right, number-injective}
 use Rattle.layout.specs.{image, Accepted}
 use Rattle.history.specs.{Event, makeFresh, call, cardIn, cardOut, boot, sharers, Keeper, Ours, GoesOn, Runs, FromFresh, Fact, client, mask}

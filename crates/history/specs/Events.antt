@@ -6,9 +6,7 @@ use mathlib.Core.Bool.{true, false}
 use Prim.Native.Nat.{ℕ}
 use Rattle.facts.specs.declared.Code.{Code}
 use Rattle.facts.specs.declared.Code.the-variants.{Success}
-use Rattle.facts.specs.Codes.{numberOf}
-use Rattle.facts.specs.Codes.{packed}
-use Rattle.facts.specs.Codes.{placed}
+use Rattle.facts.specs.Codes.{numberOf, packed, placed}
 use Rattle.promises.specs.Entries.{CallAnswers, CardAnswers, SharersAnswers, FreshAnswers, BootAnswers}
 use Rattle.history.specs.Given as entry
 use Rattle.history.specs.Given.{Given}

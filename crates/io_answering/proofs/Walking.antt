@@ -1,6 +1,6 @@
 -- Whether a card answers in a gap of the rows: how far it is ahead of each. Assumes nothing.
 use Rattle.facts.proofs.Words.{_≡_, refl, ap, sym, _∙_, _≢_, List, Bool, cond, ℕ, _+_, _-_, _*_, _/_, _%_, _^_, _≤_, _<_, min}
-use Rattle.facts.proofs.Words.{max, mod-lt, mod-le, mod-add-mod, add-mul-mod-self-right, div-add-mod', one-mul, add-mul, decLt}
+use Rattle.facts.proofs.Words.{mod-lt, mod-add-mod, add-mul-mod-self-right, div-add-mod', one-mul, add-mul, decLt}
 use Rattle.facts.proofs.Words.{arith, bitAnd, and-mask, ne-eqb, pow-pos, pow-mono, Ports, Says, eqb, ℕ-discrete}
 use Rattle.facts.specs.{Meet, allPorts, mostLines}
 use Rattle.facts.proofs.{says-as, says-eq, told}

@@ -1,10 +1,10 @@
 -- The bases at which ports meet others are a stretch. Assumes nothing.
-use Rattle.facts.proofs.Words.{_≡_, ap, sym, _∙_, subst, ℕ, _+_, _-_, _%_, _^_, _≤_, _<_, min, mod-lt, mod-eq-of-lt, pow-mono, pow-pos, decLt, decLe, arith, Ports}
-use Rattle.facts.specs.{Meet, allPorts, mostLines}
+use Rattle.facts.proofs.Words.{_≡_, ap, _∙_, ℕ, _+_, _-_, _%_, _^_, _≤_, _<_, min, mod-lt, mod-eq-of-lt, pow-mono, decLt, arith, Ports}
+use Rattle.facts.specs.{allPorts, mostLines}
 use Rattle.io_ranges.proofs.{meet-near, near-meet, all-ports-mod}
 use Rattle.io_answering.specs.{portsFrom}
-use Rattle.io_obstacles.specs.{Stretch, around, Lies}
-use Rattle.io_bars.specs.{mostPorts, StretchIs, PortsFit}
+use Rattle.io_obstacles.specs.{Stretch, around}
+use Rattle.io_bars.specs.{StretchIs, PortsFit}
 
 -- the start is taken modulo all ports, which changes nothing modulo a period
 start-mod : (s x k : ℕ) → k ≤ mostLines → s ≤ around → (x + around - s % allPorts) % 2 ^ k ≡ (x + around - s) % 2 ^ k

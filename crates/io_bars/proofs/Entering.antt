@@ -1,6 +1,6 @@
 -- Bars are entered in the rows, one after the other. Assumes nothing.
-use Rattle.facts.proofs.Words.{_≡_, refl, ap, sym, _∙_, subst, _⊎_, inl, inr, _≢_, List, ℕ, _+_, _-_, _*_, _^_, _≤_, _<_, eq-or-lt-of-le, decLt, arith}
-use Rattle.facts.proofs.Words.{length, set, getD, getD-set-same, getD-set-other, length-set, replicate, getD-replicate, length-replicate}
+use Rattle.facts.proofs.Words.{_≡_, ap, sym, _∙_, subst, _⊎_, inl, inr, _≢_, List, ℕ, _+_, _-_, _≤_, _<_, eq-or-lt-of-le, arith}
+use Rattle.facts.proofs.Words.{length, set, getD, getD-set-same, getD-set-other, length-set}
 use Rattle.io_obstacles.specs.{gapPlaces, Stretch, barAt, StretchFits, RowsFit, LiesInRows, Lies}
 use Rattle.io_bars.specs.{Bar, stretch, barEntered}
 

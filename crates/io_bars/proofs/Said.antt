@@ -1,16 +1,16 @@
 -- The rows that were filled bar just the bases at which ports meet a live grant, or a gap. Assumes nothing.
-use Rattle.facts.proofs.Words.{_≡_, refl, ap, sym, _∙_, subst, List, some, none, Option·some-injective, Option·none-ne-some, ℕ, _+_, _-_, _^_, _≤_, _<_, arith}
-use Rattle.facts.proofs.Words.{length, getD, replicate, length-replicate, Ports}
-use Rattle.facts.specs.{MeetsHeld, Facts, HeldPorts, Held, Meet, mostSeats, mostLines, mostSockets, allPorts}
+use Rattle.facts.proofs.Words.{_≡_, ap, sym, _∙_, subst, List, none, Option·some-injective, Option·none-ne-some, ℕ, _+_, _-_, _<_, arith}
+use Rattle.facts.proofs.Words.{length, getD, replicate, length-replicate}
+use Rattle.facts.specs.{MeetsHeld, Facts, HeldPorts, Held, Meet, mostSeats, mostLines, allPorts}
 use Rattle.layout.specs.{Accepted}
-use Rattle.seats.specs.{HeldIs, range, ioAt}
+use Rattle.seats.specs.{HeldIs, range}
 use Rattle.seats.specs.declared.IoSeat.{IoSeat}
 use Rattle.seats.specs.declared.IoSeat.the-variants as io
 use Rattle.seats.proofs.{io-held}
 use Rattle.io_answering.specs.{rowAt, GapsAre, portsFrom}
 use Rattle.io_answering.proofs.{none-yet}
 use Rattle.io_obstacles.specs.{Stretch, grantPlaces, gapPlaces, gapRows}
-use Rattle.io_bars.specs.{StretchIs, seatPorts, PortsFit, SeatFits, GrantBars, GrantBarsOf, GapBars, mostPorts}
+use Rattle.io_bars.specs.{StretchIs, seatPorts, SeatFits, GrantBars, GapBars}
 use Rattle.io_bars.proofs.Entering.{Entered, entered-fit, lies-entered, entered-lies}
 
 -- the bar of what is held at a seat

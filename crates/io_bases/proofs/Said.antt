@@ -1,9 +1,8 @@
 -- What the bytes say of the ports at a named base: whether they are managed, and what is in their way. Assumes nothing.
-use Rattle.facts.proofs.Words.{_≡_, sym, _∙_, subst, _⊎_, inl, inr, ⊎-elim, List, Bool, true, false, not, none, some, Option·some-injective}
+use Rattle.facts.proofs.Words.{_≡_, sym, _∙_, subst, _⊎_, inr, ⊎-elim, List, Bool, true, false, not, none, some, Option·some-injective}
 use Rattle.facts.proofs.Words.{Option·none-ne-some, ℕ, _+_, _<_, decLt, arith, true≢false, Says}
 use Rattle.layout.proofs.Of
-use Rattle.facts.specs.{Facts, IoAsked, HeldPorts, Within, Meet, AllManaged, AnswersManaged, portsAt, NotAllManaged, BothShare, InTheWay, allPorts}
-use Rattle.facts.specs.{mostSeats}
+use Rattle.facts.specs.{Facts, IoAsked, HeldPorts, Within, Meet, portsAt, NotAllManaged, BothShare, InTheWay, allPorts, mostSeats}
 use Rattle.facts.proofs.{says-true, says-false, told, own-answers}
 use Rattle.layout.specs.{Accepted, factsIn}
 use Rattle.table_read.proofs.Some.{Some}

@@ -6,13 +6,12 @@ use Rattle.layout.proofs.Of
 use Rattle.facts.specs.{MeetsHeld, IoAsked, Range, Lowest, Has, Managed, Answers, WhollyUnreserved, portsAt, SmallestPower, Candidate, CandidateTaken}
 use Rattle.facts.specs.{mostLines, Facts}
 use Rattle.facts.proofs.{Unreserved, wholly-unreserved-told, chosen-first, chosen-then, smallest-power-unique}
-use Rattle.layout.specs.{rangesIn, rangeIn, ioIn, marked, Accepted, RangesSound}
+use Rattle.layout.specs.{rangesIn, rangeIn, marked, Accepted, RangesSound}
 use Rattle.layout.proofs.{HasPort}
 use Rattle.table_read.proofs.{All}
 use Rattle.io_ranges.proofs.{answers-own}
 use Rattle.io_answering.proofs.{clear-answers, answers-clear}
-use Rattle.io_candidates.specs.declared.TakenBase.{TakenBase}
-use Rattle.io_candidates.specs.declared.TakenBase.the-variants.{Base, Nothing}
+use Rattle.io_candidates.specs.declared.TakenBase.the-variants.{Base}
 use Rattle.io_answering.specs.{MeetsGap}
 use Rattle.io_candidates.specs.{reserveMark, Counts, SomeMarked, Free, CandidateIn, FirstIs}
 use Rattle.io_candidates.proofs.Choosing.{lowest-as}

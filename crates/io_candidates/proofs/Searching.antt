@@ -1,5 +1,5 @@
 -- The lowest candidate: past what live grants and gaps bar, in one range, and over the ranges in order. Assumes nothing.
-use Rattle.facts.proofs.Words.{_≡_, subst, inl, List, ℕ, _+_, _-_, _≤_, _<_, max, decLt, decLe, arith}
+use Rattle.facts.proofs.Words.{_≡_, subst, List, ℕ, _+_, _-_, _≤_, _<_, max, decLt, decLe, arith}
 use Rattle.facts.specs.{Lowest}
 use Rattle.layout.specs.{rangesIn, RangesSound, rangeBase}
 use Rattle.layout.proofs.{rangeEnd, ends-before}

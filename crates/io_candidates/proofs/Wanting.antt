@@ -1,5 +1,5 @@
 -- A search for what is asked: its rows and numbers fit, and what it finds by the bars is a candidate. Assumes nothing.
-use Rattle.facts.proofs.Words.{_≡_, sym, subst, inl, inr, ⊎-elim, List, ℕ, _+_, _-_, _^_, _≤_, _<_, arith}
+use Rattle.facts.proofs.Words.{_≡_, sym, subst, inl, inr, List, ℕ, _-_, _^_, _≤_, _<_, arith}
 use Rattle.facts.specs.{IoAsked, mostLines}
 use Rattle.layout.specs.{Accepted}
 use Rattle.io_obstacles.specs.{Stretch, Wanted, Lies, LiesInRows, Barring, Gaps, Counted, Ignored, GapsFor, grantPlaces, gapPlaces, BarredByGap}

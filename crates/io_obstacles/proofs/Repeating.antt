@@ -1,6 +1,6 @@
 -- What bars a base repeats: where a search found none free between two bases, there is none between them after each period. Assumes nothing.
-use Rattle.facts.proofs.Words.{_≡_, ap, sym, subst, _∙_, _⊎_, inl, inr, List, ℕ, _+_, _-_, _%_, _^_, _≤_, _<_, max, add-mod-mod, mod-add-mod, decLe, arith}
-use Rattle.facts.proofs.Words.{pow-mono, pow-lt}
+use Rattle.facts.proofs.Words.{_≡_, ap, sym, subst, _∙_, inl, inr, List, ℕ, _+_, _-_, _%_, _^_, _≤_, _<_, max, add-mod-mod, mod-add-mod, decLe, arith}
+use Rattle.facts.proofs.Words.{pow-lt}
 use Rattle.facts.specs.{allPorts}
 use Rattle.io_ranges.proofs.{all-ports-mod, mod-fewer}
 use Rattle.io_obstacles.specs.{Stretch, around, Power, Multiple, Lies, StretchFits, barAt, RowsFit, LiesInRows, Barring, Repeats, Period}

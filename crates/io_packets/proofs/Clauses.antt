@@ -1,6 +1,6 @@
 -- None of the clauses of a packet's checks applies. Assumes nothing.
-use Rattle.facts.proofs.Words.{_≡_, refl, sym, _∙_, subst, inl, inr, _≢_, List, ℕ, _%_, _^_, _≤_, _<_, ℕ-discrete, arith, eqb}
-use Rattle.facts.specs.{bit, ioAttributes, countAsked, linesAsked, secondCount, IoShared, IoFirstShared, IoAttributesBad, IoSizeBad, mostLines}
+use Rattle.facts.proofs.Words.{_≡_, inl, inr, _≢_, List, ℕ, _^_, _≤_, _<_}
+use Rattle.facts.specs.{ioAttributes, countAsked, linesAsked, secondCount, IoShared, IoFirstShared, IoAttributesBad, IoSizeBad, mostLines}
 
 module _ (p : List ℕ) where
   -- of attributes and lines

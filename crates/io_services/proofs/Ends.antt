@@ -1,6 +1,5 @@
 -- Each way in which RequestIO and ReleaseIO end is the rule's. Assumes nothing.
-use Rattle.facts.proofs.Words.{_≡_, refl, sym, _∙_, inl, inr, _≢_, List, [], _∷_, none, some, Option·none-ne-some, ℕ, _≤_, _<_, decLe}
-use Rattle.facts.proofs.Words.{arith}
+use Rattle.facts.proofs.Words.{_≡_, refl, sym, _∙_, inl, inr, _≢_, List, [], _∷_, none, some, Option·none-ne-some, ℕ, _≤_, _<_, decLe, arith}
 use Rattle.layout.proofs.Of
 use Rattle.facts.specs.{Code, Success, BadAttribute, BadBase, BadSize, InUse, Facts, withWord, _gives_, FirstGiven, Passed, Leaves}
 use Rattle.facts.specs.{socketOf, requestIoLength, releaseIoLength, baseAsked, countAsked, linesAsked, secondCount, withIo, ioGrant, GrantsIo, IoHeld}

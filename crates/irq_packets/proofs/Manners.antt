@@ -1,5 +1,5 @@
 -- What a packet asks for: the manner by its type and its bits, the levels by Mask, First Shared by its bit; and what is written. Assumes nothing.
-use Rattle.facts.proofs.Words.{_≡_, refl, ap, sym, _∙_, subst, _≢_, List, Bool, cond, ℕ, _+_, _^_, arith, eqb, eq-eqb, ne-eqb, Says, true, false}
+use Rattle.facts.proofs.Words.{_≡_, refl, ap, sym, _∙_, subst, _≢_, List, Bool, cond, ℕ, _+_, _^_, arith, eqb, eq-eqb, ne-eqb}
 use Rattle.facts.specs.{Manner, Exclusive, TimeMultiplexed, DynamicLevel, DynamicPulse, withWord, exclusiveType, timeMultiplexedType, attributesOf}
 use Rattle.facts.specs.{dynamicOf, withPulse, Mask, info2, levelAsked, levelsNamed, bit, info1}
 

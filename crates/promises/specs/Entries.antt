@@ -19,8 +19,7 @@ use Rattle.layout.specs.Layout
 use Rattle.layout.specs.Layout.{image}
 use Rattle.layout.specs.Sound.{Accepted}
 use Rattle.layout.specs.Served.{Served, ServedBy, TableRefused}
-use Rattle.facts.specs.Codes.{packed}
-use Rattle.facts.specs.Codes.{placed}
+use Rattle.facts.specs.Codes.{packed, placed}
 
 -- cs_call: the service rules, and leaves the table b′ and the packet p′; or the table b is refused
 abbrev pub CallPermitted : ℕ → ℕ → List ℕ → List ℕ → List ℕ → List ℕ → Code → ℕ → Type 0

@@ -9,8 +9,7 @@ use Rattle.layout.proofs.{used-sound, ports-are}
 use Rattle.io_ranges.proofs.{mod-fewer, meet-near, near-meet}
 use Rattle.table_read.proofs.{zero-where}
 use Rattle.seats.specs.{CompanySound, PlacesSound}
-use Rattle.table_company.specs.{NumbersAre, RowsAre, numbersAt}
-use Rattle.table_company.specs.{countsAt, unsharedAt, overOf, rowAgainst, reached, RowsApart}
+use Rattle.table_company.specs.{NumbersAre, RowsAre, numbersAt, countsAt, unsharedAt, overOf, rowAgainst, reached, RowsApart}
 
 -- what is reached, by the row that was chosen and the last port
 pub reached-by : (rows : List ℕ) (s u r row last : ℕ) → let x = numbersAt rows s in

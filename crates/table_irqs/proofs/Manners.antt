@@ -2,17 +2,15 @@
 -- holds its level in a manner that doesn't go with its own. Assumes nothing.
 use Rattle.facts.proofs.Words.{_≡_, refl, sym, ap, ap₂, _∙_, subst, _↔_, List, ℕ, _+_, _*_, _^_, _≤_, _<_, arith, bitAnd, eqb, Says}
 use Rattle.facts.specs.{Manner, Exclusive, TimeMultiplexed, DynamicLevel, DynamicPulse, byte, bit, Together}
-use Rattle.facts.proofs.{told, says-as, says-dec}
+use Rattle.facts.proofs.{told, says-as, says-dec, bit-below, shifted-bit, shifted-only}
 use Rattle.layout.specs.{irqSize, irqPlace, irqIn, mannerOf, IrqUsed, IrqPlaceSound, IrqPairSound, irqLevelAt, irqMannerAt}
 use Rattle.layout.proofs.{below-at, used-sound}
 use Rattle.irq_levels.specs.Apart.{MannersApart}
 use Rattle.irq_levels.proofs.{rule-says}
 use Rattle.table_read.specs.{HasJust}
-use Rattle.facts.proofs.{bit-below, shifted-bit, shifted-only}
-use Rattle.table_read.proofs.{exactly-one}
+use Rattle.table_read.proofs.{exactly-one, common-says}
 use Rattle.seats.specs.{PlacesSound, CompanySound}
 use Rattle.table_irqs.specs.{HoldsAs, HeldBelow, Against, heldAs}
-use Rattle.table_read.proofs.{common-says}
 
 -- the set of the manners that don't go with one, by their numbers
 number-apart : {m : Manner} {set : ℕ} → MannersApart m set → (k : ℕ) → k < 4 → (bit set k ≡ 1) ↔ (Together m (mannerOf k) → ⊥)

@@ -4,9 +4,8 @@ use Rattle.facts.specs.{allPorts, Bytes}
 use Rattle.facts.proofs.{says-as}
 use Rattle.layout.specs.{rangesIn, rangePlace, RangesSound, rangeBase, rangeCount, endBefore}
 use Rattle.layout.proofs.{end-next}
-use Rattle.table_read.proofs.{All, all-none, all-more}
+use Rattle.table_read.proofs.{All, all-none, all-more, Flawless, flawless-none, flawless-more}
 use Rattle.table_lists.specs.{RangeFollows, RangeMarked}
-use Rattle.table_read.proofs.{Flawless, flawless-none, flawless-more}
 
 -- the first i ranges follow one another, the last of them ends at low, and what is wrong with their marks is 0 exactly if nothing is
 pub record Passed (b : List ℕ) (low flaws i : ℕ) : Type 0 where

@@ -6,9 +6,8 @@ use Rattle.layout.specs.{socketsIn, MasksSound, seatRoom}
 use Rattle.facts.proofs.{says-as, says-eq}
 use Rattle.layout.proofs.{zero-test, positive-test}
 use Rattle.layout.proofs.Parts.{zeros}
-use Rattle.table_read.proofs.{all-more}
+use Rattle.table_read.proofs.{all-more, Flawless}
 use Rattle.table_masks.specs.{NoSteps, StepsAre, RowsUnder}
-use Rattle.table_read.proofs.{Flawless}
 
 -- the step that is the limit of the seat s, where there are so many sockets
 module _ {steps : List ℕ} (are : StepsAre steps) {sockets : ℕ} (few : sockets ≤ mostSockets) where

@@ -1,6 +1,6 @@
 -- `io_answering::clear` meets its contract: none of the gaps passed is met exactly if what was gathered is 0.
 -- Assumes nothing.
-use Rattle.facts.proofs.Words.{_≡_, ap, _∙_, ℕ, _+_, _-_, _%_, _^_, _≤_, mod-lt, arith, now, needs, bitAnd, pow-pos, pow-mono}
+use Rattle.facts.proofs.Words.{_≡_, ap, _∙_, ℕ, _+_, _-_, _%_, _^_, _≤_, mod-lt, arith, now, bitAnd, pow-pos, pow-mono}
 use Rattle.facts.proofs.{says-as}
 use Rattle.facts.specs.{Meet}
 use Rattle.table_read.proofs.{Flawless, flawless-none, flawless-more, flawless-says}

@@ -1,6 +1,6 @@
 -- `io_bars::enter` meets its contract: three numbers, each in its row.
 -- Assumes nothing.
-use Rattle.facts.proofs.Words.{_≡_, List, ℕ, _+_, arith, now, needs, length, set, length-set, _∙_}
+use Rattle.facts.proofs.Words.{_≡_, _+_, arith, now, needs, length, set, length-set, _∙_}
 use Rattle.io_bars.proofs.enter.Tie as tie
 
 -- the first two leave as many numbers as there were

@@ -1,6 +1,6 @@
 -- `io_bars::gap_bars` meets its contract: the gaps passed have become bars, and the others still stand.
 -- Assumes nothing.
-use Rattle.facts.proofs.Words.{_≡_, refl, ap, subst, sym, _∙_, List, ℕ, _+_, _-_, _≤_, _<_, arith, now, needs, length, getD, replicate}
+use Rattle.facts.proofs.Words.{_≡_, refl, ap, subst, sym, _∙_, List, ℕ, _+_, _-_, _≤_, arith, now, length, getD}
 use Rattle.layout.proofs.{size-in, sound-in}
 use Rattle.io_answering.specs.{GapsAre}
 use Rattle.io_answering.proofs.{none-yet}

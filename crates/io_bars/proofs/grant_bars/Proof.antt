@@ -1,6 +1,6 @@
 -- `io_bars::grant_bars` meets its contract: the seats passed have their bars, and the other places none.
 -- Assumes nothing.
-use Rattle.facts.proofs.Words.{_≡_, refl, ap, subst, sym, _∙_, List, ℕ, _-_, _≤_, arith, now, needs, length}
+use Rattle.facts.proofs.Words.{_≡_, ap, subst, sym, _∙_, List, ℕ, _-_, _≤_, arith, now, length}
 use Rattle.facts.specs.{mostSeats}
 use Rattle.layout.proofs.{size-in}
 use Rattle.io_obstacles.specs.{grantPlaces}

@@ -1,6 +1,6 @@
 -- `io_bars::seat_bar` meets its contract: the ports that are held, or none.
 -- Assumes nothing.
-use Rattle.facts.proofs.Words.{subst, needs, arith}
+use Rattle.facts.proofs.Words.{needs, arith}
 use Rattle.io_bars.proofs.seat_bar.Tie as tie
 
 -- where the call began; what is held there fits

@@ -1,6 +1,6 @@
 -- `io_bases::chosen` meets its contract: the first candidate, or there is none.
 -- Assumes nothing.
-use Rattle.facts.proofs.Words.{now, needs}
+use Rattle.facts.proofs.Words.{needs}
 use Rattle.io_bases.proofs.{none, first, low}
 use Rattle.io_bases.proofs.chosen.Tie as tie
 

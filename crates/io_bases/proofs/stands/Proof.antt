@@ -1,6 +1,6 @@
 -- `io_bases::stands` meets its contract: nothing is held there, it isn't met, or the two don't both share.
 -- Assumes nothing.
-use Rattle.facts.proofs.Words.{_≡_, refl, ap, _∙_, subst, inl, inr, some, false, true, true≢false, sym, ℕ, _<_, arith, now, needs, not-true, not-false}
+use Rattle.facts.proofs.Words.{_≡_, refl, ap, _∙_, subst, inl, inr, some, true≢false, sym, ℕ, _<_, arith, now, needs, not-true, not-false}
 use Rattle.facts.specs.{Facts, HeldPorts, allPorts, Meet, portsAt}
 use Rattle.facts.proofs.{says-true, says-false, says-yes, says-no}
 use Rattle.layout.specs.{factsIn}

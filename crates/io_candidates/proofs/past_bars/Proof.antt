@@ -1,6 +1,6 @@
 -- `io_candidates::past_bars` meets its contract: where the grants bar every base nothing is taken, and else what comes first past all bars.
 -- Assumes nothing.
-use Rattle.facts.proofs.Words.{refl, inl, List, ℕ, arith, now, needs}
+use Rattle.facts.proofs.Words.{refl, inl, List, ℕ, now, needs}
 use Rattle.io_obstacles.proofs.{barring-as}
 use Rattle.io_obstacles.specs.{SearchFits}
 use Rattle.io_bars.specs.{GapBars}

@@ -1,6 +1,6 @@
 -- `io_candidates::some_marked` meets its contract: none of the ranges passed has such a mark.
 -- Assumes nothing.
-use Rattle.facts.proofs.Words.{_≡_, List, ℕ, _+_, _-_, _≤_, _<_, arith, now, needs}
+use Rattle.facts.proofs.Words.{List, ℕ, _-_, _≤_, _<_, arith, now}
 use Rattle.facts.specs.{mostRanges}
 use Rattle.facts.proofs.{says-true, says-false}
 use Rattle.layout.specs.{rangesIn}

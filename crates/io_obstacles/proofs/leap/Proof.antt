@@ -1,6 +1,6 @@
 -- `io_obstacles::leap` meets its contract: the farthest end of the bars passed.
 -- Assumes nothing.
-use Rattle.facts.proofs.Words.{_≡_, ℕ, _+_, _-_, _≤_, _<_, arith, length, now, needs}
+use Rattle.facts.proofs.Words.{_≡_, _+_, _-_, _≤_, _<_, arith, length, now, needs}
 use Rattle.io_obstacles.specs.{gapPlaces, LiesInFirst, Leaps}
 use Rattle.io_obstacles.proofs.{leap-start, leap-more}
 use Rattle.io_obstacles.proofs.leap.Tie as tie

@@ -1,6 +1,6 @@
 -- `io_obstacles::limit_of` meets its contract: a power of two is positive, and no greater than all ports.
 -- Assumes nothing.
-use Rattle.facts.proofs.Words.{_^_, arith, needs, pow-pos, pow-mono}
+use Rattle.facts.proofs.Words.{arith, needs, pow-pos, pow-mono}
 use Rattle.io_obstacles.proofs.limit_of.Tie as tie
 
 positive : tie.Need-sub-result

@@ -1,8 +1,7 @@
 -- `io_obstacles::lowest` meets its contract: the search has come to the multiple `base`, and every one before it is barred; so is what is known.
 -- Assumes nothing.
-use Rattle.facts.proofs.Words.{inl, List, ℕ, _+_, _-_, _≤_, arith, now}
-use Rattle.io_obstacles.specs.{around, LiesInRows, Barring, Multiple, Repeats, grantPlaces, BarredFor, SearchFits}
-use Rattle.io_obstacles.specs.declared.Stretch.{Stretch}
+use Rattle.facts.proofs.Words.{inl, ℕ, _+_, _-_, _≤_, arith, now}
+use Rattle.io_obstacles.specs.{LiesInRows, Barring, grantPlaces, BarredFor, SearchFits}
 use Rattle.io_obstacles.proofs.{power-most, AllBarred, leap-barred, Gone, gone-start, gone-on, gone-along, gone-free, gone-past}
 use Rattle.io_obstacles.proofs.{rows-repeat, rows-more, learnt-barring}
 use Rattle.io_obstacles.proofs.lowest.Tie as tie

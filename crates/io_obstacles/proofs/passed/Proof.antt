@@ -1,8 +1,8 @@
 -- `io_obstacles::passed` meets its contract: for bars with periods so short, the search has passed every multiple before `base`, and what is known is
 -- barred.
 -- Assumes nothing.
-use Rattle.facts.proofs.Words.{_≡_, List, ℕ, _+_, _-_, _^_, _≤_, _<_, arith, now, needs, pow-pos, pow-mono}
-use Rattle.facts.specs.{allPorts, mostLines}
+use Rattle.facts.proofs.Words.{List, ℕ, _+_, _-_, _^_, _≤_, arith, now, needs, pow-mono}
+use Rattle.facts.specs.{mostLines}
 use Rattle.io_obstacles.specs.{Stretch, Wanted, Power, LiesInRows, Barring, grantPlaces, WantedFits}
 use Rattle.io_obstacles.proofs.{power-most, Gone, gone-along, gone-as, rows-repeat, rows-more, learnt-barring, nowhere-barring, barring-as}
 use Rattle.io_obstacles.proofs.passed.Tie as tie

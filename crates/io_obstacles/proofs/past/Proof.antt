@@ -1,6 +1,6 @@
 -- `io_obstacles::past` meets its contract: the difference that wraps around is how far the base lies behind the start.
 -- Assumes nothing.
-use Rattle.facts.proofs.Words.{_≡_, _+_, _-_, _%_, ℕ, arith, needs, bitAnd}
+use Rattle.facts.proofs.Words.{_≡_, _+_, _-_, _%_, arith, needs, bitAnd}
 use Rattle.io_obstacles.specs.{Stretch, around, LiesShort}
 use Rattle.io_obstacles.proofs.{leap-over, leap-none, leap-some, wrapped-behind}
 use Rattle.io_obstacles.proofs.past.Tie as tie

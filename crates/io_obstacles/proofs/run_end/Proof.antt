@@ -1,6 +1,6 @@
 -- `io_obstacles::run_end` meets its contract: the search has come to the multiple `base`, and every one before it lies in a bar with a short period.
 -- Assumes nothing.
-use Rattle.facts.proofs.Words.{List, ℕ, _+_, _-_, arith, now}
+use Rattle.facts.proofs.Words.{_+_, _-_, arith}
 use Rattle.io_obstacles.specs.{LiesInRows, grantPlaces}
 use Rattle.io_obstacles.proofs.{power-most, leap-barred, Gone, gone-start, gone-on, gone-free, gone-past}
 use Rattle.io_obstacles.proofs.run_end.Tie as tie

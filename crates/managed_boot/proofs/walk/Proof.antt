@@ -8,7 +8,7 @@
 --     reads           the record at the place
 --     turns           one turn, from the invariant: the table so far, the place, and that the walk has come there (`Walked`)
 -- Assumes nothing.
-use Rattle.facts.proofs.Words.{_≡_, refl, sym, ap, _∙_, subst, List, [], _∷_, ℕ, zero, suc, _+_, _*_, _-_, _≤_, _<_, _^_, arith, T, ltb, ltb→lt}
+use Rattle.facts.proofs.Words.{_≡_, refl, sym, ap, _∙_, subst, List, [], _∷_, ℕ, zero, suc, _+_, _*_, _-_, _≤_, _<_, _^_, arith, T, ltb→lt}
 use Rattle.facts.proofs.Words.{nltb→le, lit<, length, getD}
 use Rattle.managed_boot.proofs.ByHand.{WellFounded, InvImage·wf, Nat·lt-wfRel, owns, Is, shows, pointee, u8, RefT, sliceTy, sliceVal}
 use Rattle.managed_boot.proofs.ByHand.{MutSlice, ShrSlice, Room, slice-vals, mut-slice-tells, shr-slice-tells, shr-slice-copy, place-is}

@@ -1,6 +1,6 @@
 -- `seats::irq_held_by` meets its contract: the client is not 0, and is the one of the seat's record.
 -- Assumes nothing.
-use Rattle.facts.proofs.Words.{sym, _∙_, needs}
+use Rattle.facts.proofs.Words.{_∙_, needs}
 use Rattle.facts.proofs.{says-false, says-as, says-eq}
 use Rattle.seats.proofs.{irq-said-by, irq-by-said}
 use Rattle.seats.proofs.irq_held_by.Tie as tie

@@ -1,7 +1,6 @@
 -- `table_company::all_shared` meets its contract. The loop's invariant: the grants passed are shared.
 -- Assumes nothing.
-use Rattle.facts.proofs.Words.{_-_, _<_, arith, needs}
-use Rattle.facts.specs.{mostSeats}
+use Rattle.facts.proofs.Words.{_-_, arith}
 use Rattle.facts.proofs.{says-true, says-yes, says-false-by}
 use Rattle.table_read.proofs.{SoFar, so-far-none, so-far-more}
 use Rattle.table_company.specs.{SharedAt}

@@ -6,9 +6,8 @@ use Rattle.facts.proofs.{says-as, says-yes, says-no}
 use Rattle.layout.specs.{ioSize, ioPlace, ioSharedAt, ioSpareAt, Zero, LiveIn}
 use Rattle.seats.specs.declared.IoSeat.the-variants.{Held}
 use Rattle.seats.specs.{HeldIs}
-use Rattle.table_read.proofs.{place-false, place-says}
+use Rattle.table_read.proofs.{place-false, place-says, long-zero, zero-long}
 use Rattle.table_ios.specs.{RangeHas, PortsSound}
-use Rattle.table_read.proofs.{long-zero, zero-long}
 use Rattle.seats.proofs.{ports-held, client-held, lines-held, held-fits}
 use Rattle.table_ios.proofs.io_place_sound.Tie as tie
 
