@@ -9,10 +9,10 @@ use Rattle.facts.specs.Sets.{◌∈◌}
 use Rattle.facts.specs.Ports.{Meet}
 use Rattle.facts.specs.Levels.{Together}
 use Rattle.facts.specs.Checks.{Passed}
-use Rattle.facts.specs.Irq.{irqAsked, Fits, NoLevelFits, assignedIrq, irqAheadChecks}
-use Rattle.facts.specs.Io.{ioAsked, NotAllManaged, InTheWay, Candidate, NoCandidate, baseAsked, ioAheadChecks}
-use Rattle.facts.specs.Boot.{recordSize, recordsIn, recordsAdded}
-use Rattle.facts.specs.Services.{requestIrq, requestIo, serviceNumber}
+use Rattle.facts.specs.Irq.{irq_asked, Fits, NoLevelFits, assigned_irq, irq_ahead_checks}
+use Rattle.facts.specs.Io.{io_asked, NotAllManaged, InTheWay, Candidate, NoCandidate, base_asked_lem, io_ahead_checks}
+use Rattle.facts.specs.Boot.{record_size, records_in, records_added}
+use Rattle.facts.specs.Services.{requestIrq, requestIo, service_number}
 use Rattle.layout.specs.Layout.{image}
 use Rattle.layout.specs.Sound.{Accepted}
 use Rattle.history.specs.Events.{Event, given, code_in, call, cardOut, boot, sharers, Ours, Runs, FromFresh}
@@ -38,28 +38,28 @@ pub record OfCall (e : Event) (b b' : List ℕ) : Type 0 where
 
 -- of cs_boot
 pub record OfBoot (r : List ℕ) (k : Code) (i : ℕ) (b b' : List ℕ) : Type 0 where
-  pub success : k ≡ Success → length r ≡ i * recordSize
-  pub within : i * recordSize ≤ length r
-  pub most : i ≤ Table.allLevels + Table.mostRanges
-  pub leaves : (a : Accepted b) → b' ≡ image (recordsAdded a.facts (recordsIn i r))
+  pub success : k ≡ Success → length r ≡ i * record_size
+  pub within : i * record_size ≤ length r
+  pub most : i ≤ Table.all_levels + Table.most_ranges
+  pub leaves : (a : Accepted b) → b' ≡ image (records_added a.facts (records_in i r))
 
 -- of RequestIRQ, where the checks ahead pass: F is what the table says
 pub record OfIrq (F : Facts) (p : List ℕ) (k : Code) (q : List ℕ) : Type 0 where
-  pub refused : (k ≢ Success) ↔ NoLevelFits F (irqAsked p)
-  pub bad-irq : (k ≡ BadIrq) ↔ NoLevelFits F (irqAsked p)
-  pub fits : k ≡ Success → Fits F (irqAsked p) (assignedIrq q)
+  pub refused : (k ≢ Success) ↔ NoLevelFits F (irq_asked p)
+  pub bad_irq : (k ≡ BadIrq) ↔ NoLevelFits F (irq_asked p)
+  pub fits : k ≡ Success → Fits F (irq_asked p) (assigned_irq q)
 
 -- of RequestIO, where the checks ahead pass, with a named base and with base 0
 pub record OfIoNamed (F : Facts) (p : List ℕ) (k : Code) (q : List ℕ) : Type 0 where
-  pub refused : (k ≢ Success) ↔ (NotAllManaged F (ioAsked p) ⊎ InTheWay F (ioAsked p))
-  pub bad-base : (k ≡ BadBase) ↔ NotAllManaged F (ioAsked p)
-  pub in_use : (k ≡ InUse) ↔ ((NotAllManaged F (ioAsked p) → ⊥) × InTheWay F (ioAsked p))
-  pub kept : baseAsked q ≡ baseAsked p
+  pub refused : (k ≢ Success) ↔ (NotAllManaged F (io_asked p) ⊎ InTheWay F (io_asked p))
+  pub bad_base : (k ≡ BadBase) ↔ NotAllManaged F (io_asked p)
+  pub in_use : (k ≡ InUse) ↔ ((NotAllManaged F (io_asked p) → ⊥) × InTheWay F (io_asked p))
+  pub kept : base_asked_lem q ≡ base_asked_lem p
 
 pub record OfIoChosen (F : Facts) (p : List ℕ) (k : Code) (q : List ℕ) : Type 0 where
-  pub refused : (k ≢ Success) ↔ NoCandidate F (ioAsked p)
-  pub in_use : (k ≡ InUse) ↔ NoCandidate F (ioAsked p)
-  pub fits : k ≡ Success → Candidate F (ioAsked p) (baseAsked q)
+  pub refused : (k ≢ Success) ↔ NoCandidate F (io_asked p)
+  pub in_use : (k ≡ InUse) ↔ NoCandidate F (io_asked p)
+  pub fits : k ≡ Success → Candidate F (io_asked p) (base_asked_lem q)
 
 -- after a run: es is the log, first call to last, and b are the table's bytes
 pub record AfterRun (sockets : ℕ) (es : List Event) (b : List ℕ) : Type 0 where
@@ -71,26 +71,26 @@ pub record AfterRun (sockets : ℕ) (es : List Event) (b : List ℕ) : Type 0 wh
       → (h ≢ 0) × ((e' : Event) → e' ∈ later → Registers e' h → ⊥)
   -- the number of sharers, if it is asked for now, is that of the sockets that have a grant on the level, and at most eight
   pub counted : (l c : ℕ) (b' : List ℕ) → Ours (sharers l Success c) b b'
-      → Number (λ (s : ℕ). (g : IrqGrant) × Stands es (irq s g) × (g.level ≡ l)) c × (c ≤ Table.mostSockets)
+      → Number (λ (s : ℕ). (g : IrqGrant) × Stands es (irq s g) × (g.level ≡ l)) c × (c ≤ Table.most_sockets)
   -- a socket has one grant of a kind, and two grants meet only as both asked to share
-  pub one-io : (s : ℕ) (g g' : IoGrant) → Stands es (io s g) → Stands es (io s g') → g ≡ g'
-  pub one-irq : (s : ℕ) (g g' : IrqGrant) → Stands es (irq s g) → Stands es (irq s g') → g ≡ g'
+  pub one_io : (s : ℕ) (g g' : IoGrant) → Stands es (io s g) → Stands es (io s g') → g ≡ g'
+  pub one_irq : (s : ℕ) (g g' : IrqGrant) → Stands es (irq s g) → Stands es (irq s g') → g ≡ g'
   pub ports : (s s' : ℕ) (g g' : IoGrant) → Stands es (io s g) → Stands es (io s' g') → io s g ≢ io s' g' → Meet g.ports g'.ports
       → (g.shared ≡ true) × (g'.shared ≡ true)
   pub levels : (s s' : ℕ) (g g' : IrqGrant) → Stands es (irq s g) → Stands es (irq s' g') → irq s g ≢ irq s' g' → g.level ≡ g'.level
       → Together g.manner g'.manner
 
 pub record Relied : Type 0 where
-  pub of-call : (e : Event) (b b' : List ℕ) → Ours e b b' → OfCall e b b'
-  pub of-boot : (r : List ℕ) (k : Code) (i : ℕ) (b b' : List ℕ) → Ours (boot r k i) b b' → OfBoot r k i b b'
-  pub of-irq : (h : ℕ) (p : List ℕ) (k : Code) (a : ℕ) (q b b' : List ℕ) (t : Accepted b) → Passed (irqAheadChecks t.facts h p [])
-      → Ours (call (serviceNumber requestIrq) h p k a q) b b' → OfIrq t.facts p k q
-  pub of-io-named : (h : ℕ) (p : List ℕ) (k : Code) (a : ℕ) (q b b' : List ℕ) (t : Accepted b) → Passed (ioAheadChecks t.facts h p [])
-      → Ours (call (serviceNumber requestIo) h p k a q) b b' → baseAsked p ≢ 0 → OfIoNamed t.facts p k q
-  pub of-io-chosen : (h : ℕ) (p : List ℕ) (k : Code) (a : ℕ) (q b b' : List ℕ) (t : Accepted b) → Passed (ioAheadChecks t.facts h p [])
-      → Ours (call (serviceNumber requestIo) h p k a q) b b' → baseAsked p ≡ 0 → OfIoChosen t.facts p k q
+  pub of_call : (e : Event) (b b' : List ℕ) → Ours e b b' → OfCall e b b'
+  pub of_boot : (r : List ℕ) (k : Code) (i : ℕ) (b b' : List ℕ) → Ours (boot r k i) b b' → OfBoot r k i b b'
+  pub of_irq : (h : ℕ) (p : List ℕ) (k : Code) (a : ℕ) (q b b' : List ℕ) (t : Accepted b) → Passed (irq_ahead_checks t.facts h p [])
+      → Ours (call (service_number requestIrq) h p k a q) b b' → OfIrq t.facts p k q
+  pub of_io_named : (h : ℕ) (p : List ℕ) (k : Code) (a : ℕ) (q b b' : List ℕ) (t : Accepted b) → Passed (io_ahead_checks t.facts h p [])
+      → Ours (call (service_number requestIo) h p k a q) b b' → base_asked_lem p ≢ 0 → OfIoNamed t.facts p k q
+  pub of_io_chosen : (h : ℕ) (p : List ℕ) (k : Code) (a : ℕ) (q b b' : List ℕ) (t : Accepted b) → Passed (io_ahead_checks t.facts h p [])
+      → Ours (call (service_number requestIo) h p k a q) b b' → base_asked_lem p ≡ 0 → OfIoChosen t.facts p k q
   -- card out takes no grant or mask away
-  pub of-card-out : (s : ℕ) (k : Code) (b b' : List ℕ) → Accepted b → Ours (cardOut s k) b b'
+  pub of_card_out : (s : ℕ) (k : Code) (b b' : List ℕ) → Accepted b → Ours (cardOut s k) b b'
       → Between b b' (λ (F G : Facts). (f : Fact) → f ≢ card s → Tells F f ↔ Tells G f)
   -- for each service and host call, exactly the codes that it can give
   pub codes : (x : Asked) (k : Code) → (k ∈ codes_of x) ↔ CanGive Ours x k

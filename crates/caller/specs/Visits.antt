@@ -2,7 +2,7 @@
 use Rattle.std.specs.Prelude.{◌≡◌, ◌≢◌, List, [], ◌∷◌, map, ℕ}
 use Rattle.facts.specs.declared.Code.{Code}
 use Rattle.facts.specs.declared.Code.TheVariants.{Success}
-use Rattle.history.specs.Events.{Event, number_in, makeFresh, call, cardIn, cardOut, boot, sharers, Ours, FromFresh}
+use Rattle.history.specs.Events.{Event, number_in, make_fresh, call, card_in, cardOut, boot, sharers, Ours, FromFresh}
 use Rattle.caller.specs.Relied.{AfterRun}
 use Rattle.caller.specs.declared.VisitAnswers.{VisitAnswers}
 use Rattle.caller.specs.declared.Ending.{Ending}
@@ -37,7 +37,7 @@ pub record Told : Type 0 where
 abbrev pub log : Plan → List ℕ → Told → List Event
 log g q t =
     boot g.records t.booted t.place
-    ∷ cardIn g.socket t.inserted
+    ∷ card_in g.socket t.inserted
     ∷ call g.service g.handle g.packet t.called t.answered q
     ∷ sharers g.level t.shared t.count
     ∷ cardOut g.socket t.removed
@@ -53,5 +53,5 @@ pub record Visited (g : Plan) (q : List ℕ) (r : VisitAnswers) (b : List ℕ) :
 
 -- cs_fresh was refused, and nothing is changed; or what came about is a run from a fresh table
 abbrev pub EndingIs : Plan → List ℕ → List ℕ → List ℕ → Ending → Type 0
-EndingIs g b b' q (Refused r) = (k : Code) × (r ≡ number_in (makeFresh g.sockets k)) × (k ≢ Success) × (b' ≡ b) × (q ≡ g.packet)
+EndingIs g b b' q (Refused r) = (k : Code) × (r ≡ number_in (make_fresh g.sockets k)) × (k ≢ Success) × (b' ≡ b) × (q ≡ g.packet)
 EndingIs g b b' q (Done r) = Visited g q r b'

@@ -3,8 +3,8 @@ ghost use Rattle.std.specs.Prelude.{◌≡◌, ◌<◌, ◌≤◌, length};
 ghost use Rattle.facts.specs.Table;
 ghost use Rattle.facts.specs.Says.{Says};
 ghost use Rattle.facts.specs.WellFormed.{AttributesAllowed};
-ghost use Rattle.layout.specs.Layout.{tableSize};
-ghost use Rattle.layout.specs.Reading.{clientsIn};
+ghost use Rattle.layout.specs.Layout.{table_size};
+ghost use Rattle.layout.specs.Reading.{clients_in};
 ghost use Rattle.layout.specs.Sound.{LiveIn, MaskUsed};
 ghost use Rattle.client_record.specs.Finding.{Finds, ByNumber, Tells};
 
@@ -38,7 +38,7 @@ pub enum ClientFound {
 
 // The client `h`, in whichever place it is listed.
 fn search(t: &[u8], h: Handle) -> ClientFound
-    requires { (length t.now ≡ tableSize) × (clientsIn t.now ≤ Table.mostClients) }
+    requires { (length t.now ≡ table_size) × (clients_in t.now ≤ Table.most_clients) }
     ensures { Finds t.now h.0 result }
 {
     let clients = table_read::byte(t, CLIENTS_IN);
@@ -54,7 +54,7 @@ fn search(t: &[u8], h: Handle) -> ClientFound
 
 // Whether the client `h` stands where the clients with the handles 1, 2, 3 and on stand as long as none of them is taken out.
 fn stands_by_number(t: &[u8], h: Handle) -> bool
-    requires { (length t.now ≡ tableSize) × (clientsIn t.now ≤ Table.mostClients) }
+    requires { (length t.now ≡ table_size) × (clients_in t.now ≤ Table.most_clients) }
     ensures { Says result (ByNumber t.now h.0) }
 {
     let number = h.0 as usize;
@@ -70,7 +70,7 @@ fn stands_by_number(t: &[u8], h: Handle) -> bool
 // The client `h`, looked for first where its number points: client 3 in the third place. Where client 1 has left, client 3 stands in the second, and is
 // searched for.
 pub fn client_at(t: &[u8], h: Handle) -> ClientFound
-    requires { (length t.now ≡ tableSize) × (clientsIn t.now ≤ Table.mostClients) }
+    requires { (length t.now ≡ table_size) × (clients_in t.now ≤ Table.most_clients) }
     ensures { Finds t.now h.0 result }
 {
     if stands_by_number(t, h) {
@@ -93,7 +93,7 @@ fn same(a: u16, b: u16) -> u16
 // Whether the handle is that of a client listed: it is compared with all of them, with no early exit, so that many are looked at side by side. Client 5
 // among the clients 3, 5 and 9: the comparisons are 0, 1 and 0, or-ed together 1, which is yes. Client 4 among them: 0, 0 and 0, which is no.
 fn listed(t: &[u8], h: Handle) -> bool
-    requires { (length t.now ≡ tableSize) × (clientsIn t.now ≤ Table.mostClients) }
+    requires { (length t.now ≡ table_size) × (clients_in t.now ≤ Table.most_clients) }
     ensures { Says result (LiveIn t.now h.0) }
 {
     let all = table_read::byte(t, CLIENTS_IN);
@@ -108,7 +108,7 @@ fn listed(t: &[u8], h: Handle) -> bool
 
 // Whether the client `h` is live: it is looked for first where its number points, as in `client_at`.
 pub fn live(t: &[u8], h: Handle) -> bool
-    requires { (length t.now ≡ tableSize) × (clientsIn t.now ≤ Table.mostClients) }
+    requires { (length t.now ≡ table_size) × (clients_in t.now ≤ Table.most_clients) }
     ensures { Says result (LiveIn t.now h.0) }
 {
     if stands_by_number(t, h) {
@@ -119,7 +119,7 @@ pub fn live(t: &[u8], h: Handle) -> bool
 
 // Whether the client listed in the place `i` holds a mask at the seat.
 pub fn mask_on(t: &[u8], i: usize, s: Seat) -> bool
-    requires { (length t.now ≡ tableSize) × (i < Table.mostClients) × (s.0 < Table.mostSeats) }
+    requires { (length t.now ≡ table_size) × (i < Table.most_clients) × (s.0 < Table.most_seats) }
     ensures { Says result (MaskUsed t.now i s.0) }
 {
     let number = s.0;

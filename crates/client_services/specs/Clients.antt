@@ -5,7 +5,7 @@ use Rattle.facts.specs.Table.{Facts, Seat}
 use Rattle.facts.specs.Packets.{word}
 use Rattle.facts.specs.WellFormed.{AttributesAllowed, EventsAllowed}
 use Rattle.facts.specs.Clients.{Register, Deregister}
-use Rattle.layout.specs.Reading.{clientsIn, issuedIn}
+use Rattle.layout.specs.Reading.{clients_in, issued_in}
 use Rattle.layout.specs.Sound.{MaskUsed}
 use Rattle.layout.specs.Served.{ServedBy}
 use Rattle.seats.specs.Seats.{IoHeldBy, IrqHeldBy}
@@ -20,10 +20,10 @@ use Rattle.client_services.specs.declared.Held.TheVariants.{Nothing, Something}
 
 -- the attributes and the event mask of a registration, or one of them is not allowed
 pub record Asks (p : List ℕ) (attributes events : ℕ) : Type 0 where
-  pub attributes-are : attributes ≡ word p 0
-  pub events-are : events ≡ word p 2
-  pub attributes-allowed : AttributesAllowed (word p 0)
-  pub events-allowed : EventsAllowed (word p 2)
+  pub attributes_are : attributes ≡ word p 0
+  pub events_are : events ≡ word p 2
+  pub attributes_allowed : AttributesAllowed (word p 0)
+  pub events_allowed : EventsAllowed (word p 2)
 
 abbrev pub AsksFor : List ℕ → ClientAsked → Type 0
 AsksFor p (Good attributes events) = Asks p attributes events
@@ -31,14 +31,14 @@ AsksFor p Bad = (AttributesAllowed (word p 0) → ⊥) ⊎ (AttributesAllowed (w
 
 -- the place and the handle of the next client, or there is no room
 pub record NextIs (b : List ℕ) (n h : ℕ) : Type 0 where
-  pub place : n ≡ clientsIn b
-  pub room : n < Table.mostClients
-  pub handle : h ≡ issuedIn b + 1
-  pub left : issuedIn b < Table.mostIssued
+  pub place : n ≡ clients_in b
+  pub room : n < Table.most_clients
+  pub handle : h ≡ issued_in b + 1
+  pub left : issued_in b < Table.most_issued
 
 abbrev pub RoomIs : List ℕ → Room → Type 0
 RoomIs b (Next n h) = NextIs b n h.0
-RoomIs b Full = (Table.mostClients ≤ clientsIn b) ⊎ (Table.mostIssued ≤ issuedIn b)
+RoomIs b Full = (Table.most_clients ≤ clients_in b) ⊎ (Table.most_issued ≤ issued_in b)
 
 -- the bytes say that the client h holds a grant at the seat s
 abbrev pub GrantAt : List ℕ → ℕ → Seat → Type 0
@@ -46,11 +46,11 @@ GrantAt b h s = IoHeldBy b h s ⊎ IrqHeldBy b h s
 
 -- it does at some seat
 abbrev pub GrantHeld : List ℕ → ℕ → Type 0
-GrantHeld b h = (s : Seat) × (s < Table.mostSeats) × GrantAt b h s
+GrantHeld b h = (s : Seat) × (s < Table.most_seats) × GrantAt b h s
 
 -- the client listed in the place i has a mask
 abbrev pub MaskHeldIn : List ℕ → ℕ → Type 0
-MaskHeldIn b i = (s : Seat) × (s < Table.mostSeats) × MaskUsed b i s
+MaskHeldIn b i = (s : Seat) × (s < Table.most_seats) × MaskUsed b i s
 
 -- the client listed in the place i, whose handle is h, holds something
 abbrev pub HoldsSome : List ℕ → ℕ → ℕ → Type 0

@@ -2,9 +2,9 @@
 ghost use Rattle.std.specs.Prelude.{◌≡◌, ◌<◌, ◌≤◌, length};
 ghost use Rattle.facts.specs.Table;
 ghost use Rattle.facts.specs.Says.{Says};
-ghost use Rattle.facts.specs.Clients.{registerLength};
-ghost use Rattle.layout.specs.Layout.{tableSize};
-ghost use Rattle.layout.specs.Reading.{clientsIn};
+ghost use Rattle.facts.specs.Clients.{register_length};
+ghost use Rattle.layout.specs.Layout.{table_size};
+ghost use Rattle.layout.specs.Reading.{clients_in};
 ghost use Rattle.layout.specs.Sound.{Accepted};
 ghost use Rattle.layout.specs.Changed.{entered, Withdrawn};
 ghost use Rattle.client_services.specs.Clients.{AsksFor, RoomIs, GrantAt, GrantHeld, MaskHeldIn, HeldIs, RegisterServed};
@@ -36,7 +36,7 @@ pub enum ClientAsked {
 }
 
 fn asks(p: &[u8]) -> ClientAsked
-    requires { length p.now ≡ registerLength }
+    requires { length p.now ≡ register_length }
     ensures { AsksFor p.now result }
 {
     let attributes = table_read::word(p, ASKED_ATTRIBUTES_AT);
@@ -58,7 +58,7 @@ pub enum Room {
 }
 
 fn next_place(t: &[u8]) -> Room
-    requires { length t.now ≡ tableSize }
+    requires { length t.now ≡ table_size }
     ensures { RoomIs t.now result }
 {
     let n = table_read::byte(t, CLIENTS_IN);
@@ -74,7 +74,7 @@ fn next_place(t: &[u8]) -> Room
 
 // What the new client is said by, the handles issued and the number of clients.
 fn enter(t: &mut [u8], n: usize, h: Handle, attributes: usize, events: usize)
-    requires { (length t.old ≡ tableSize) × (n < Table.mostClients) × (attributes < 256) }
+    requires { (length t.old ≡ table_size) × (n < Table.most_clients) × (attributes < 256) }
     ensures { t.new ≡ entered t.old n h.0 attributes events }
 {
     let number = h.0;
@@ -105,7 +105,7 @@ pub fn register(t: &mut [u8], p: &[u8]) -> Answer
 
 // Whether the client holds a grant at the seat.
 fn grant_on(t: &[u8], s: Seat, h: Handle) -> bool
-    requires { (length t.now ≡ tableSize) × (s.0 < Table.mostSeats) }
+    requires { (length t.now ≡ table_size) × (s.0 < Table.most_seats) }
     ensures { Says result (GrantAt t.now h.0 s.0) }
 {
     if seats::io_held_by(t, s, h) {
@@ -115,7 +115,7 @@ fn grant_on(t: &[u8], s: Seat, h: Handle) -> bool
 }
 
 fn grant_held(t: &[u8], h: Handle) -> bool
-    requires { length t.now ≡ tableSize }
+    requires { length t.now ≡ table_size }
     ensures { Says result (GrantHeld t.now h.0) }
 {
     for s in 0..MOST_SEATS {
@@ -128,7 +128,7 @@ fn grant_held(t: &[u8], h: Handle) -> bool
 
 // Whether the client listed in the place i holds a mask.
 fn mask_held(t: &[u8], i: usize) -> bool
-    requires { (length t.now ≡ tableSize) × (i < Table.mostClients) }
+    requires { (length t.now ≡ table_size) × (i < Table.most_clients) }
     ensures { Says result (MaskHeldIn t.now i) }
 {
     for s in 0..MOST_SEATS {
@@ -147,7 +147,7 @@ pub enum Held {
 }
 
 fn holds(t: &[u8], i: usize, h: Handle) -> Held
-    requires { (length t.now ≡ tableSize) × (i < Table.mostClients) }
+    requires { (length t.now ≡ table_size) × (i < Table.most_clients) }
     ensures { HeldIs t.now i h.0 result }
 {
     if grant_held(t, h) {
@@ -161,7 +161,7 @@ fn holds(t: &[u8], i: usize, h: Handle) -> Held
 
 // The client listed in the place i is taken out of each row: those after it move one place down.
 fn withdraw(t: &mut [u8], i: usize)
-    requires { (length t.old ≡ tableSize) × (i < clientsIn t.old) × (clientsIn t.old ≤ Table.mostClients) }
+    requires { (length t.old ≡ table_size) × (i < clients_in t.old) × (clients_in t.old ≤ Table.most_clients) }
     ensures { Withdrawn t.old t.new i }
 {
     let n = table_read::byte(t, CLIENTS_IN);

@@ -1,63 +1,63 @@
 -- RequestIRQ, ReleaseIRQ, RequestIO and ReleaseIO leave a well-formed set well formed. Assumes nothing.
-use Rattle.facts.proofs.Words.{◌≡◌, sym, subst, subst⁻¹, inl, inr, ⊎_elim, List, none, some, Option·some-injective, Option·none-ne-some, ℕ}
+use Rattle.facts.proofs.Words.{◌≡◌, sym, subst, subst⁻¹, inl, inr, ⊎_elim, List, none, some, some-injective, none-ne-some, ℕ}
 use Rattle.facts.proofs.Words.{◌^◌, ◌≤◌, dec_le, arith, WellFormed}
-use Rattle.facts.specs.{Fits, irqReleaseChecks, ioReleaseChecks, Facts, IoGrant, IrqGrant, Bytes, Meet, AllManaged, AnswersManaged, IoFits}
-use Rattle.facts.specs.{IrqFits, IoCompany, IrqCompany, Holds, Outcome, Passed, socketOf, requestChecks, RequestIrq, ReleaseIrq, GrantsIrq}
-use Rattle.facts.specs.{ownIrqChecks, levelChecks, irqGrant, mannerAsked, requestIrqLength, RequestIo, ReleaseIo, GrantsIo, BaseTaken}
-use Rattle.facts.specs.{ownIoChecks, baseChecks, ioGrant, portsAt, requestIoLength, countAsked, linesAsked, mostLines, ioAsked, irqAsked, Seat}
+use Rattle.facts.specs.{Fits, irq_release_checks, io_release_checks, Facts, IoGrant, IrqGrant, Bytes, Meet, AllManaged, AnswersManaged, IoFits}
+use Rattle.facts.specs.{IrqFits, IoCompany, IrqCompany, Holds, Outcome, Passed, socket_of, request_checks, RequestIrq, ReleaseIrq, GrantsIrq}
+use Rattle.facts.specs.{own_irq_checks, level_checks, irq_grant, manner_asked_lem, request_irq_length, RequestIo, ReleaseIo, GrantsIo, BaseTaken}
+use Rattle.facts.specs.{own_io_checks, base_checks, io_grant, ports_at, request_io_length, count_asked_lem, lines_asked_lem, most_lines, io_asked, irq_asked, Seat}
 use Rattle.facts.specs.{HeldPorts, Held}
-use Rattle.facts.proofs.Company.{together-symmetric}
-use Rattle.facts.proofs.Joining.{taken-fits}
-use Rattle.facts.proofs.Told.{told, both_told, true-told, managed-told}
-use Rattle.facts.proofs.Formed.{io-formed, irq-formed, leaves-stays}
-use Rattle.facts.proofs.ClientsStay.{live-passed, socket-passed, request-passed}
+use Rattle.facts.proofs.Company.{together_symmetric}
+use Rattle.facts.proofs.Joining.{taken_fits}
+use Rattle.facts.proofs.Told.{told, both_told, true_told, managed_told}
+use Rattle.facts.proofs.Formed.{io_formed, irq_formed, leaves_stays}
+use Rattle.facts.proofs.ClientsStay.{live_passed, socket_passed, request_passed}
 
 module _ (F : Facts) (h : ℕ) (p : List ℕ) (o : Outcome) (w : WellFormed F) where
-  pub request-irq-stays : RequestIrq F h p o → WellFormed o.facts
-  request-irq-stays (inl r) = subst WellFormed (sym r.1.facts) w
-  request-irq-stays (inr r) =
+  pub request_irq_stays : RequestIrq F h p o → WellFormed o.facts
+  request_irq_stays (inl r) = subst WellFormed (sym r.1.facts) w
+  request_irq_stays (inr r) =
       subst WellFormed (sym granted.leaves.facts)
-      (irq-formed F w (socketOf p) (some new) (λ g e. subst (IrqFits F (socketOf p)) (Option·some-injective new g e) fits)
-      (λ t g g' d e e'. subst (λ (x : IrqGrant). IrqCompany x g') (Option·some-injective new g e) (company t g' e')))
+      (irq_formed F w (socket_of p) (some new) (λ g e. subst (IrqFits F (socket_of p)) (some-injective new g e) fits)
+      (λ t g g' d e e'. subst (λ (x : IrqGrant). IrqCompany x g') (some-injective new g e) (company t g' e')))
     where
       granted : GrantsIrq F h p o
       granted = r.1.1
 
-      passed : Passed (requestChecks requestIrqLength F h p (ownIrqChecks F p (levelChecks F (irqAsked p))))
+      passed : Passed (request_checks request_irq_length F h p (own_irq_checks F p (level_checks F (irq_asked p))))
       passed = r.0
 
       new : IrqGrant
-      new = irqGrant h (irqAsked p) granted.level
+      new = irq_grant h (irq_asked p) granted.level
 
-      level-fits : Fits F (irqAsked p) granted.level
-      level-fits = taken-fits F w (irqAsked p) granted.level granted.taken
+      level_fits : Fits F (irq_asked p) granted.level
+      level_fits = taken_fits F w (irq_asked p) granted.level granted.taken
 
-      fits : IrqFits F (socketOf p) new
+      fits : IrqFits F (socket_of p) new
       fits =
           record {
-            client = live-passed requestIrqLength F h p (ownIrqChecks F p (levelChecks F (irqAsked p))) passed;
-            socket = socket-passed requestIrqLength F h p (ownIrqChecks F p (levelChecks F (irqAsked p))) passed;
-            managed = level-fits.managed;
+            client = live_passed request_irq_length F h p (own_irq_checks F p (level_checks F (irq_asked p))) passed;
+            socket = socket_passed request_irq_length F h p (own_irq_checks F p (level_checks F (irq_asked p))) passed;
+            managed = level_fits.managed;
           }
 
       -- the level has no grant, or all its grants go together with this manner
       company : (t : ℕ) (g : IrqGrant) → F.irq t ≡ some g → IrqCompany new g
       company t g e q =
           let holds : Holds F granted.level t g = record { live = e; at = sym q } in
-          together-symmetric g.manner (mannerAsked p)
-          (⊎_elim (λ free. absurd (free t g holds)) (λ all. all.1 t g holds) level-fits.free)
+          together_symmetric g.manner (manner_asked_lem p)
+          (⊎_elim (λ free. absurd (free t g holds)) (λ all. all.1 t g holds) level_fits.free)
 
-  pub release-irq-stays : ReleaseIrq F h p o → WellFormed o.facts
-  release-irq-stays =
-      leaves-stays w (irqReleaseChecks F h p)
-      (λ _. irq-formed F w (socketOf p) none (λ g e. absurd (Option·none-ne-some g e)) (λ t g g' d e. absurd (Option·none-ne-some g e)))
+  pub release_irq_stays : ReleaseIrq F h p o → WellFormed o.facts
+  release_irq_stays =
+      leaves_stays w (irq_release_checks F h p)
+      (λ _. irq_formed F w (socket_of p) none (λ g e. absurd (none-ne-some g e)) (λ t g g' d e. absurd (none-ne-some g e)))
 
-  pub request-io-stays : Bytes p → RequestIo F h p o → WellFormed o.facts
-  request-io-stays bytes (inl r) = subst WellFormed (sym r.1.facts) w
-  request-io-stays bytes (inr r) =
+  pub request_io_stays : Bytes p → RequestIo F h p o → WellFormed o.facts
+  request_io_stays bytes (inl r) = subst WellFormed (sym r.1.facts) w
+  request_io_stays bytes (inr r) =
       subst WellFormed (sym granted.leaves.facts)
-      (io-formed F w (socketOf p) (some new) (λ g e. subst (IoFits F (socketOf p)) (Option·some-injective new g e) fits)
-      (λ t g g' d e e'. subst (λ (x : IoGrant). IoCompany x g') (Option·some-injective new g e) (company granted.taken t g' e')))
+      (io_formed F w (socket_of p) (some new) (λ g e. subst (IoFits F (socket_of p)) (some-injective new g e) fits)
+      (λ t g g' d e e'. subst (λ (x : IoGrant). IoCompany x g') (some-injective new g e) (company granted.taken t g' e')))
     where
       granted : GrantsIo F h p o
       granted = r.1.1
@@ -66,57 +66,57 @@ module _ (F : Facts) (h : ℕ) (p : List ℕ) (o : Outcome) (w : WellFormed F) w
       base = granted.base
 
       new : IoGrant
-      new = ioGrant h (ioAsked p) base
+      new = io_grant h (io_asked p) base
 
-      passed : Passed (requestChecks requestIoLength F h p (ownIoChecks F p (baseChecks F (ioAsked p))))
+      passed : Passed (request_checks request_io_length F h p (own_io_checks F p (base_checks F (io_asked p))))
       passed = r.0
 
-      own : Passed (ownIoChecks F p (baseChecks F (ioAsked p)))
-      own = request-passed requestIoLength F h p (ownIoChecks F p (baseChecks F (ioAsked p))) passed
+      own : Passed (own_io_checks F p (base_checks F (io_asked p)))
+      own = request_passed request_io_length F h p (own_io_checks F p (base_checks F (io_asked p))) passed
 
       -- the base and its ports: the one named, or a candidate
-      base-good : BaseTaken F (ioAsked p) base → (1 ≤ base) × AllManaged F base (countAsked p) × AnswersManaged F (portsAt (ioAsked p) base)
-      base-good (inl named) =
-          subst⁻¹ (λ (b : ℕ). (1 ≤ b) × AllManaged F b (countAsked p) × AnswersManaged F (portsAt (ioAsked p) b)) named.1 (
+      base_good : BaseTaken F (io_asked p) base → (1 ≤ base) × AllManaged F base (count_asked_lem p) × AnswersManaged F (ports_at (io_asked p) base)
+      base_good (inl named) =
+          subst⁻¹ (λ (b : ℕ). (1 ≤ b) × AllManaged F b (count_asked_lem p) × AnswersManaged F (ports_at (io_asked p) b)) named.1 (
             omega (arith, named.0),
-            (λ q h. told (managed-told F q) (λ d. own.1.1.1.0 (named.0, inr (inl (λ all. d (all q h)))))),
-            (λ q a. told (managed-told F q) (λ d. own.1.1.1.0 (named.0, inr (inr (λ all. d (all q a)))))),
+            (λ q h. told (managed_told F q) (λ d. own.1.1.1.0 (named.0, inr (inl (λ all. d (all q h)))))),
+            (λ q a. told (managed_told F q) (λ d. own.1.1.1.0 (named.0, inr (inr (λ all. d (all q a)))))),
           )
-      base-good (inr chosen) = let c = chosen.1.fits in (c.positive, c.managed, c.answers)
+      base_good (inr chosen) = let c = chosen.1.fits in (c.positive, c.managed, c.answers)
 
-      fits : IoFits F (socketOf p) new
+      fits : IoFits F (socket_of p) new
       fits =
           record {
-            client = live-passed requestIoLength F h p (ownIoChecks F p (baseChecks F (ioAsked p))) passed;
-            socket = socket-passed requestIoLength F h p (ownIoChecks F p (baseChecks F (ioAsked p))) passed;
-            base = (base-good granted.taken).0;
-            line = told (dec_le 1 (linesAsked p)) (λ d. own.0 (inr (inr (inl (omega arith)))));
-            lines = told (dec_le (linesAsked p) mostLines) (λ d. own.0 (inr (inr (inr (omega arith)))));
-            port = told (dec_le 1 (countAsked p)) (λ d. own.1.0 (inl (omega arith)));
+            client = live_passed request_io_length F h p (own_io_checks F p (base_checks F (io_asked p))) passed;
+            socket = socket_passed request_io_length F h p (own_io_checks F p (base_checks F (io_asked p))) passed;
+            base = (base_good granted.taken).0;
+            line = told (dec_le 1 (lines_asked_lem p)) (λ d. own.0 (inr (inr (inl (omega arith)))));
+            lines = told (dec_le (lines_asked_lem p) most_lines) (λ d. own.0 (inr (inr (inr (omega arith)))));
+            port = told (dec_le 1 (count_asked_lem p)) (λ d. own.1.0 (inl (omega arith)));
             asked = omega (arith, bytes 4);
-            decoded = told (dec_le (countAsked p) (2 ^ linesAsked p)) (λ d. own.1.0 (inr (inl (omega arith))));
-            managed = (base-good granted.taken).1;
-            answers = (base-good granted.taken).2;
+            decoded = told (dec_le (count_asked_lem p) (2 ^ lines_asked_lem p)) (λ d. own.1.0 (inr (inl (omega arith))));
+            managed = (base_good granted.taken).1;
+            answers = (base_good granted.taken).2;
           }
 
       -- a base named meets a live grant only if both share; a candidate meets none
-      company : BaseTaken F (ioAsked p) base → (t : Seat) (g : HeldPorts) → Held F t g → IoCompany new g
+      company : BaseTaken F (io_asked p) base → (t : Seat) (g : HeldPorts) → Held F t g → IoCompany new g
       company (inl named) t g e m =
-          told (both_told (true-told (ioAsked p).shared) (true-told g.shared)) (λ d. own.1.1.1.1.0 (
+          told (both_told (true_told (io_asked p).shared) (true_told g.shared)) (λ d. own.1.1.1.1.0 (
             named.0,
             record {
               seat = t;
               stands = record {
                 range = g;
                 held = e;
-                meets = subst (λ (b : ℕ). Meet (portsAt (ioAsked p) b) g.ports) named.1 m;
+                meets = subst (λ (b : ℕ). Meet (ports_at (io_asked p) b) g.ports) named.1 m;
                 unshared = inr d;
               };
             },
           ))
-      company (inr chosen) t g e m = absurd (chosen.1.fits.meets-none t g e m)
+      company (inr chosen) t g e m = absurd (chosen.1.fits.meets_none t g e m)
 
-  pub release-io-stays : ReleaseIo F h p o → WellFormed o.facts
-  release-io-stays =
-      leaves-stays w (ioReleaseChecks F h p)
-      (λ _. io-formed F w (socketOf p) none (λ g e. absurd (Option·none-ne-some g e)) (λ t g g' d e. absurd (Option·none-ne-some g e)))
+  pub release_io_stays : ReleaseIo F h p o → WellFormed o.facts
+  release_io_stays =
+      leaves_stays w (io_release_checks F h p)
+      (λ _. io_formed F w (socket_of p) none (λ g e. absurd (none-ne-some g e)) (λ t g g' d e. absurd (none-ne-some g e)))

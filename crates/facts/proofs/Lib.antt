@@ -23,24 +23,24 @@ pub mod Stays
 pub mod Exactly
 pub mod Way
 pub mod Laws
-pub use Says.{says-true, says-false, says-lt, says_eq, says-eqb, says-as, says-yes, says-no, says-not, says-false-by, says-dec}
-pub use Sets.{put_same, put_other, put_is, in_left, in_right, in_either, in_map, map-in, length-map, by_number, without_in, in_without, rising-over}
-pub use Sets.{rising-more, rising-left-out, apart-port, apart-left-out}
-pub use Bits.{one_bit, one_only, shifted-bit, shifted-only, bit_below, one-named, named-one}
-pub use Codes.{code-byte, code-injective, packs-success, packs-code}
-pub use Choices.{chosen-first, chosen-then, lowest-or-none-as, smallest-power-unique}
-pub use Company.{meet-symmetric, together-symmetric}
-pub use Joining.{taken-fits}
-pub use Resources.{is-built, three-or-four, width_one}
-pub use Checks.{first-ahead, first_past, passed-both}
-pub use Unique.{lowest-unique, range_unique, number-injective, adjust-unique, register-unique, deregister-unique, request-irq-unique}
-pub use Unique.{request-io-unique, sharers-unique, service-ruled}
-pub use Refusals.{noSuccess, none-succeeds, first-not-success, ruled-then-success, record-no-success, boot-place, boot-within, boot-success}
-pub use Told.{told, Unreserved, wholly-unreserved-told}
-pub use Formed.{fresh-formed, own-answers, listing, card-formed, clients-formed, level-formed, ranges-formed, io-formed, irq-formed}
-pub use ClientsStay.{live-passed, request-passed, register-stays, mask-formed}
-pub use ResourcesStay.{level-added-formed, inserted-cases, inserted-more, inserted-in, in-inserted, new-inserted, range-added-formed, boot-stays}
-pub use Boot.{records-length}
-pub use Exactly.{exactly-when}
-pub use Way.{way-laws}
-pub use Laws.{service-laws, host-laws, bytes_laws}
+pub use Says.{says_true, says_false, says_lt, says_eq, says_eqb, says_as, says_yes, says_no, says_not, says_false_by, says_dec}
+pub use Sets.{put_same, put_other, put_is, in_left, in_right, in_either, in_map, map_in, length_map, by_number, without_in, in_without, rising_over}
+pub use Sets.{rising_more, rising_left_out, apart_port, apart_left_out}
+pub use Bits.{one_bit, one_only, shifted_bit, shifted_only, bit_below, one_named, named_one}
+pub use Codes.{code_byte, code_injective, packs_success, packs_code}
+pub use Choices.{chosen_first, chosen_then, lowest_or_none_as, smallest_power_unique}
+pub use Company.{meet_symmetric, together_symmetric}
+pub use Joining.{taken_fits}
+pub use Resources.{is_built, three_or_four, width_one}
+pub use Checks.{first_ahead, first_past, passed_both}
+pub use Unique.{lowest_unique, range_unique, number_injective, adjust_unique, register_unique, deregister_unique, request_irq_unique}
+pub use Unique.{request_io_unique, sharers_unique, service_ruled}
+pub use Refusals.{no_success, none_succeeds, first_not_success, ruled_then_success, record_no_success, boot_place, boot_within, boot_success}
+pub use Told.{told, Unreserved, wholly_unreserved_told}
+pub use Formed.{fresh_formed, own_answers, listing, card_formed, clients_formed, level_formed, ranges_formed, io_formed, irq_formed}
+pub use ClientsStay.{live_passed, request_passed, register_stays, mask_formed}
+pub use ResourcesStay.{level_added_formed, inserted_cases, inserted_more, inserted_in, in_inserted, new_inserted, range_added_formed, boot_stays}
+pub use Boot.{records_length}
+pub use Exactly.{exactly_when}
+pub use Way.{way_laws}
+pub use Laws.{service_laws, host_laws, bytes_laws}

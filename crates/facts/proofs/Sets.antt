@@ -28,18 +28,18 @@ module _ {A : Type 0} where
   put_is f k x = put_all (λ (j : ℕ) (y : A). ((j ≡ k) × (y ≡ x)) ⊎ ((j ≢ k) × (y ≡ f j))) f k x (inl (refl, refl)) (λ j d. inr (d, refl))
 
 -- two that stand at different places keep company, if those that stood did and what is put does with them
-pub put-pairs : {A : Type 0} (C : A → A → Type 0) → ((a b : A) → C a b → C b a) → (f : ℕ → Option A) (k : ℕ) (x : Option A)
+pub put_pairs : {A : Type 0} (C : A → A → Type 0) → ((a b : A) → C a b → C b a) → (f : ℕ → Option A) (k : ℕ) (x : Option A)
     → ((s t : ℕ) (g g' : A) → s ≢ t → f s ≡ some g → f t ≡ some g' → C g g')
     → ((t : ℕ) (g g' : A) → t ≢ k → x ≡ some g → f t ≡ some g' → C g g')
     → (s t : ℕ) (g g' : A) → s ≢ t → put f k x s ≡ some g → put f k x t ≡ some g' → C g g'
-put-pairs {A} C turned f k x stood new s t g g' d p q =
-    put_all (λ (i : ℕ) (o : Option A). i ≢ t → o ≡ some g → C g g') f k x with-new (λ i _. with-old i) s d p
+put_pairs {A} C turned f k x stood new s t g g' d p q =
+    put_all (λ (i : ℕ) (o : Option A). i ≢ t → o ≡ some g → C g g') f k x with_new (λ i _. with_old i) s d p
   where
-    with-new : k ≢ t → x ≡ some g → C g g'
-    with-new d' e = new t g g' (λ h. d' (sym h)) e (sym (put_other f k x t (λ h. d' (sym h))) ∙ q)
+    with_new : k ≢ t → x ≡ some g → C g g'
+    with_new d' e = new t g g' (λ h. d' (sym h)) e (sym (put_other f k x t (λ h. d' (sym h))) ∙ q)
 
-    with-old : (i : ℕ) → i ≢ t → f i ≡ some g → C g g'
-    with-old i d' e =
+    with_old : (i : ℕ) → i ≢ t → f i ≡ some g → C g g'
+    with_old i d' e =
         put_all (λ (j : ℕ) (o : Option A). o ≡ some g' → i ≢ j → C g g') f k x (λ e' d''. turned g' g (new i g' g d'' e' e))
         (λ j _ e' d''. stood i j g g' d'' e e') t q d'
 
@@ -65,14 +65,14 @@ module _ {A : Type 0} where
   in_map f x (y ∷ s) (inl e) = inl (ap f e)
   in_map f x (y ∷ s) (inr m) = inr (in_map f x s m)
 
-  pub map-in : (f : A → A) (x : A) (s : List A) → x ∈ map f s → (y : A) × (y ∈ s) × (x ≡ f y)
-  map-in f x [] m = absurd m
-  map-in f x (y ∷ s) (inl e) = (y, inl refl, e)
-  map-in f x (y ∷ s) (inr m) = let r = map-in f x s m in (r.0, inr r.1, r.2)
+  pub map_in : (f : A → A) (x : A) (s : List A) → x ∈ map f s → (y : A) × (y ∈ s) × (x ≡ f y)
+  map_in f x [] m = absurd m
+  map_in f x (y ∷ s) (inl e) = (y, inl refl, e)
+  map_in f x (y ∷ s) (inr m) = let r = map_in f x s m in (r.0, inr r.1, r.2)
 
-  pub length-map : (f : A → A) (s : List A) → length (map f s) ≡ length s
-  length-map f [] = refl
-  length-map f (y ∷ s) = ap suc (length-map f s)
+  pub length_map : (f : A → A) (s : List A) → length (map f s) ≡ length s
+  length_map f [] = refl
+  length_map f (y ∷ s) = ap suc (length_map f s)
 
   -- one found again by its number, among those listed
   abbrev pub found : (A → ℕ) → A → ℕ → List A → A
@@ -101,63 +101,63 @@ module _ {A : Type 0} where
     without_fewer (y ∷ s) = by_number (λ l. length l ≤ suc (length s)) y s (λ e. omega arith) (λ d. omega (arith, without_fewer s))
 
 -- handles in order
-pub rising-over : (lo : ℕ) (cs : List Client) → Rising lo cs → (c : Client) → c ∈ cs → lo < c.handle
-rising-over lo [] r c m = absurd m
-rising-over lo (x ∷ cs) r c (inl e) = subst (λ (y : Client). lo < y.handle) (sym e) r.0
-rising-over lo (x ∷ cs) r c (inr m) = omega (arith, r.0, rising-over x.handle cs r.1 c m)
+pub rising_over : (lo : ℕ) (cs : List Client) → Rising lo cs → (c : Client) → c ∈ cs → lo < c.handle
+rising_over lo [] r c m = absurd m
+rising_over lo (x ∷ cs) r c (inl e) = subst (λ (y : Client). lo < y.handle) (sym e) r.0
+rising_over lo (x ∷ cs) r c (inr m) = omega (arith, r.0, rising_over x.handle cs r.1 c m)
 
 pub rising_down : (lo hi : ℕ) (cs : List Client) → lo ≤ hi → Rising hi cs → Rising lo cs
 rising_down lo hi [] l r = tt
 rising_down lo hi (c ∷ cs) l r = (omega (arith, r.0), r.1)
 
 -- one more at the end, one left out, and each changed but for its handle
-pub rising-more : (lo : ℕ) (cs : List Client) (c : Client) → Rising lo cs → lo < c.handle → ((x : Client) → x ∈ cs → x.handle < c.handle)
+pub rising_more : (lo : ℕ) (cs : List Client) (c : Client) → Rising lo cs → lo < c.handle → ((x : Client) → x ∈ cs → x.handle < c.handle)
     → Rising lo (cs ++ (c ∷ []))
-rising-more lo [] c r l h = (l, tt)
-rising-more lo (x ∷ cs) c r l h = (r.0, rising-more x.handle cs c r.1 (h x (inl refl)) (λ y m. h y (inr m)))
+rising_more lo [] c r l h = (l, tt)
+rising_more lo (x ∷ cs) c r l h = (r.0, rising_more x.handle cs c r.1 (h x (inl refl)) (λ y m. h y (inr m)))
 
-pub rising-without : (lo h : ℕ) (cs : List Client) → Rising lo cs → Rising lo (without (λ (c : Client). c.handle) h cs)
-rising-without lo h [] r = tt
-rising-without lo h (x ∷ cs) r =
+pub rising_without : (lo h : ℕ) (cs : List Client) → Rising lo cs → Rising lo (without (λ (c : Client). c.handle) h cs)
+rising_without lo h [] r = tt
+rising_without lo h (x ∷ cs) r =
     by_number (λ (c : Client). c.handle) h (Rising lo) x cs (λ e. rising_down lo x.handle cs (omega (arith, r.0)) r.1)
-    (λ d. (r.0, rising-without x.handle h cs r.1))
+    (λ d. (r.0, rising_without x.handle h cs r.1))
 
 -- one left out is no longer there
-pub rising-left-out : (lo h : ℕ) (cs : List Client) → Rising lo cs → (c : Client) → c ∈ without (λ (c : Client). c.handle) h cs → c.handle ≢ h
-rising-left-out lo h [] r c = absurd
-rising-left-out lo h (x ∷ cs) r c =
-    by_number (λ (c : Client). c.handle) h (λ l. c ∈ l → c.handle ≢ h) x cs (λ e m q. omega (arith, e, q, rising-over x.handle cs r.1 c m))
-    (λ d. ⊎_elim (λ e q. d (sym (ap (λ (c : Client). c.handle) e) ∙ q)) (rising-left-out x.handle h cs r.1 c))
+pub rising_left_out : (lo h : ℕ) (cs : List Client) → Rising lo cs → (c : Client) → c ∈ without (λ (c : Client). c.handle) h cs → c.handle ≢ h
+rising_left_out lo h [] r c = absurd
+rising_left_out lo h (x ∷ cs) r c =
+    by_number (λ (c : Client). c.handle) h (λ l. c ∈ l → c.handle ≢ h) x cs (λ e m q. omega (arith, e, q, rising_over x.handle cs r.1 c m))
+    (λ d. ⊎_elim (λ e q. d (sym (ap (λ (c : Client). c.handle) e) ∙ q)) (rising_left_out x.handle h cs r.1 c))
 
-pub rising-map : (f : Client → Client) → ((c : Client) → (f c).handle ≡ c.handle) → (lo : ℕ) (cs : List Client) → Rising lo cs → Rising lo (map f cs)
-rising-map f same lo [] r = tt
-rising-map f same lo (x ∷ cs) r =
-    (omega (arith, same x, r.0), subst (λ (k : ℕ). Rising k (map f cs)) (sym (same x)) (rising-map f same x.handle cs r.1))
+pub rising_map : (f : Client → Client) → ((c : Client) → (f c).handle ≡ c.handle) → (lo : ℕ) (cs : List Client) → Rising lo cs → Rising lo (map f cs)
+rising_map f same lo [] r = tt
+rising_map f same lo (x ∷ cs) r =
+    (omega (arith, same x, r.0), subst (λ (k : ℕ). Rising k (map f cs)) (sym (same x)) (rising_map f same x.handle cs r.1))
 
 -- ranges in order
-pub apart-port : (lo : ℕ) (rs : List Range) → Apart lo rs → (r : Range) → r ∈ rs → 1 ≤ r.count
-apart-port lo [] a r m = absurd m
-apart-port lo (x ∷ rs) a r (inl e) = subst (λ (y : Range). 1 ≤ y.count) (sym e) a.1
-apart-port lo (x ∷ rs) a r (inr m) = apart-port (x.base + x.count) rs a.2 r m
+pub apart_port : (lo : ℕ) (rs : List Range) → Apart lo rs → (r : Range) → r ∈ rs → 1 ≤ r.count
+apart_port lo [] a r m = absurd m
+apart_port lo (x ∷ rs) a r (inl e) = subst (λ (y : Range). 1 ≤ y.count) (sym e) a.1
+apart_port lo (x ∷ rs) a r (inr m) = apart_port (x.base + x.count) rs a.2 r m
 
-pub apart-down : (lo hi : ℕ) (rs : List Range) → lo ≤ hi → Apart hi rs → Apart lo rs
-apart-down lo hi [] l a = tt
-apart-down lo hi (x ∷ rs) l a = (omega (arith, a.0), a.1, a.2)
+pub apart_down : (lo hi : ℕ) (rs : List Range) → lo ≤ hi → Apart hi rs → Apart lo rs
+apart_down lo hi [] l a = tt
+apart_down lo hi (x ∷ rs) l a = (omega (arith, a.0), a.1, a.2)
 
-pub apart-without : (lo base : ℕ) (rs : List Range) → Apart lo rs → Apart lo (without (λ (r : Range). r.base) base rs)
-apart-without lo base [] a = tt
-apart-without lo base (x ∷ rs) a =
-    by_number (λ (r : Range). r.base) base (Apart lo) x rs (λ e. apart-down lo (x.base + x.count) rs (omega (arith, a.0)) a.2)
-    (λ d. (a.0, a.1, apart-without (x.base + x.count) base rs a.2))
+pub apart_without : (lo base : ℕ) (rs : List Range) → Apart lo rs → Apart lo (without (λ (r : Range). r.base) base rs)
+apart_without lo base [] a = tt
+apart_without lo base (x ∷ rs) a =
+    by_number (λ (r : Range). r.base) base (Apart lo) x rs (λ e. apart_down lo (x.base + x.count) rs (omega (arith, a.0)) a.2)
+    (λ d. (a.0, a.1, apart_without (x.base + x.count) base rs a.2))
 
-pub apart-over : (lo : ℕ) (rs : List Range) → Apart lo rs → (r : Range) → r ∈ rs → lo ≤ r.base
-apart-over lo [] a r m = absurd m
-apart-over lo (x ∷ rs) a r (inl e) = subst (λ (y : Range). lo ≤ y.base) (sym e) a.0
-apart-over lo (x ∷ rs) a r (inr m) = omega (arith, a.0, apart-over (x.base + x.count) rs a.2 r m)
+pub apart_over : (lo : ℕ) (rs : List Range) → Apart lo rs → (r : Range) → r ∈ rs → lo ≤ r.base
+apart_over lo [] a r m = absurd m
+apart_over lo (x ∷ rs) a r (inl e) = subst (λ (y : Range). lo ≤ y.base) (sym e) a.0
+apart_over lo (x ∷ rs) a r (inr m) = omega (arith, a.0, apart_over (x.base + x.count) rs a.2 r m)
 
-pub apart-left-out : (lo base : ℕ) (rs : List Range) → Apart lo rs → (r : Range) → r ∈ without (λ (r : Range). r.base) base rs → r.base ≢ base
-apart-left-out lo base [] a r = absurd
-apart-left-out lo base (x ∷ rs) a r =
+pub apart_left_out : (lo base : ℕ) (rs : List Range) → Apart lo rs → (r : Range) → r ∈ without (λ (r : Range). r.base) base rs → r.base ≢ base
+apart_left_out lo base [] a r = absurd
+apart_left_out lo base (x ∷ rs) a r =
     by_number (λ (r : Range). r.base) base (λ l. r ∈ l → r.base ≢ base) x rs
-    (λ e m q. omega (arith, e, q, a.1, apart-over (x.base + x.count) rs a.2 r m))
-    (λ d. ⊎_elim (λ e q. d (sym (ap (λ (r : Range). r.base) e) ∙ q)) (apart-left-out (x.base + x.count) base rs a.2 r))
+    (λ e m q. omega (arith, e, q, a.1, apart_over (x.base + x.count) rs a.2 r m))
+    (λ d. ⊎_elim (λ e q. d (sym (ap (λ (r : Range). r.base) e) ∙ q)) (apart_left_out (x.base + x.count) base rs a.2 r))

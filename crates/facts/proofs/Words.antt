@@ -7,17 +7,17 @@ pub use lib.Bits.{and_block, and_high, and_le_l, and_le_r, and_mask, and_shr, an
 pub use lib.Count.{under}
 unfoldable pub use lib.Count.{count_trailing_zeros}
 pub use lib.Dec.{T, eqb, eqb→eq, leb, lit<, ltb, ltb→lt, nltb→le}
-pub use lib.ListN.{get_or-append as List·getD-append, get_or-eq_default as List·getD-eq-default, drop, drop_of_length-le, get_or, get_or-replicate, get_elem?, length, length-append}
+pub use lib.ListN.{get_or-append, get_or-eq_default, drop, drop_of_length-le, get_or, get_or-replicate, get_elem?, length, length-append}
 pub use lib.ListN.{length-drop, length-replicate, length-set, replicate, set, take, take-append-drop}
 pub use lib.Pow.{field, high, mod-mod-pow, ones_lt, ones_split, pow-add, pow-lt, pow_mono, pow_pos, shl_exact, shl-shr, shr-shr}
 pub use lib.Seq.{drop_at, drop-cons, drop-drop, ext_get_or, get_or-append-add, get_or-append_seam, get_or-drop, get_or-set_other, get_or-set_same}
 pub use lib.Seq.{length-take-le, take-suc-set}
 pub use mathlib.Core.Bool.{Bool, cond, false, false≢true, not, true, true≢false}
 pub use mathlib.Core.List.{List, [], ◌++◌, ◌∷◌, append_assoc, head-eq_of_cons-eq, map, nil≢cons, tail-eq_of_cons-eq}
-pub use mathlib.Core.Logic.Dec.{of_iff as Dec·of-iff}
-pub use mathlib.Core.Logic.Iff.{rfl as Iff·rfl}
+pub use mathlib.Core.Logic.Dec.{of_iff as dec_of_iff}
+pub use mathlib.Core.Logic.Iff.{rfl as iff_rfl}
 pub use mathlib.Core.Logic.{◌↔◌, ◌≢◌, ◌⊎◌, by_cases, inl, inr, ⊎_elim}
-pub use mathlib.Core.Option.{Option, none-ne-some as Option·none-ne-some, some-injective as Option·some-injective, some-ne-none as Option·some-ne-none, none, some}
+pub use mathlib.Core.Option.{Option, none-ne-some, some-injective, some-ne-none, none, some}
 pub use mathlib.Core.Path.{◌∙◌, ◌≡◌, ap, ap₂, fun_ext, refl, subst, subst⁻¹, subst₂, sym}
 pub use mir.Val.{bool_byte}
 pub use native.Mathlib.Decide.{dec_le, dec_lt, ℕ_discrete}

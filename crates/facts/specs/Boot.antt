@@ -7,35 +7,35 @@ use Rattle.facts.specs.Table
 use Rattle.facts.specs.Table.{Facts}
 use Rattle.facts.specs.Packets.{byte, long}
 use Rattle.facts.specs.Checks.{Check, FirstGiven, Passed}
-use Rattle.facts.specs.Resources.{ioRange, resourceChecks, addLevelChecks, addRangeChecks, levelAdded, rangeAdded}
+use Rattle.facts.specs.Resources.{io_range, resource_checks, add_level_checks, add_range_checks, level_added, range_added}
 
 -- "A record has a resource type and attributes of one byte, a base or level and a port count of four": the one at the head of the bytes
-abbrev pub recordSize : ℕ
-recordSize = 10
+abbrev pub record_size : ℕ
+record_size = 10
 
-abbrev pub recordOf : List ℕ → Record
-recordOf b = record { resource = byte b 0; attributes = byte b 1; base = long b 2; count = long b 6 }
+abbrev pub record_of : List ℕ → Record
+record_of b = record { resource = byte b 0; attributes = byte b 1; base = long b 2; count = long b 6 }
 
 -- the first n records of the bytes
-abbrev pub recordsIn : ℕ → List ℕ → List Record
-recordsIn zero b = []
-recordsIn (suc n) b = recordOf b ∷ recordsIn n (drop recordSize b)
+abbrev pub records_in : ℕ → List ℕ → List Record
+records_in zero b = []
+records_in (suc n) b = record_of b ∷ records_in n (drop record_size b)
 
 -- "it gets the code that Add's rules give those values, I/O in the long form with lines 16, IRQ without the count"
-abbrev pub recordChecks : Facts → Record → List Check
-recordChecks F r =
-    resourceChecks r.resource
-    (cond (eqb r.resource ioRange) (addRangeChecks F r.base r.count r.attributes Table.mostLines)
-    (addLevelChecks F r.base r.attributes))
+abbrev pub record_checks : Facts → Record → List Check
+record_checks F r =
+    resource_checks r.resource
+    (cond (eqb r.resource io_range) (add_range_checks F r.base r.count r.attributes Table.most_lines)
+    (add_level_checks F r.base r.attributes))
 
-abbrev pub recordAdded : Facts → Record → Facts
-recordAdded F r =
-    cond (eqb r.resource ioRange) (rangeAdded F r.base r.count r.attributes) (levelAdded F r.base r.attributes)
+abbrev pub record_added : Facts → Record → Facts
+record_added F r =
+    cond (eqb r.resource io_range) (range_added F r.base r.count r.attributes) (level_added F r.base r.attributes)
 
 -- the records, added in order, each to what those before it left
-abbrev pub recordsAdded : Facts → List Record → Facts
-recordsAdded F [] = F
-recordsAdded F (r ∷ rs) = recordsAdded (recordAdded F r) rs
+abbrev pub records_added : Facts → List Record → Facts
+records_added F [] = F
+records_added F (r ∷ rs) = records_added (record_added F r) rs
 
 -- what a boot list answers and leaves
 pub record Booted : Type 0 where
@@ -50,8 +50,8 @@ stopped i k F = record { place = i; code = k; facts = F }
 -- which the first is the ith, give o; where they end, the code e is given.
 pub data Boot (e : Code) : Facts → List Record → ℕ → Booted → Type 0 where
   ended : {F : Facts} {i : ℕ} → Boot e F [] i (stopped i e F)
-  refused : {F : Facts} {r : Record} {rs : List Record} {i : ℕ} {k : Code} → FirstGiven (recordChecks F r) k → Boot e F (r ∷ rs) i (stopped i k F)
-  added : {F : Facts} {r : Record} {rs : List Record} {i : ℕ} {o : Booted} → Passed (recordChecks F r) → Boot e (recordAdded F r) rs (i + 1) o
+  refused : {F : Facts} {r : Record} {rs : List Record} {i : ℕ} {k : Code} → FirstGiven (record_checks F r) k → Boot e F (r ∷ rs) i (stopped i k F)
+  added : {F : Facts} {r : Record} {rs : List Record} {i : ℕ} {o : Booted} → Passed (record_checks F r) → Boot e (record_added F r) rs (i + 1) o
       → Boot e F (r ∷ rs) i o
 
 -- the list is lent as a slice of records: "Success answers the list's length in records"
@@ -59,11 +59,11 @@ abbrev pub BootRecords : Facts → List Record → Booted → Type 0
 BootRecords F rs = Boot Success F rs 0
 
 -- or as their bytes: "bytes too few for a record at the end are refused at its place with BAD_ARG_LENGTH"
-abbrev pub recordsOf : List ℕ → List Record
-recordsOf b = recordsIn (length b / recordSize) b
+abbrev pub records_of : List ℕ → List Record
+records_of b = records_in (length b / record_size) b
 
 abbrev pub end_of : List ℕ → Code
-end_of b = cond (eqb (length b % recordSize) 0) Success BadArgLength
+end_of b = cond (eqb (length b % record_size) 0) Success BadArgLength
 
 abbrev pub BootBytes : Facts → List ℕ → Booted → Type 0
-BootBytes F b = Boot (end_of b) F (recordsOf b) 0
+BootBytes F b = Boot (end_of b) F (records_of b) 0

@@ -9,27 +9,27 @@ use Rattle.facts.specs.WellFormed.{Live, AttributesAllowed, EventsAllowed}
 use Rattle.facts.specs.Packets.{word}
 use Rattle.facts.specs.Checks.{Check, ◌gives◌, Leaves, Ruled, Rule}
 
-abbrev pub withClients : Facts → List Client → Facts
-withClients F cs =
+abbrev pub with_clients : Facts → List Client → Facts
+with_clients F cs =
     record { sockets = F.sockets; card = F.card; issued = F.issued; clients = cs; level = F.level; ranges = F.ranges; io = F.io; irq = F.irq }
 
 -- "Handles are 1, 2, 3 and on, each issued once in a table's life"
-abbrev pub nextHandle : Facts → ℕ
-nextHandle F = F.issued + 1
+abbrev pub next_handle : Facts → ℕ
+next_handle F = F.issued + 1
 
 -- the packet of RegisterClient (5.37): attributes 2 bytes at 0, event mask 2 bytes at 2
-abbrev pub registerLength : ℕ
-registerLength = 14
+abbrev pub register_length : ℕ
+register_length = 14
 
-abbrev pub clientAttributes : List ℕ → ℕ
-clientAttributes p = word p 0
+abbrev pub client_attributes : List ℕ → ℕ
+client_attributes p = word p 0
 
-abbrev pub clientEvents : List ℕ → ℕ
-clientEvents p = word p 2
+abbrev pub client_events : List ℕ → ℕ
+client_events p = word p 2
 
 -- the new client: its handle is the next one, and it holds no socket mask yet
-abbrev pub newClient : Facts → ℕ → ℕ → Client
-newClient F attributes events = record { handle = nextHandle F; attributes = attributes; events = events; mask = λ s. none }
+abbrev pub new_client : Facts → ℕ → ℕ → Client
+new_client F attributes events = record { handle = next_handle F; attributes = attributes; events = events; mask = λ s. none }
 
 -- it stands last
 abbrev pub registered : Facts → ℕ → ℕ → Facts
@@ -37,8 +37,8 @@ registered F attributes events =
     record {
       sockets = F.sockets;
       card = F.card;
-      issued = nextHandle F;
-      clients = F.clients ++ (newClient F attributes events ∷ []);
+      issued = next_handle F;
+      clients = F.clients ++ (new_client F attributes events ∷ []);
       level = F.level;
       ranges = F.ranges;
       io = F.io;
@@ -48,20 +48,20 @@ registered F attributes events =
 -- "RegisterClient doesn't look at the given handle, and answers the new one. Attribute bits or client types that 5.37 doesn't allow: BAD_ATTRIBUTE;
 -- fields after the event mask are ignored. Event mask bits 12 to 15 set: BAD_ATTRIBUTE. OUT_OF_RESOURCE exactly if 16 are live or 65,535 were
 -- issued."
-abbrev pub registerChecks : Facts → List ℕ → List Check
-registerChecks F p =
-    ((length p ≢ registerLength) gives BadArgLength)
-    ∷ ((AttributesAllowed (clientAttributes p) → ⊥) gives BadAttribute)
-    ∷ ((EventsAllowed (clientEvents p) → ⊥) gives BadAttribute)
-    ∷ (((Table.mostClients ≤ length F.clients) ⊎ (Table.mostIssued ≤ F.issued)) gives OutOfResource)
+abbrev pub register_checks : Facts → List ℕ → List Check
+register_checks F p =
+    ((length p ≢ register_length) gives BadArgLength)
+    ∷ ((AttributesAllowed (client_attributes p) → ⊥) gives BadAttribute)
+    ∷ ((EventsAllowed (client_events p) → ⊥) gives BadAttribute)
+    ∷ (((Table.most_clients ≤ length F.clients) ⊎ (Table.most_issued ≤ F.issued)) gives OutOfResource)
     ∷ []
 
 abbrev pub Register : Rule
-Register F h p = Ruled (registerChecks F p) (Leaves (nextHandle F) p (registered F (clientAttributes p) (clientEvents p))) F p
+Register F h p = Ruled (register_checks F p) (Leaves (next_handle F) p (registered F (client_attributes p) (client_events p))) F p
 
 -- the clients but the one whose handle is h
-abbrev pub withoutClient : ℕ → List Client → List Client
-withoutClient = without (λ (c : Client). c.handle)
+abbrev pub without_client : ℕ → List Client → List Client
+without_client = without (λ (c : Client). c.handle)
 
 -- what a client holds
 pub record HoldsIo (F : Facts) (h : ℕ) : Type 0 where
@@ -92,16 +92,16 @@ abbrev pub HoldsMask : Facts → ℕ → Type 0
 HoldsMask F h = (s : Seat) × (m : ℕ) × Masks F h s m
 
 -- the packet of DeregisterClient (5.8) is empty
-abbrev pub deregisterLength : ℕ
-deregisterLength = 0
+abbrev pub deregister_length : ℕ
+deregister_length = 0
 
 -- "DeregisterClient takes an empty packet and is refused with IN_USE exactly while the client holds an I/O grant, an IRQ grant or a socket mask."
-abbrev pub deregisterChecks : Facts → ℕ → List ℕ → List Check
-deregisterChecks F h p =
-    ((length p ≢ deregisterLength) gives BadArgLength)
+abbrev pub deregister_checks : Facts → ℕ → List ℕ → List Check
+deregister_checks F h p =
+    ((length p ≢ deregister_length) gives BadArgLength)
     ∷ ((Live F h → ⊥) gives BadHandle)
     ∷ ((HoldsIo F h ⊎ HoldsIrq F h ⊎ HoldsMask F h) gives InUse)
     ∷ []
 
 abbrev pub Deregister : Rule
-Deregister F h p = Ruled (deregisterChecks F h p) (Leaves h p (withClients F (withoutClient h F.clients))) F p
+Deregister F h p = Ruled (deregister_checks F h p) (Leaves h p (with_clients F (without_client h F.clients))) F p

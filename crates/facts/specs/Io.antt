@@ -4,69 +4,69 @@ use Rattle.std.proofs.Math.Option.{Option, none, some}
 use Rattle.facts.specs.declared.IoAsked.{IoAsked}
 use Rattle.facts.specs.declared.Code.TheVariants.{BadAttribute, BadBase, BadSize, InUse}
 use Rattle.facts.specs.Table
-use Rattle.facts.specs.Table.{Facts, Seat, seatOf, Ports, HeldPorts, IoGrant, Held}
+use Rattle.facts.specs.Table.{Facts, Seat, seat_of, Ports, HeldPorts, IoGrant, Held}
 use Rattle.facts.specs.Sets.{put}
 use Rattle.facts.specs.Choice.{Chosen}
 use Rattle.facts.specs.Ports.{Meet, AllManaged, AnswersManaged, WhollyUnreserved}
-use Rattle.facts.specs.Packets.{byte, word, withWord, bit}
-use Rattle.facts.specs.Sockets.{socketOf, requestChecks, releaseChecks}
+use Rattle.facts.specs.Packets.{byte, word, with_word, bit}
+use Rattle.facts.specs.Sockets.{socket_of, request_checks, release_checks}
 use Rattle.facts.specs.Checks.{Check, ◌gives◌, Leaves, Outcome, Ruled, Rule}
 
 -- the packet (5.52): BasePort1 2 bytes at 2, NumPorts1 at 4, Attributes1 at 5, NumPorts2 at 8, IOAddrLines at 10
-abbrev pub requestIoLength : ℕ
-requestIoLength = 11
+abbrev pub request_io_length : ℕ
+request_io_length = 11
 
-abbrev pub baseAsked : List ℕ → ℕ
-baseAsked p = word p 2
+abbrev pub base_asked_lem : List ℕ → ℕ
+base_asked_lem p = word p 2
 
-abbrev pub countAsked : List ℕ → ℕ
-countAsked p = byte p 4
+abbrev pub count_asked_lem : List ℕ → ℕ
+count_asked_lem p = byte p 4
 
-abbrev pub ioAttributes : List ℕ → ℕ
-ioAttributes p = byte p 5
+abbrev pub io_attributes : List ℕ → ℕ
+io_attributes p = byte p 5
 
 abbrev pub second_count : List ℕ → ℕ
 second_count p = byte p 8
 
-abbrev pub linesAsked : List ℕ → ℕ
-linesAsked p = byte p 10
+abbrev pub lines_asked_lem : List ℕ → ℕ
+lines_asked_lem p = byte p 10
 
 -- Attributes1 (5.52): Shared, First Shared, Force Alias Accessibility, Data Path Width; bits 4 to 7 are reserved
 abbrev pub IoShared : List ℕ → Type 0
-IoShared p = bit (ioAttributes p) 0 ≡ 1
+IoShared p = bit (io_attributes p) 0 ≡ 1
 
 abbrev pub IoFirstShared : List ℕ → Type 0
-IoFirstShared p = bit (ioAttributes p) 1 ≡ 1
+IoFirstShared p = bit (io_attributes p) 1 ≡ 1
 
 -- what a packet asks for
-abbrev pub ioAsked : List ℕ → IoAsked
-ioAsked p =
+abbrev pub io_asked : List ℕ → IoAsked
+io_asked p =
     record {
-      base = baseAsked p;
-      count = countAsked p;
-      lines = linesAsked p;
-      shared = eqb (bit (ioAttributes p) 0) 1;
-      first = eqb (bit (ioAttributes p) 1) 1;
+      base = base_asked_lem p;
+      count = count_asked_lem p;
+      lines = lines_asked_lem p;
+      shared = eqb (bit (io_attributes p) 0) 1;
+      first = eqb (bit (io_attributes p) 1) 1;
     }
 
 -- the ports asked for, at the base b
-abbrev pub portsAt : IoAsked → ℕ → Ports
-portsAt q b = record { base = b; count = q.count; lines = q.lines }
+abbrev pub ports_at : IoAsked → ℕ → Ports
+ports_at q b = record { base = b; count = q.count; lines = q.lines }
 
 -- "attribute bits outside section 5.52's list, First Shared without Shared, or lines outside 1 to 16, BAD_ATTRIBUTE"
 abbrev pub IoAttributesBad : List ℕ → Type 0
 IoAttributesBad p =
-    (2 ^ 4 ≤ ioAttributes p) ⊎ (IoFirstShared p × (IoShared p → ⊥)) ⊎ (linesAsked p ≡ 0) ⊎ (Table.mostLines < linesAsked p)
+    (2 ^ 4 ≤ io_attributes p) ⊎ (IoFirstShared p × (IoShared p → ⊥)) ⊎ (lines_asked_lem p ≡ 0) ⊎ (Table.most_lines < lines_asked_lem p)
 
 -- "NumPorts1 0 or over two to the lines, or NumPorts2 not 0, BAD_SIZE (BasePort2 and Attributes2 ignored)"
 abbrev pub IoSizeBad : List ℕ → Type 0
-IoSizeBad p = (countAsked p ≡ 0) ⊎ (2 ^ linesAsked p < countAsked p) ⊎ (second_count p ≢ 0)
+IoSizeBad p = (count_asked_lem p ≡ 0) ⊎ (2 ^ lines_asked_lem p < count_asked_lem p) ⊎ (second_count p ≢ 0)
 
 -- "Base not 0: a port past FFFF or unmanaged, BAD_BASE." K2 (document 02): "each port that equals a granted one modulo two to the lines must be
 -- managed too: BAD_BASE for a named base"
 abbrev pub NotAllManaged : Facts → IoAsked → Type 0
 NotAllManaged F q =
-    (Table.allPorts < q.base + q.count) ⊎ (AllManaged F q.base q.count → ⊥) ⊎ (AnswersManaged F (portsAt q q.base) → ⊥)
+    (Table.all_ports < q.base + q.count) ⊎ (AllManaged F q.base q.count → ⊥) ⊎ (AnswersManaged F (ports_at q q.base) → ⊥)
 
 -- the request and what is held both share
 abbrev pub BothShare : IoAsked → HeldPorts → Type 0
@@ -76,7 +76,7 @@ BothShare q x = (q.shared ≡ true) × (x.shared ≡ true)
 pub record InTheWayAt (F : Facts) (q : IoAsked) (s : Seat) : Type 0 where
   pub range : HeldPorts
   pub held : Held F s range
-  pub meets : Meet (portsAt q q.base) range.ports
+  pub meets : Meet (ports_at q q.base) range.ports
   pub unshared : (q.first ≡ true) ⊎ (BothShare q range → ⊥)
 
 -- at some seat it is: "IN_USE."
@@ -88,7 +88,7 @@ pub record InTheWay (F : Facts) (q : IoAsked) : Type 0 where
 pub record SmallestPower (n a : ℕ) : Type 0 where
   pub power : ℕ
   pub is : a ≡ 2 ^ power
-  pub not-below : n ≤ a
+  pub not_below : n ≤ a
   pub smallest : (k : ℕ) → n ≤ 2 ^ k → a ≤ 2 ^ k
 
 -- "Base 0: candidates are the positive multiples of the smallest power of two not below the count, all ports managed, none past FFFF, meeting no
@@ -100,9 +100,9 @@ pub record Candidate (F : Facts) (q : IoAsked) (b : ℕ) : Type 0 where
   pub multiple : b ≡ times * step
   pub positive : 1 ≤ b
   pub managed : AllManaged F b q.count
-  pub answers : AnswersManaged F (portsAt q b)
-  pub within : b + q.count ≤ Table.allPorts
-  pub meets-none : (s : Seat) (x : HeldPorts) → Held F s x → Meet (portsAt q b) x.ports → ⊥
+  pub answers : AnswersManaged F (ports_at q b)
+  pub within : b + q.count ≤ Table.all_ports
+  pub meets_none : (s : Seat) (x : HeldPorts) → Held F s x → Meet (ports_at q b) x.ports → ⊥
 
 abbrev pub NoCandidate : Facts → IoAsked → Type 0
 NoCandidate F q = (b : ℕ) → Candidate F q b → ⊥
@@ -115,8 +115,8 @@ CandidateTaken F q = Chosen (Candidate F q) (λ b. WhollyUnreserved F b q.count)
 abbrev pub BaseTaken : Facts → IoAsked → ℕ → Type 0
 BaseTaken F q b = ((q.base ≢ 0) × (b ≡ q.base)) ⊎ ((q.base ≡ 0) × CandidateTaken F q b)
 
-abbrev pub withIo : Facts → Seat → Option IoGrant → Facts
-withIo F s g =
+abbrev pub with_io : Facts → Seat → Option IoGrant → Facts
+with_io F s g =
     record {
       sockets = F.sockets;
       card = F.card;
@@ -129,58 +129,58 @@ withIo F s g =
     }
 
 -- the checks of the packet alone
-abbrev pub ioPacketChecks : List ℕ → List Check → List Check
-ioPacketChecks p own = (IoAttributesBad p gives BadAttribute) ∷ (IoSizeBad p gives BadSize) ∷ own
+abbrev pub io_packet_checks : List ℕ → List Check → List Check
+io_packet_checks p own = (IoAttributesBad p gives BadAttribute) ∷ (IoSizeBad p gives BadSize) ∷ own
 
 -- the checks ahead of the base; "the socket has an I/O grant, IN_USE"
-abbrev pub ownIoChecks : Facts → List ℕ → List Check → List Check
-ownIoChecks F p base = ioPacketChecks p (((F.io (seatOf (socketOf p)) ≢ none) gives InUse) ∷ base)
+abbrev pub own_io_checks : Facts → List ℕ → List Check → List Check
+own_io_checks F p base = io_packet_checks p (((F.io (seat_of (socket_of p)) ≢ none) gives InUse) ∷ base)
 
-abbrev pub ioAheadChecks : Facts → ℕ → List ℕ → List Check → List Check
-ioAheadChecks F h p base = requestChecks requestIoLength F h p (ownIoChecks F p base)
+abbrev pub io_ahead_checks : Facts → ℕ → List ℕ → List Check → List Check
+io_ahead_checks F h p base = request_checks request_io_length F h p (own_io_checks F p base)
 
 -- "a port past FFFF or unmanaged, BAD_BASE", and K2's. "It meets a live grant, and First Shared is set or the two don't both share: IN_USE. Base 0: candidates ..
 -- none: IN_USE."
-abbrev pub baseChecks : Facts → IoAsked → List Check
-baseChecks F q =
+abbrev pub base_checks : Facts → IoAsked → List Check
+base_checks F q =
     (((q.base ≢ 0) × NotAllManaged F q) gives BadBase)
     ∷ (((q.base ≢ 0) × InTheWay F q) gives InUse)
     ∷ (((q.base ≡ 0) × NoCandidate F q) gives InUse)
     ∷ []
 
-abbrev pub ioRequestChecks : Facts → ℕ → List ℕ → List Check
-ioRequestChecks F h p = ioAheadChecks F h p (baseChecks F (ioAsked p))
+abbrev pub io_request_checks : Facts → ℕ → List ℕ → List Check
+io_request_checks F h p = io_ahead_checks F h p (base_checks F (io_asked p))
 
 -- the client h is granted the ports at the base taken, on the packet's socket; "Success writes BasePort1."
-abbrev pub ioGrant : ℕ → IoAsked → ℕ → IoGrant
-ioGrant h q b = record { client = h; ports = portsAt q b; shared = q.shared }
+abbrev pub io_grant : ℕ → IoAsked → ℕ → IoGrant
+io_grant h q b = record { client = h; ports = ports_at q b; shared = q.shared }
 
 pub record GrantsIo (F : Facts) (h : ℕ) (p : List ℕ) (o : Outcome) : Type 0 where
   pub base : ℕ
-  pub taken : BaseTaken F (ioAsked p) base
-  pub leaves : Leaves h (withWord p 2 base) (withIo F (seatOf (socketOf p)) (some (ioGrant h (ioAsked p) base))) o
+  pub taken : BaseTaken F (io_asked p) base
+  pub leaves : Leaves h (with_word p 2 base) (with_io F (seat_of (socket_of p)) (some (io_grant h (io_asked p) base))) o
 
 abbrev pub RequestIo : Rule
-RequestIo F h p = Ruled (ioRequestChecks F h p) (GrantsIo F h p) F p
+RequestIo F h p = Ruled (io_request_checks F h p) (GrantsIo F h p) F p
 
 -- this client holds that base and count at this seat
 pub record IoHeld (F : Facts) (h : ℕ) (s : Seat) (base count : ℕ) : Type 0 where
   pub range : HeldPorts
   pub held : Held F s range
   pub client : range.client ≡ h
-  pub base-is : range.ports.base ≡ base
-  pub count-is : range.ports.count ≡ count
+  pub base_is : range.ports.base ≡ base
+  pub count_is : range.ports.count ≡ count
 
 -- the packet of ReleaseIO (5.44): as RequestIO's
-abbrev pub releaseIoLength : ℕ
-releaseIoLength = 11
+abbrev pub release_io_length : ℕ
+release_io_length = 11
 
 -- "Release needs no card: BAD_BASE unless this client holds that base and count on this socket. Its NumPorts2 must be 0 (BAD_SIZE before that). Its
 -- attributes, lines and BasePort2 are ignored."
-abbrev pub ioReleaseChecks : Facts → ℕ → List ℕ → List Check
-ioReleaseChecks F h p =
-    releaseChecks releaseIoLength F h p
-    (((second_count p ≢ 0) gives BadSize) ∷ ((IoHeld F h (seatOf (socketOf p)) (baseAsked p) (countAsked p) → ⊥) gives BadBase) ∷ [])
+abbrev pub io_release_checks : Facts → ℕ → List ℕ → List Check
+io_release_checks F h p =
+    release_checks release_io_length F h p
+    (((second_count p ≢ 0) gives BadSize) ∷ ((IoHeld F h (seat_of (socket_of p)) (base_asked_lem p) (count_asked_lem p) → ⊥) gives BadBase) ∷ [])
 
 abbrev pub ReleaseIo : Rule
-ReleaseIo F h p = Ruled (ioReleaseChecks F h p) (Leaves h p (withIo F (seatOf (socketOf p)) none)) F p
+ReleaseIo F h p = Ruled (io_release_checks F h p) (Leaves h p (with_io F (seat_of (socket_of p)) none)) F p

@@ -7,24 +7,24 @@ use Rattle.facts.specs.declared.Manner.TheVariants.{Exclusive, TimeMultiplexed, 
 use Rattle.facts.specs.declared.Code.{Code}
 use Rattle.facts.specs.declared.Code.TheVariants.{BadAttribute, BadArgs, BadIrq, InUse}
 use Rattle.facts.specs.Table
-use Rattle.facts.specs.Table.{Facts, Seat, seatOf, IrqGrant}
+use Rattle.facts.specs.Table.{Facts, Seat, seat_of, IrqGrant}
 use Rattle.facts.specs.Sets.{put}
 use Rattle.facts.specs.Choice.{Chosen, Lowest}
-use Rattle.facts.specs.Levels.{Together, Holds, type_of, exclusiveType, timeMultiplexedType, dynamicType}
-use Rattle.facts.specs.Packets.{byte, word, withWord, bit}
-use Rattle.facts.specs.Sockets.{socketOf, requestChecks, releaseChecks}
+use Rattle.facts.specs.Levels.{Together, Holds, type_of, exclusive_type, time_multiplexed_type, dynamic_type}
+use Rattle.facts.specs.Packets.{byte, word, with_word, bit}
+use Rattle.facts.specs.Sockets.{socket_of, request_checks, release_checks}
 use Rattle.facts.specs.Checks.{Check, ◌gives◌, Leaves, Outcome, Decided, Ruled, Rule}
 
 -- RequestIRQ's packet (5.53). "The 8-byte packet: socket and function at 0, attributes 2 bytes at 2, AssignedIRQ at 4, IRQInfo1 at 5, IRQInfo2
 -- 2 bytes at 6."
-abbrev pub requestIrqLength : ℕ
-requestIrqLength = 8
+abbrev pub request_irq_length : ℕ
+request_irq_length = 8
 
-abbrev pub attributesOf : List ℕ → ℕ
-attributesOf p = word p 2
+abbrev pub attributes_of : List ℕ → ℕ
+attributes_of p = word p 2
 
-abbrev pub assignedIrq : List ℕ → ℕ
-assignedIrq p = byte p 4
+abbrev pub assigned_irq : List ℕ → ℕ
+assigned_irq p = byte p 4
 
 abbrev pub info1 : List ℕ → ℕ
 info1 p = byte p 5
@@ -33,18 +33,18 @@ abbrev pub info2 : List ℕ → ℕ
 info2 p = word p 6
 
 -- the attributes (5.53): the type in bits 0 to 1, Force Pulse and First Shared
-abbrev pub typeAsked : List ℕ → ℕ
-typeAsked p = attributesOf p % 2 ^ 2
+abbrev pub type_asked_lem : List ℕ → ℕ
+type_asked_lem p = attributes_of p % 2 ^ 2
 
 abbrev pub ForcePulse : List ℕ → Type 0
-ForcePulse p = bit (attributesOf p) 2 ≡ 1
+ForcePulse p = bit (attributes_of p) 2 ≡ 1
 
 abbrev pub IrqFirstShared : List ℕ → Type 0
-IrqFirstShared p = bit (attributesOf p) 3 ≡ 1
+IrqFirstShared p = bit (attributes_of p) 3 ≡ 1
 
 -- IRQInfo1 (5.53): a level in bits 0 to 3, and what the card can do
-abbrev pub levelAsked : List ℕ → ℕ
-levelAsked p = info1 p % 2 ^ 4
+abbrev pub level_asked_lem : List ℕ → ℕ
+level_asked_lem p = info1 p % 2 ^ 4
 
 abbrev pub Mask : List ℕ → Type 0
 Mask p = bit (info1 p) 4 ≡ 1
@@ -62,31 +62,31 @@ ShareBit p = bit (info1 p) 7 ≡ 1
 -- its Share bit."
 abbrev pub IrqAttributesBad : List ℕ → Type 0
 IrqAttributesBad p =
-    (typeAsked p ≡ 3) ⊎ (2 ^ 4 ≤ attributesOf p) ⊎ (IrqFirstShared p × (typeAsked p ≡ exclusiveType)) ⊎ (ForcePulse p × (PulseBit p → ⊥))
-    ⊎ ((typeAsked p ≡ dynamicType) × (ShareBit p → ⊥))
+    (type_asked_lem p ≡ 3) ⊎ (2 ^ 4 ≤ attributes_of p) ⊎ (IrqFirstShared p × (type_asked_lem p ≡ exclusive_type)) ⊎ (ForcePulse p × (PulseBit p → ⊥))
+    ⊎ ((type_asked_lem p ≡ dynamic_type) × (ShareBit p → ⊥))
 
 -- "BAD_ARGS: neither Level nor Pulse; Mask set with any of IRQInfo1's bits 0 to 3, or with IRQInfo2 0."
 abbrev pub IrqInfoBad : List ℕ → Type 0
-IrqInfoBad p = ((LevelBit p → ⊥) × (PulseBit p → ⊥)) ⊎ (Mask p × (levelAsked p ≢ 0)) ⊎ (Mask p × (info2 p ≡ 0))
+IrqInfoBad p = ((LevelBit p → ⊥) × (PulseBit p → ⊥)) ⊎ (Mask p × (level_asked_lem p ≢ 0)) ⊎ (Mask p × (info2 p ≡ 0))
 
 -- "Dynamic is pulse if Force Pulse is set or the card lacks Level."
-abbrev pub dynamicOf : ℕ → ℕ → Manner
-dynamicOf force level = cond (eqb force 1) DynamicPulse (cond (eqb level 1) DynamicLevel DynamicPulse)
+abbrev pub dynamic_of : ℕ → ℕ → Manner
+dynamic_of force level = cond (eqb force 1) DynamicPulse (cond (eqb level 1) DynamicLevel DynamicPulse)
 
 -- "Four manners: exclusive, time-multiplexed, dynamic level, dynamic pulse."
-abbrev pub mannerAsked : List ℕ → Manner
-mannerAsked p =
-    cond (eqb (typeAsked p) exclusiveType) Exclusive
-    (cond (eqb (typeAsked p) timeMultiplexedType) TimeMultiplexed
-    (dynamicOf (bit (attributesOf p) 2) (bit (info1 p) 5)))
+abbrev pub manner_asked_lem : List ℕ → Manner
+manner_asked_lem p =
+    cond (eqb (type_asked_lem p) exclusive_type) Exclusive
+    (cond (eqb (type_asked_lem p) time_multiplexed_type) TimeMultiplexed
+    (dynamic_of (bit (attributes_of p) 2) (bit (info1 p) 5)))
 
 -- the levels that a packet names, a bit for each: "With Mask clear, the low four bits name one level and IRQInfo2 is ignored."
-abbrev pub levelsNamed : List ℕ → ℕ
-levelsNamed p = cond (eqb (bit (info1 p) 4) 1) (info2 p) (2 ^ levelAsked p)
+abbrev pub levels_named_lem : List ℕ → ℕ
+levels_named_lem p = cond (eqb (bit (info1 p) 4) 1) (info2 p) (2 ^ level_asked_lem p)
 
 -- what a packet asks for
-abbrev pub irqAsked : List ℕ → IrqAsked
-irqAsked p = record { manner = mannerAsked p; named = levelsNamed p; first = eqb (bit (attributesOf p) 3) 1 }
+abbrev pub irq_asked : List ℕ → IrqAsked
+irq_asked p = record { manner = manner_asked_lem p; named = levels_named_lem p; first = eqb (bit (attributes_of p) 3) 1 }
 
 abbrev pub Named : IrqAsked → ℕ → Type 0
 Named q l = bit q.named l ≡ 1
@@ -129,8 +129,8 @@ NoLevelJoined F q = (l : ℕ) → Joins F q l → ⊥
 abbrev pub LevelTaken : Facts → IrqAsked → ℕ → Type 0
 LevelTaken F q l = Lowest (Joins F q) l ⊎ (NoLevelJoined F q × FirstFitting F q l)
 
-abbrev pub withIrq : Facts → Seat → Option IrqGrant → Facts
-withIrq F s g =
+abbrev pub with_irq : Facts → Seat → Option IrqGrant → Facts
+with_irq F s g =
     record {
       sockets = F.sockets;
       card = F.card;
@@ -143,40 +143,40 @@ withIrq F s g =
     }
 
 -- "Success writes AssignedIRQ and, for dynamic pulse only, attribute bit 8."
-abbrev pub withPulse : Manner → List ℕ → List ℕ
-withPulse Exclusive p = p
-withPulse TimeMultiplexed p = p
-withPulse DynamicLevel p = p
-withPulse DynamicPulse p = withWord p 2 (attributesOf p + 2 ^ 8)
+abbrev pub with_pulse : Manner → List ℕ → List ℕ
+with_pulse Exclusive p = p
+with_pulse TimeMultiplexed p = p
+with_pulse DynamicLevel p = p
+with_pulse DynamicPulse p = with_word p 2 (attributes_of p + 2 ^ 8)
 
 abbrev pub assigning : List ℕ → ℕ → List ℕ
-assigning p l = set (withPulse (mannerAsked p) p) 4 l
+assigning p l = set (with_pulse (manner_asked_lem p) p) 4 l
 
 -- the checks ahead of the fit; "IN_USE: the socket has an IRQ grant."
-abbrev pub ownIrqChecks : Facts → List ℕ → List Check → List Check
-ownIrqChecks F p fit = (IrqAttributesBad p gives BadAttribute) ∷ (IrqInfoBad p gives BadArgs) ∷ ((F.irq (seatOf (socketOf p)) ≢ none) gives InUse) ∷ fit
+abbrev pub own_irq_checks : Facts → List ℕ → List Check → List Check
+own_irq_checks F p fit = (IrqAttributesBad p gives BadAttribute) ∷ (IrqInfoBad p gives BadArgs) ∷ ((F.irq (seat_of (socket_of p)) ≢ none) gives InUse) ∷ fit
 
-abbrev pub irqAheadChecks : Facts → ℕ → List ℕ → List Check → List Check
-irqAheadChecks F h p fit = requestChecks requestIrqLength F h p (ownIrqChecks F p fit)
+abbrev pub irq_ahead_checks : Facts → ℕ → List ℕ → List Check → List Check
+irq_ahead_checks F h p fit = request_checks request_irq_length F h p (own_irq_checks F p fit)
 
 -- "None: BAD_IRQ."
-abbrev pub levelChecks : Facts → IrqAsked → List Check
-levelChecks F q = (NoLevelFits F q gives BadIrq) ∷ []
+abbrev pub level_checks : Facts → IrqAsked → List Check
+level_checks F q = (NoLevelFits F q gives BadIrq) ∷ []
 
-abbrev pub irqRequestChecks : Facts → ℕ → List ℕ → List Check
-irqRequestChecks F h p = irqAheadChecks F h p (levelChecks F (irqAsked p))
+abbrev pub irq_request_checks : Facts → ℕ → List ℕ → List Check
+irq_request_checks F h p = irq_ahead_checks F h p (level_checks F (irq_asked p))
 
 -- the client h is granted the level taken, on the packet's socket and in the manner asked for
-abbrev pub irqGrant : ℕ → IrqAsked → ℕ → IrqGrant
-irqGrant h q l = record { client = h; level = l; manner = q.manner }
+abbrev pub irq_grant : ℕ → IrqAsked → ℕ → IrqGrant
+irq_grant h q l = record { client = h; level = l; manner = q.manner }
 
 pub record GrantsIrq (F : Facts) (h : ℕ) (p : List ℕ) (o : Outcome) : Type 0 where
   pub level : ℕ
-  pub taken : LevelTaken F (irqAsked p) level
-  pub leaves : Leaves h (assigning p level) (withIrq F (seatOf (socketOf p)) (some (irqGrant h (irqAsked p) level))) o
+  pub taken : LevelTaken F (irq_asked p) level
+  pub leaves : Leaves h (assigning p level) (with_irq F (seat_of (socket_of p)) (some (irq_grant h (irq_asked p) level))) o
 
 abbrev pub RequestIrq : Rule
-RequestIrq F h p = Ruled (irqRequestChecks F h p) (GrantsIrq F h p) F p
+RequestIrq F h p = Ruled (irq_request_checks F h p) (GrantsIrq F h p) F p
 
 -- this client holds this level at this seat
 pub record IrqHeld (F : Facts) (h : ℕ) (s : Seat) (l : ℕ) (g : IrqGrant) : Type 0 where
@@ -185,20 +185,20 @@ pub record IrqHeld (F : Facts) (h : ℕ) (s : Seat) (l : ℕ) (g : IrqGrant) : T
   pub level : g.level ≡ l
 
 -- the packet of ReleaseIRQ (5.45): as RequestIRQ's, up to AssignedIRQ
-abbrev pub releaseIrqLength : ℕ
-releaseIrqLength = 5
+abbrev pub release_irq_length : ℕ
+release_irq_length = 5
 
 -- "Release needs no card. BAD_IRQ unless this client holds this level on this socket; only then BAD_ATTRIBUTE if the type bits differ. Other
 -- attribute bits are ignored."
-abbrev pub irqReleaseChecks : Facts → ℕ → List ℕ → List Check
-irqReleaseChecks F h p =
-    releaseChecks releaseIrqLength F h p
-    ((((g : IrqGrant) → IrqHeld F h (seatOf (socketOf p)) (assignedIrq p) g → ⊥) gives BadIrq)
-    ∷ (((g : IrqGrant) × IrqHeld F h (seatOf (socketOf p)) (assignedIrq p) g × (type_of g.manner ≢ typeAsked p)) gives BadAttribute)
+abbrev pub irq_release_checks : Facts → ℕ → List ℕ → List Check
+irq_release_checks F h p =
+    release_checks release_irq_length F h p
+    ((((g : IrqGrant) → IrqHeld F h (seat_of (socket_of p)) (assigned_irq p) g → ⊥) gives BadIrq)
+    ∷ (((g : IrqGrant) × IrqHeld F h (seat_of (socket_of p)) (assigned_irq p) g × (type_of g.manner ≢ type_asked_lem p)) gives BadAttribute)
     ∷ [])
 
 abbrev pub ReleaseIrq : Rule
-ReleaseIrq F h p = Ruled (irqReleaseChecks F h p) (Leaves h p (withIrq F (seatOf (socketOf p)) none)) F p
+ReleaseIrq F h p = Ruled (irq_release_checks F h p) (Leaves h p (with_irq F (seat_of (socket_of p)) none)) F p
 
 -- one for a grant on the level l, else none
 abbrev pub sharer : ℕ → Option IrqGrant → ℕ
@@ -206,9 +206,9 @@ sharer l none = 0
 sharer l (some g) = cond (eqb g.level l) 1 0
 
 -- the number of live grants of the level l at the seats below n
-abbrev pub sharersBelow : Facts → ℕ → ℕ → ℕ
-sharersBelow F l zero = 0
-sharersBelow F l (suc n) = sharersBelow F l n + sharer l (F.irq n)
+abbrev pub sharers_below : Facts → ℕ → ℕ → ℕ
+sharers_below F l zero = 0
+sharers_below F l (suc n) = sharers_below F l n + sharer l (F.irq n)
 
 -- what the question for sharers answers: a code and a count
 pub record Count : Type 0 where
@@ -216,8 +216,8 @@ pub record Count : Type 0 where
   pub count : ℕ
 
 -- "Sharers: a level over 15 is BAD_IRQ; a refusal's count is 0; else the number of live grants, never over 8."
-abbrev pub sharersChecks : ℕ → List Check
-sharersChecks l = ((Table.allLevels ≤ l) gives BadIrq) ∷ []
+abbrev pub sharers_checks : ℕ → List Check
+sharers_checks l = ((Table.all_levels ≤ l) gives BadIrq) ∷ []
 
 abbrev pub Sharers : Facts → ℕ → Count → Type 0
-Sharers F l o = Decided (sharersChecks l) o.code (o.count ≡ 0) (o.count ≡ sharersBelow F l F.sockets)
+Sharers F l o = Decided (sharers_checks l) o.code (o.count ≡ 0) (o.count ≡ sharers_below F l F.sockets)

@@ -10,10 +10,10 @@ use Rattle.facts.specs.WellFormed.{WellFormed}
 use Rattle.facts.specs.Packets.{Bytes}
 use Rattle.facts.specs.Checks.{Outcome, Kept, Passed}
 use Rattle.facts.specs.Sockets.{CardOutcome, CardTo}
-use Rattle.facts.specs.Irq.{Count, Sharers, RequestIrq, irqAsked, Fits, NoLevelFits, LevelTaken, irqAheadChecks}
-use Rattle.facts.specs.Io.{RequestIo, ioAsked, NotAllManaged, InTheWay, NoCandidate, baseAsked, ioAheadChecks}
+use Rattle.facts.specs.Irq.{Count, Sharers, RequestIrq, irq_asked, Fits, NoLevelFits, LevelTaken, irq_ahead_checks}
+use Rattle.facts.specs.Io.{RequestIo, io_asked, NotAllManaged, InTheWay, NoCandidate, base_asked_lem, io_ahead_checks}
 use Rattle.facts.specs.Way.{SocketInTheWay, WayAnswer, WhoIsInTheWay}
-use Rattle.facts.specs.Boot.{Booted, Boot, recordSize, recordOf, recordsIn, recordsOf, end_of, recordsAdded}
+use Rattle.facts.specs.Boot.{Booted, Boot, record_size, record_of, records_in, records_of, end_of, records_added}
 use Rattle.facts.specs.Services.{Call}
 
 -- "any two permitted outcomes coincide"
@@ -26,91 +26,91 @@ RefusalKeeps F p R = (o : Outcome) → R o → o.code ≢ Success → Kept F p o
 
 -- of every call, whatever its number: a service's, or none's
 pub record ServiceLaws : Type 0 where
-  pub one-outcome : (number : ℕ) (F : Facts) (h : ℕ) (p : List ℕ) → WellFormed F → Coincide (Call number F h p)
-  pub refusal-keeps : (number : ℕ) (F : Facts) (h : ℕ) (p : List ℕ) → RefusalKeeps F p (Call number F h p)
+  pub one_outcome : (number : ℕ) (F : Facts) (h : ℕ) (p : List ℕ) → WellFormed F → Coincide (Call number F h p)
+  pub refusal_keeps : (number : ℕ) (F : Facts) (h : ℕ) (p : List ℕ) → RefusalKeeps F p (Call number F h p)
   -- a packet's numbers are bytes: RequestIO alone needs to know it, whose count a grant keeps in one byte
-  pub stays-formed : (number : ℕ) (F : Facts) (h : ℕ) (p : List ℕ) (o : Outcome) → WellFormed F → Bytes p → Call number F h p o
+  pub stays_formed : (number : ℕ) (F : Facts) (h : ℕ) (p : List ℕ) (o : Outcome) → WellFormed F → Bytes p → Call number F h p o
       → WellFormed o.facts
 
 -- of the host's calls
 pub record HostLaws : Type 0 where
-  pub fresh-formed : (n : ℕ) → 1 ≤ n → n ≤ Table.mostSockets → WellFormed (fresh n)
-  pub one-card : (present : Bool) (F : Facts) (s : ℕ) → Coincide (CardTo present F s)
-  pub card-refusal : (present : Bool) (F : Facts) (s : ℕ) (o : CardOutcome) → CardTo present F s o → o.code ≢ Success → o.facts ≡ F
-  pub card-stays : (present : Bool) (F : Facts) (s : ℕ) (o : CardOutcome) → WellFormed F → CardTo present F s o → WellFormed o.facts
-  pub one-count : (F : Facts) (l : ℕ) → Coincide (Sharers F l)
+  pub fresh_formed : (n : ℕ) → 1 ≤ n → n ≤ Table.most_sockets → WellFormed (fresh n)
+  pub one_card_lem : (present : Bool) (F : Facts) (s : ℕ) → Coincide (CardTo present F s)
+  pub card_refusal : (present : Bool) (F : Facts) (s : ℕ) (o : CardOutcome) → CardTo present F s o → o.code ≢ Success → o.facts ≡ F
+  pub card_stays : (present : Bool) (F : Facts) (s : ℕ) (o : CardOutcome) → WellFormed F → CardTo present F s o → WellFormed o.facts
+  pub one_count : (F : Facts) (l : ℕ) → Coincide (Sharers F l)
   -- "a refusal's count is 0"; "never over 8"
-  pub count-refusal : (F : Facts) (l : ℕ) (o : Count) → Sharers F l o → o.code ≢ Success → o.count ≡ 0
-  pub count_most : (F : Facts) (l : ℕ) (o : Count) → WellFormed F → Sharers F l o → o.count ≤ Table.mostSockets
+  pub count_refusal : (F : Facts) (l : ℕ) (o : Count) → Sharers F l o → o.code ≢ Success → o.count ≡ 0
+  pub count_most : (F : Facts) (l : ℕ) (o : Count) → WellFormed F → Sharers F l o → o.count ≤ Table.most_sockets
   -- the boot list, whichever way it is lent: e is the code given where its records end
-  pub one-boot : (e : Code) (F : Facts) (rs : List Record) → Coincide (Boot e F rs 0)
+  pub one_boot : (e : Code) (F : Facts) (rs : List Record) → Coincide (Boot e F rs 0)
   -- "earlier ones stay": what is left are the records before the place answered, added in order, and nothing else
-  pub boot-leaves : (e : Code) (F : Facts) (rs : List Record) (o : Booted) → Boot e F rs 0 o → o.facts ≡ recordsAdded F (take o.place rs)
+  pub boot_leaves : (e : Code) (F : Facts) (rs : List Record) (o : Booted) → Boot e F rs 0 o → o.facts ≡ records_added F (take o.place rs)
   -- "Success answers the list's length in records"
-  pub boot-success : (e : Code) (F : Facts) (rs : List Record) (o : Booted) → Boot e F rs 0 o → o.code ≡ Success
+  pub boot_success : (e : Code) (F : Facts) (rs : List Record) (o : Booted) → Boot e F rs 0 o → o.code ≡ Success
       → (e ≡ Success) × (o.place ≡ length rs)
-  pub boot-within : (e : Code) (F : Facts) (rs : List Record) (o : Booted) → Boot e F rs 0 o → o.place ≤ length rs
-  pub boot-stays : (e : Code) (F : Facts) (rs : List Record) (o : Booted) → WellFormed F → Boot e F rs 0 o → WellFormed o.facts
+  pub boot_within : (e : Code) (F : Facts) (rs : List Record) (o : Booted) → Boot e F rs 0 o → o.place ≤ length rs
+  pub boot_stays : (e : Code) (F : Facts) (rs : List Record) (o : Booted) → WellFormed F → Boot e F rs 0 o → WellFormed o.facts
   -- no more than all levels and ranges can be added, so no place is past that
-  pub boot-most : (e : Code) (F : Facts) (rs : List Record) (o : Booted) → WellFormed F → Boot e F rs 0 o
-      → o.place ≤ Table.allLevels + Table.mostRanges
+  pub boot_most : (e : Code) (F : Facts) (rs : List Record) (o : Booted) → WellFormed F → Boot e F rs 0 o
+      → o.place ≤ Table.all_levels + Table.most_ranges
 
 -- of the bytes of a boot list: which records they are, and the code at their end
 pub record BytesLaws : Type 0 where
   -- "bytes too few for a record at the end are refused at its place with BAD_ARG_LENGTH"
-  pub few : (b : List ℕ) → 1 ≤ length b → length b < recordSize → (recordsOf b ≡ []) × (end_of b ≡ BadArgLength)
+  pub few : (b : List ℕ) → 1 ≤ length b → length b < record_size → (records_of b ≡ []) × (end_of b ≡ BadArgLength)
   -- where there are enough, the record at their head comes first, and what follows it is a list again
-  pub more : (b : List ℕ) → recordSize ≤ length b
-      → (recordsOf b ≡ recordOf b ∷ recordsOf (drop recordSize b)) × (end_of b ≡ end_of (drop recordSize b))
+  pub more : (b : List ℕ) → record_size ≤ length b
+      → (records_of b ≡ record_of b ∷ records_of (drop record_size b)) × (end_of b ≡ end_of (drop record_size b))
   -- as many records as the bytes have room for
-  pub counted : (b : List ℕ) → length (recordsOf b) ≡ length b / recordSize
+  pub counted : (b : List ℕ) → length (records_of b) ≡ length b / record_size
   -- bytes that are whole records are that list, and only those end with SUCCESS
-  pub same-list : (b : List ℕ) (n : ℕ) → length b ≡ n * recordSize → (recordsOf b ≡ recordsIn n b) × (end_of b ≡ Success)
-  pub whole : (b : List ℕ) → end_of b ≡ Success → length b ≡ length (recordsOf b) * recordSize
+  pub same_list : (b : List ℕ) (n : ℕ) → length b ≡ n * record_size → (records_of b ≡ records_in n b) × (end_of b ≡ Success)
+  pub whole : (b : List ℕ) → end_of b ≡ Success → length b ≡ length (records_of b) * record_size
   -- the records before a place are the first ones of the bytes
-  pub before : (b : List ℕ) (n : ℕ) → n * recordSize ≤ length b → take n (recordsOf b) ≡ recordsIn n b
+  pub before : (b : List ℕ) (n : ℕ) → n * record_size ≤ length b → take n (records_of b) ≡ records_in n b
 
 -- demand 2: "Where the earlier checks pass, an I/O or IRQ request is refused exactly when no resource fits."
 pub record ExactlyWhen : Type 0 where
   -- RequestIRQ answers BAD_IRQ exactly if no level fits, and is refused for no other reason
-  pub irq : (F : Facts) (h : ℕ) (p : List ℕ) (o : Outcome) → Passed (irqAheadChecks F h p []) → RequestIrq F h p o
-      → (o.code ≡ BadIrq) ↔ NoLevelFits F (irqAsked p)
-  pub irq-refused : (F : Facts) (h : ℕ) (p : List ℕ) (o : Outcome) → Passed (irqAheadChecks F h p []) → RequestIrq F h p o
-      → (o.code ≢ Success) ↔ NoLevelFits F (irqAsked p)
+  pub irq : (F : Facts) (h : ℕ) (p : List ℕ) (o : Outcome) → Passed (irq_ahead_checks F h p []) → RequestIrq F h p o
+      → (o.code ≡ BadIrq) ↔ NoLevelFits F (irq_asked p)
+  pub irq_refused : (F : Facts) (h : ℕ) (p : List ℕ) (o : Outcome) → Passed (irq_ahead_checks F h p []) → RequestIrq F h p o
+      → (o.code ≢ Success) ↔ NoLevelFits F (irq_asked p)
   -- and the level that it takes is one that fits
-  pub irq-taken : (F : Facts) (p : List ℕ) (l : ℕ) → WellFormed F → LevelTaken F (irqAsked p) l → Fits F (irqAsked p) l
+  pub irq_taken : (F : Facts) (p : List ℕ) (l : ℕ) → WellFormed F → LevelTaken F (irq_asked p) l → Fits F (irq_asked p) l
   -- RequestIO with a named base answers BAD_BASE exactly if it isn't all managed, and is refused exactly for that or if it meets what it may not
-  pub io-base : (F : Facts) (h : ℕ) (p : List ℕ) (o : Outcome) → Passed (ioAheadChecks F h p []) → baseAsked p ≢ 0 → RequestIo F h p o
-      → (o.code ≡ BadBase) ↔ NotAllManaged F (ioAsked p)
-  pub io-named : (F : Facts) (h : ℕ) (p : List ℕ) (o : Outcome) → Passed (ioAheadChecks F h p []) → baseAsked p ≢ 0 → RequestIo F h p o
-      → (o.code ≢ Success) ↔ (NotAllManaged F (ioAsked p) ⊎ InTheWay F (ioAsked p))
+  pub io_base : (F : Facts) (h : ℕ) (p : List ℕ) (o : Outcome) → Passed (io_ahead_checks F h p []) → base_asked_lem p ≢ 0 → RequestIo F h p o
+      → (o.code ≡ BadBase) ↔ NotAllManaged F (io_asked p)
+  pub io_named : (F : Facts) (h : ℕ) (p : List ℕ) (o : Outcome) → Passed (io_ahead_checks F h p []) → base_asked_lem p ≢ 0 → RequestIo F h p o
+      → (o.code ≢ Success) ↔ (NotAllManaged F (io_asked p) ⊎ InTheWay F (io_asked p))
   -- what is left of a named base is IN_USE: all is managed, and a grant is in the way
-  pub io-in-use : (F : Facts) (h : ℕ) (p : List ℕ) (o : Outcome) → Passed (ioAheadChecks F h p []) → baseAsked p ≢ 0 → RequestIo F h p o
-      → (o.code ≡ InUse) ↔ ((NotAllManaged F (ioAsked p) → ⊥) × InTheWay F (ioAsked p))
+  pub io_in_use : (F : Facts) (h : ℕ) (p : List ℕ) (o : Outcome) → Passed (io_ahead_checks F h p []) → base_asked_lem p ≢ 0 → RequestIo F h p o
+      → (o.code ≡ InUse) ↔ ((NotAllManaged F (io_asked p) → ⊥) × InTheWay F (io_asked p))
   -- RequestIO with base 0 answers IN_USE exactly if there is no candidate, and is refused for no other reason
-  pub io-chosen : (F : Facts) (h : ℕ) (p : List ℕ) (o : Outcome) → Passed (ioAheadChecks F h p []) → baseAsked p ≡ 0 → RequestIo F h p o
-      → (o.code ≡ InUse) ↔ NoCandidate F (ioAsked p)
-  pub io-chosen-refused : (F : Facts) (h : ℕ) (p : List ℕ) (o : Outcome) → Passed (ioAheadChecks F h p []) → baseAsked p ≡ 0 → RequestIo F h p o
-      → (o.code ≢ Success) ↔ NoCandidate F (ioAsked p)
+  pub io_chosen : (F : Facts) (h : ℕ) (p : List ℕ) (o : Outcome) → Passed (io_ahead_checks F h p []) → base_asked_lem p ≡ 0 → RequestIo F h p o
+      → (o.code ≡ InUse) ↔ NoCandidate F (io_asked p)
+  pub io_chosen_refused : (F : Facts) (h : ℕ) (p : List ℕ) (o : Outcome) → Passed (io_ahead_checks F h p []) → base_asked_lem p ≡ 0 → RequestIo F h p o
+      → (o.code ≢ Success) ↔ NoCandidate F (io_asked p)
 
 -- K5: who is in the way
 pub record WayLaws : Type 0 where
   pub one_way : (F : Facts) (h : ℕ) (p : List ℕ) → Coincide (WhoIsInTheWay F h p)
   -- "For base 0, or refused, it answers none"
-  pub way-chosen : (F : Facts) (h : ℕ) (p : List ℕ) (w : WayAnswer) → WhoIsInTheWay F h p w → baseAsked p ≡ 0 → w.socket ≡ none
-  pub way-refused : (F : Facts) (h : ℕ) (p : List ℕ) (w : WayAnswer) → WhoIsInTheWay F h p w → w.code ≢ Success → w.socket ≡ none
+  pub way_chosen : (F : Facts) (h : ℕ) (p : List ℕ) (w : WayAnswer) → WhoIsInTheWay F h p w → base_asked_lem p ≡ 0 → w.socket ≡ none
+  pub way_refused : (F : Facts) (h : ℕ) (p : List ℕ) (w : WayAnswer) → WhoIsInTheWay F h p w → w.code ≢ Success → w.socket ≡ none
   -- "its refusals are RequestIO's but for IN_USE": where RequestIO with these inputs doesn't answer IN_USE, both answer one code
-  pub way-code : (F : Facts) (h : ℕ) (p : List ℕ) (o : Outcome) (w : WayAnswer) → RequestIo F h p o → WhoIsInTheWay F h p w → o.code ≢ InUse
+  pub way_code : (F : Facts) (h : ℕ) (p : List ℕ) (o : Outcome) (w : WayAnswer) → RequestIo F h p o → WhoIsInTheWay F h p w → o.code ≢ InUse
       → w.code ≡ o.code
   -- where it isn't refused and the base is named, RequestIO answers IN_USE exactly if it answers a socket, and SUCCESS exactly if it answers none
-  pub way-in-use : (F : Facts) (h : ℕ) (p : List ℕ) (o : Outcome) (w : WayAnswer) → RequestIo F h p o → WhoIsInTheWay F h p w → w.code ≡ Success
-      → baseAsked p ≢ 0 → (o.code ≡ InUse) ↔ (w.socket ≢ none)
-  pub way-success : (F : Facts) (h : ℕ) (p : List ℕ) (o : Outcome) (w : WayAnswer) → RequestIo F h p o → WhoIsInTheWay F h p w → w.code ≡ Success
-      → baseAsked p ≢ 0 → (o.code ≡ Success) ↔ (w.socket ≡ none)
+  pub way_in_use : (F : Facts) (h : ℕ) (p : List ℕ) (o : Outcome) (w : WayAnswer) → RequestIo F h p o → WhoIsInTheWay F h p w → w.code ≡ Success
+      → base_asked_lem p ≢ 0 → (o.code ≡ InUse) ↔ (w.socket ≢ none)
+  pub way_success : (F : Facts) (h : ℕ) (p : List ℕ) (o : Outcome) (w : WayAnswer) → RequestIo F h p o → WhoIsInTheWay F h p w → w.code ≡ Success
+      → base_asked_lem p ≢ 0 → (o.code ≡ Success) ↔ (w.socket ≡ none)
   -- the socket answered is in the way, and no lower one is
-  pub way-stands : (F : Facts) (h : ℕ) (p : List ℕ) (w : WayAnswer) (s : ℕ) → WhoIsInTheWay F h p w → w.socket ≡ some s → SocketInTheWay F p s
-  pub way-lowest : (F : Facts) (h : ℕ) (p : List ℕ) (w : WayAnswer) (s t : ℕ) → WhoIsInTheWay F h p w → w.socket ≡ some s → t < s
+  pub way_stands : (F : Facts) (h : ℕ) (p : List ℕ) (w : WayAnswer) (s : ℕ) → WhoIsInTheWay F h p w → w.socket ≡ some s → SocketInTheWay F p s
+  pub way_lowest : (F : Facts) (h : ℕ) (p : List ℕ) (w : WayAnswer) (s t : ℕ) → WhoIsInTheWay F h p w → w.socket ≡ some s → t < s
       → SocketInTheWay F p t → ⊥
   -- it is one of the table's
-  pub way-below : (F : Facts) (h : ℕ) (p : List ℕ) (w : WayAnswer) (s : ℕ) → WellFormed F → WhoIsInTheWay F h p w → w.socket ≡ some s
+  pub way_below : (F : Facts) (h : ℕ) (p : List ℕ) (w : WayAnswer) (s : ℕ) → WellFormed F → WhoIsInTheWay F h p w → w.socket ≡ some s
       → s < F.sockets

@@ -11,21 +11,21 @@ pub record Together (a b : Manner) : Type 0 where
   pub shares : a ≢ Exclusive
 
 -- the types of a request's bits 0 to 1 (5.53)
-abbrev pub exclusiveType : ℕ
-exclusiveType = 0
+abbrev pub exclusive_type : ℕ
+exclusive_type = 0
 
-abbrev pub timeMultiplexedType : ℕ
-timeMultiplexedType = 1
+abbrev pub time_multiplexed_type : ℕ
+time_multiplexed_type = 1
 
-abbrev pub dynamicType : ℕ
-dynamicType = 2
+abbrev pub dynamic_type : ℕ
+dynamic_type = 2
 
 -- a manner's type
 abbrev pub type_of : Manner → ℕ
-type_of Exclusive = exclusiveType
-type_of TimeMultiplexed = timeMultiplexedType
-type_of DynamicLevel = dynamicType
-type_of DynamicPulse = dynamicType
+type_of Exclusive = exclusive_type
+type_of TimeMultiplexed = time_multiplexed_type
+type_of DynamicLevel = dynamic_type
+type_of DynamicPulse = dynamic_type
 
 -- the grant g at a seat is a live grant of the level l
 pub record Holds (F : Facts) (l : ℕ) (s : Seat) (g : IrqGrant) : Type 0 where

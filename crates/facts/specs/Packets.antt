@@ -11,11 +11,11 @@ abbrev pub long : List ℕ → ℕ → ℕ
 long p at = word p at + 65536 * word p (at + 2)
 
 -- the packet with a number of two, or of four bytes written at a place
-abbrev pub withWord : List ℕ → ℕ → ℕ → List ℕ
-withWord p at n = set (set p at (n % 256)) (at + 1) (n / 256 % 256)
+abbrev pub with_word : List ℕ → ℕ → ℕ → List ℕ
+with_word p at n = set (set p at (n % 256)) (at + 1) (n / 256 % 256)
 
-abbrev pub withLong : List ℕ → ℕ → ℕ → List ℕ
-withLong p at n = withWord (withWord p at (n % 65536)) (at + 2) (n / 65536 % 65536)
+abbrev pub with_long : List ℕ → ℕ → ℕ → List ℕ
+with_long p at n = with_word (with_word p at (n % 65536)) (at + 2) (n / 65536 % 65536)
 
 -- bit k of n: 1 if it is set, else 0
 abbrev pub bit : ℕ → ℕ → ℕ

@@ -14,7 +14,7 @@ pub record Meet (a b : Ports) : Type 0 where
   pub one : ℕ
   pub other : ℕ
   pub one_in : Within one a.base a.count
-  pub other-in : Within other b.base b.count
+  pub other_in : Within other b.base b.count
   pub equal : one % 2 ^ min a.lines b.lines ≡ other % 2 ^ min a.lines b.lines
 
 -- the ports meet some that are held
@@ -41,7 +41,7 @@ AllManaged F base count = (p : ℕ) → Within p base count → Managed F p
 -- K2 (document 02): "each port that equals a granted one modulo two to the lines", up to FFFF: a card that is granted the ports answers at p. It
 -- answers at its own ports and, if it decodes fewer than 16 lines, at their aliases: the ports that its lines do not tell from them.
 pub record Answers (a : Ports) (p : ℕ) : Type 0 where
-  pub below : p < Table.allPorts
+  pub below : p < Table.all_ports
   pub own : ℕ
   pub own_in : Within own a.base a.count
   pub equal : p % 2 ^ a.lines ≡ own % 2 ^ a.lines

@@ -10,38 +10,38 @@ use Rattle.facts.specs.Io.{RequestIo, ReleaseIo}
 
 -- "Built:"
 pub data Service : Type 0 where
-  registerClient deregisterClient adjustResourceInfo requestIrq releaseIrq requestIo releaseIo requestSocketMask releaseSocketMask : Service
+  register_client deregisterClient adjustResourceInfo requestIrq releaseIrq requestIo releaseIo requestSocketMask releaseSocketMask : Service
 
-abbrev pub serviceNumber : Service → ℕ
-serviceNumber registerClient = 0x10
-serviceNumber deregisterClient = 0x02
-serviceNumber adjustResourceInfo = 0x35
-serviceNumber requestIrq = 0x20
-serviceNumber releaseIrq = 0x1C
-serviceNumber requestIo = 0x1F
-serviceNumber releaseIo = 0x1B
-serviceNumber requestSocketMask = 0x22
-serviceNumber releaseSocketMask = 0x2F
+abbrev pub service_number : Service → ℕ
+service_number register_client = 0x10
+service_number deregisterClient = 0x02
+service_number adjustResourceInfo = 0x35
+service_number requestIrq = 0x20
+service_number releaseIrq = 0x1C
+service_number requestIo = 0x1F
+service_number releaseIo = 0x1B
+service_number requestSocketMask = 0x22
+service_number releaseSocketMask = 0x2F
 
-abbrev pub ruleOf : Service → Rule
-ruleOf registerClient = Register
-ruleOf deregisterClient = Deregister
-ruleOf adjustResourceInfo = AdjustResourceInfo
-ruleOf requestIrq = RequestIrq
-ruleOf releaseIrq = ReleaseIrq
-ruleOf requestIo = RequestIo
-ruleOf releaseIo = ReleaseIo
-ruleOf requestSocketMask = RequestSocketMask
-ruleOf releaseSocketMask = ReleaseSocketMask
+abbrev pub rule_of : Service → Rule
+rule_of register_client = Register
+rule_of deregisterClient = Deregister
+rule_of adjustResourceInfo = AdjustResourceInfo
+rule_of requestIrq = RequestIrq
+rule_of releaseIrq = ReleaseIrq
+rule_of requestIo = RequestIo
+rule_of releaseIo = ReleaseIo
+rule_of requestSocketMask = RequestSocketMask
+rule_of releaseSocketMask = ReleaseSocketMask
 
 -- the number is that of a service
 pub record Serves (number : ℕ) : Type 0 where
   pub service : Service
-  pub number_is : serviceNumber service ≡ number
+  pub number_is : service_number service ≡ number
 
 -- "Checks run in this order and the first that applies is given: table, service, length ..": a number that is no service's is
 -- UNSUPPORTED_SERVICE
 abbrev pub Call : ℕ → Rule
 Call number F h p o =
-    ((s : Serves number) × ruleOf s.service F h p o)
+    ((s : Serves number) × rule_of s.service F h p o)
     ⊎ ((Serves number → ⊥) × (o.code ≡ UnsupportedService) × Kept F p o)

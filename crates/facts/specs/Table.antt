@@ -4,49 +4,49 @@ use Rattle.std.proofs.Math.Option.{Option, none, some}
 use Rattle.facts.specs.declared.Manner.{Manner}
 
 -- the limits
-abbrev pub mostSockets : ℕ
-mostSockets = 8
+abbrev pub most_sockets : ℕ
+most_sockets = 8
 
-abbrev pub mostSeats : ℕ
-mostSeats = 8
+abbrev pub most_seats : ℕ
+most_seats = 8
 
-abbrev pub mostClients : ℕ
-mostClients = 16
+abbrev pub most_clients : ℕ
+most_clients = 16
 
-abbrev pub mostIssued : ℕ
-mostIssued = 65535
+abbrev pub most_issued : ℕ
+most_issued = 65535
 
-abbrev pub allLevels : ℕ
-allLevels = 16
+abbrev pub all_levels : ℕ
+all_levels = 16
 
-abbrev pub mostRanges : ℕ
-mostRanges = 32
+abbrev pub most_ranges : ℕ
+most_ranges = 32
 
 -- one past FFFF
-abbrev pub allPorts : ℕ
-allPorts = 65536
+abbrev pub all_ports : ℕ
+all_ports = 65536
 
-abbrev pub mostLines : ℕ
-mostLines = 16
+abbrev pub most_lines : ℕ
+most_lines = 16
 
 -- event masks have bits 0 to 11
-abbrev pub allEvents : ℕ
-allEvents = 2 ^ 12
+abbrev pub all_events : ℕ
+all_events = 2 ^ 12
 
 -- the port count of a request is one byte
-abbrev pub mostAsked : ℕ
-mostAsked = 255
+abbrev pub most_asked : ℕ
+most_asked = 255
 
 -- A seat is where a grant or a mask stands. Each socket has one, which has its number; with functions, each function of a socket will have one.
 abbrev pub Seat : Type 0
 Seat = ℕ
 
 -- a socket's seat, and a seat's socket
-abbrev pub seatOf : ℕ → Seat
-seatOf s = s
+abbrev pub seat_of : ℕ → Seat
+seat_of s = s
 
-abbrev pub socketAt : Seat → ℕ
-socketAt s = s
+abbrev pub socket_at : Seat → ℕ
+socket_at s = s
 
 -- live clients (handle, attributes, event mask); at most one mask for each client and seat
 pub record Client : Type 0 where

@@ -1,24 +1,24 @@
 -- The cases by number hold. Assumes nothing.
-use Rattle.facts.proofs.Words.{refl, ap, inl, inr, List, [], ◌∷◌, Option·none-ne-some, ℕ, ◌+◌, ◌≤◌, ◌<◌, arith, length}
-use Rattle.facts.specs.{Short, BadBase, Exclusive, Facts, Range, IrqGrant, fresh, Apart, type_of, Outcome, Register, Deregister, nextHandle}
-use Rattle.facts.specs.{registered, AdjustResourceInfo, AdjustIo, Follows, RangeHeld, RangeNext, unheld, first, mostShown, showingRange}
+use Rattle.facts.proofs.Words.{refl, ap, inl, inr, List, [], ◌∷◌, none-ne-some, ℕ, ◌+◌, ◌≤◌, ◌<◌, arith, length}
+use Rattle.facts.specs.{Short, BadBase, Exclusive, Facts, Range, IrqGrant, fresh, Apart, type_of, Outcome, Register, Deregister, next_handle}
+use Rattle.facts.specs.{registered, AdjustResourceInfo, AdjustIo, Follows, RangeHeld, RangeNext, unheld, first, most_shown, showing_range}
 use Rattle.facts_cases.specs.Cases.{Cases}
-use Rattle.facts_cases.specs.{Exactly, done, refused, range, managing, ready, twoLevels, threeHeld, bothHeld, oneSharer, twoSharers, halfHeld}
-use Rattle.facts_cases.specs.{unheldRange, oneClient, noClient, clientPacket, addPacket, firstPacket}
-use Rattle.facts.proofs.{register-unique, deregister-unique, sharers-unique, adjust-unique}
-use Rattle.facts_cases.proofs.Permitted.{exactly, as-left, as-kept, ◌then◌, ◌nor◌, ◌past◌, listed-alone}
-use Rattle.facts_cases.proofs.Ports.{meet-equal, gives-308, half-meets-none, half-leaves-308}
-use Rattle.facts_cases.proofs.Levels.{bits-B0, bits-D0, bits-A3, gives-3, gives-5, gives_none, joins_at, none-to-join, held-fits-not}
-use Rattle.facts_cases.proofs.Levels.{level-fits, only-grant}
+use Rattle.facts_cases.specs.{Exactly, done, refused, range, managing, ready, two_levels, three_held, both_held, one_sharer, two_sharers, half_held}
+use Rattle.facts_cases.specs.{unheld_range, one_client, no_client, client_packet, add_packet, first_packet}
+use Rattle.facts.proofs.{register_unique, deregister_unique, sharers_unique, adjust_unique}
+use Rattle.facts_cases.proofs.Permitted.{exactly, as_left, as_kept, ◌then◌, ◌nor◌, ◌past◌, listed_alone}
+use Rattle.facts_cases.proofs.Ports.{meet_equal, gives_308, half_meets_none, half_leaves_308}
+use Rattle.facts_cases.proofs.Levels.{bits-B0, bits-D0, bits-A3, gives_3, gives_5, gives_none, joins_at, none_to_join, held_fits_not}
+use Rattle.facts_cases.proofs.Levels.{level_fits, only_grant}
 
 -- AdjustResourceInfo with a short packet for I/O is what AdjustIo says
 module _ (F : Facts) (apart : Apart 0 F.ranges) (a b c d e f : ℕ) (action : a ≤ 3) where
-  abbrev shortPacket : List ℕ
-  shortPacket = a ∷ 0x01 ∷ b ∷ c ∷ d ∷ e ∷ f ∷ []
+  abbrev short_packet : List ℕ
+  short_packet = a ∷ 0x01 ∷ b ∷ c ∷ d ∷ e ∷ f ∷ []
 
-  pub adjusts : {o : Outcome} → AdjustIo Short F 1 shortPacket o → Exactly (AdjustResourceInfo F 1 shortPacket) o
+  pub adjusts : {o : Outcome} → AdjustIo Short F 1 short_packet o → Exactly (AdjustResourceInfo F 1 short_packet) o
   adjusts r =
-      exactly (adjust-unique F 1 shortPacket apart)
+      exactly (adjust_unique F 1 short_packet apart)
       (inr (
         (omega arith) then (omega arith) then (omega arith nor omega arith nor omega arith) then (omega arith) then
             (omega arith nor omega arith) then tt,
@@ -27,7 +27,7 @@ module _ (F : Facts) (apart : Apart 0 F.ranges) (a b c d e f : ℕ) (action : a 
 
 -- N5's packets: up to the base FFF8 the 8 ports are added, past it they are not
 adds : (low : ℕ) → low ≤ 0xF8
-    → Exactly (AdjustResourceInfo (fresh 2) 1 (addPacket low)) (done 1 (addPacket low) (managing (range (low + 0xFF00) 8) (fresh 2)))
+    → Exactly (AdjustResourceInfo (fresh 2) 1 (add_packet low)) (done 1 (add_packet low) (managing (range (low + 0xFF00) 8) (fresh 2)))
 adds low upto =
     adjusts (fresh 2) tt 0x01 low 0xFF 8 0x00 16 (omega arith)
     (inl (
@@ -35,42 +35,42 @@ adds low upto =
       inr (
         ((λ e. e (inl refl)) nor omega arith) then (omega arith nor omega arith) then (omega arith) then (λ e. e.2.listed) then
             (omega arith) then tt,
-        (refl, as-left _),
+        (refl, as_left _),
       ),
     ))
 
-adds-not : (low : ℕ) → 0xF8 < low → Exactly (AdjustResourceInfo (fresh 2) 1 (addPacket low)) (refused BadBase (addPacket low) (fresh 2))
-adds-not low over =
+adds_not : (low : ℕ) → 0xF8 < low → Exactly (AdjustResourceInfo (fresh 2) 1 (add_packet low)) (refused BadBase (add_packet low) (fresh 2))
+adds_not low over =
     adjusts (fresh 2) tt 0x01 low 0xFF 8 0x00 16 (omega arith)
     (inl (
       refl,
       inl (
         ((λ e. e (inl refl)) nor omega arith) past (omega arith nor omega arith) past inl (omega arith, refl),
-        as-kept BadBase (addPacket low) (fresh 2),
+        as_kept BadBase (add_packet low) (fresh 2),
       ),
     ))
 
 -- First, where one range is managed and not held
 only_next : (r : Range) (F : Facts) (action given : ℕ) → Follows action given r.base → RangeNext (managing r F) action given r
 only_next r F action given f =
-    (inl refl, record { fits = (r, inl refl, refl, f); least = λ b g. omega (arith, g.2, ap (λ (x : Range). x.base) (listed-alone g.1)) })
+    (inl refl, record { fits = (r, inl refl, refl, f); least = λ b g. omega (arith, g.2, ap (λ (x : Range). x.base) (listed_alone g.1)) })
 
-first-shows : (r : Range) (F : Facts) → r.count ≤ mostShown → (RangeHeld (managing r F) r → ⊥)
-    → AdjustIo Short (managing r F) 1 firstPacket (done 0 (showingRange Short firstPacket r 0) (managing r F))
-first-shows r F fits free =
+first_shows : (r : Range) (F : Facts) → r.count ≤ most_shown → (RangeHeld (managing r F) r → ⊥)
+    → AdjustIo Short (managing r F) 1 first_packet (done 0 (showing_range Short first_packet r 0) (managing r F))
+first_shows r F fits free =
     inr (inr (
       inl refl,
       inr (
-        (λ e. e r (inl refl) (inl refl)) then (λ e. omega (arith, e.2, ap (λ (x : Range). x.count) (listed-alone e.1.0))) then tt,
+        (λ e. e r (inl refl) (inl refl)) then (λ e. omega (arith, e.2, ap (λ (x : Range). x.count) (listed_alone e.1.0))) then tt,
         (
           refl,
           record {
             range = r;
             attributes = 0;
             handle = 0;
-            next-is = only_next r F first 0 (inl refl);
+            next_is = only_next r F first 0 (inl refl);
             shown = unheld free refl refl;
-            leaves = as-left _;
+            leaves = as_left _;
           },
         ),
       ),
@@ -78,67 +78,67 @@ first-shows r F fits free =
 
 -- a table with room takes N10's client, and without grants and masks it lets it go
 pub registers : (F : Facts) → (length F.clients < 16) × (F.issued < 65535)
-    → Exactly (Register F 0 clientPacket) (done (nextHandle F) clientPacket (registered F 4 0))
+    → Exactly (Register F 0 client_packet) (done (next_handle F) client_packet (registered F 4 0))
 registers F room =
-    exactly (register-unique F 0 clientPacket)
+    exactly (register_unique F 0 client_packet)
     (inr (
       (omega arith)
           then (λ e. e (record { bits = omega arith; type = inr (inr refl) }))
           then (λ e. e (omega arith))
           then ((λ e. omega arith) nor (λ e. omega arith))
           then tt,
-      (refl, as-left _),
+      (refl, as_left _),
     ))
 
-deregisters : Exactly (Deregister oneClient 1 []) (done 1 [] noClient)
+deregisters : Exactly (Deregister one_client 1 []) (done 1 [] no_client)
 deregisters =
-    exactly (deregister-unique oneClient 1 [])
+    exactly (deregister_unique one_client 1 [])
     (inr (
       (omega arith)
           then (λ e. e (record { client = _; listed = inl refl; handle = refl }))
-          then ((λ h. Option·none-ne-some _ h.held) nor (λ h. Option·none-ne-some _ h.live)
-          nor (λ h. Option·none-ne-some _ (rw (listed-alone h.2.listed) at h.2.mask)))
+          then ((λ h. none-ne-some _ h.held) nor (λ h. none-ne-some _ h.live)
+          nor (λ h. none-ne-some _ (rw (listed_alone h.2.listed) at h.2.mask)))
           then tt,
-      (refl, as-left _),
+      (refl, as_left _),
     ))
 
 pub cases : Cases
 cases =
     record {
-      n1 = record { one = 0x2F8; other = 0x6F8; one_in = omega arith; other-in = omega arith; equal = refl };
-      n2 = λ m. omega (arith, meet-equal (omega arith) (omega arith) m);
-      n3 = λ m. omega (arith, meet-equal (omega arith) (omega arith) m);
-      n4 = record { one = 0x100; other = 0x200; one_in = omega arith; other-in = omega arith; equal = refl };
-      n5 = (adds 0xF8 (omega arith), adds-not 0xF9 (omega arith));
+      n1 = record { one = 0x2F8; other = 0x6F8; one_in = omega arith; other_in = omega arith; equal = refl };
+      n2 = λ m. omega (arith, meet_equal (omega arith) (omega arith) m);
+      n3 = λ m. omega (arith, meet_equal (omega arith) (omega arith) m);
+      n4 = record { one = 0x100; other = 0x200; one_in = omega arith; other_in = omega arith; equal = refl };
+      n5 = (adds 0xF8 (omega arith), adds_not 0xF9 (omega arith));
       n6 = (
-        gives-3 twoLevels.irq 0 0x00 bits-B0 (omega arith) refl refl (none-to-join (λ s. refl)) (level-fits refl refl),
-        gives-5 threeHeld.irq 1 0x00 bits-B0 (omega arith) refl refl (λ l j. j.joining.shares refl)
-            (held-fits-not 0 refl refl (λ t. t.shares refl))
+        gives_3 two_levels.irq 0 0x00 bits-B0 (omega arith) refl refl (none_to_join (λ s. refl)) (level_fits refl refl),
+        gives_5 three_held.irq 1 0x00 bits-B0 (omega arith) refl refl (λ l j. j.joining.shares refl)
+            (held_fits_not 0 refl refl (λ t. t.shares refl))
             (record {
               named = refl;
               managed = refl;
-              free = inl (λ s g h. omega (arith, h.at, ap (λ (x : IrqGrant). x.level) (only-grant 3 Exclusive 5 s g h)));
+              free = inl (λ s g h. omega (arith, h.at, ap (λ (x : IrqGrant). x.level) (only_grant 3 Exclusive 5 s g h)));
             }),
-        gives_none bothHeld.irq 2 0x00 bits-B0 (omega arith) refl refl (held-fits-not 0 refl refl (λ t. t.shares refl))
-            (held-fits-not 1 refl refl (λ t. t.shares refl)),
+        gives_none both_held.irq 2 0x00 bits-B0 (omega arith) refl refl (held_fits_not 0 refl refl (λ t. t.shares refl))
+            (held_fits_not 1 refl refl (λ t. t.shares refl)),
       );
       n7 = (
-        gives-3 twoLevels.irq 0 0x02 bits-A3 (omega arith) refl refl (none-to-join (λ s. refl)) (level-fits refl refl),
-        gives_none oneSharer.irq 1 0x01 bits-A3 (omega arith) refl refl (held-fits-not 0 refl refl (λ t. omega (arith, ap type_of t.equal)))
+        gives_3 two_levels.irq 0 0x02 bits-A3 (omega arith) refl refl (none_to_join (λ s. refl)) (level_fits refl refl),
+        gives_none one_sharer.irq 1 0x01 bits-A3 (omega arith) refl refl (held_fits_not 0 refl refl (λ t. omega (arith, ap type_of t.equal)))
             (λ f. omega (arith, f.named)),
         joins_at 3 bits-A3 refl refl refl,
-        exactly (sharers-unique twoSharers 3) (inr (omega arith, (refl, refl))),
+        exactly (sharers_unique two_sharers 3) (inr (omega arith, (refl, refl))),
       );
-      n8 = gives-308 halfHeld.io (range 0x300 16) 8 (omega arith) refl (omega arith) half-meets-none half-leaves-308;
+      n8 = gives_308 half_held.io (range 0x300 16) 8 (omega arith) refl (omega arith) half_meets_none half_leaves_308;
       n9 =
-          gives-308 ready.io (range 0x302 11) 5 (omega arith) refl (omega arith) (λ s g e. absurd (Option·none-ne-some g e))
-          (λ b t e inside meets-none. omega arith);
-      n10 = (registers (fresh 2) (omega arith), deregisters, registers noClient (omega arith));
+          gives_308 ready.io (range 0x302 11) 5 (omega arith) refl (omega arith) (λ s g e. absurd (none-ne-some g e))
+          (λ b t e inside meets_none. omega arith);
+      n10 = (registers (fresh 2) (omega arith), deregisters, registers no_client (omega arith));
       n11 = (
-        gives-3 twoLevels.irq 0 0x02 bits-B0 (omega arith) refl refl (none-to-join (λ s. refl)) (level-fits refl refl),
-        gives-3 twoLevels.irq 0 0x02 bits-D0 (omega arith) refl refl (none-to-join (λ s. refl)) (level-fits refl refl),
+        gives_3 two_levels.irq 0 0x02 bits-B0 (omega arith) refl refl (none_to_join (λ s. refl)) (level_fits refl refl),
+        gives_3 two_levels.irq 0 0x02 bits-D0 (omega arith) refl refl (none_to_join (λ s. refl)) (level_fits refl refl),
       );
       n12 =
-          adjusts unheldRange (omega arith) 0x02 0x00 0x00 0x00 0x00 0x00 (omega arith)
-          (first-shows (range 0x300 16) (fresh 2) (omega arith) (λ h. Option·none-ne-some _ h.holder.held));
+          adjusts unheld_range (omega arith) 0x02 0x00 0x00 0x00 0x00 0x00 (omega arith)
+          (first_shows (range 0x300 16) (fresh 2) (omega arith) (λ h. none-ne-some _ h.holder.held));
     }

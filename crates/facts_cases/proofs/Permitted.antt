@@ -1,5 +1,5 @@
 -- What is permitted: words for checks one after the other, and a choice alone. Assumes nothing.
-use Rattle.facts.proofs.Words.{◌≡◌, refl, ◌⊎◌, inr, ⊎_elim, Iff·rfl, List, [], ◌∷◌, ℕ, le_refl}
+use Rattle.facts.proofs.Words.{◌≡◌, refl, ◌⊎◌, inr, ⊎_elim, iff_rfl, List, [], ◌∷◌, ℕ, le_refl}
 use Rattle.facts.specs.{Code, Facts, ◌∈◌, Outcome, Kept, Leaves, Chosen, Coincide}
 use Rattle.facts_cases.specs.{Exactly, refused}
 
@@ -11,11 +11,11 @@ pub exactly : {O : Type 0} {R : O → Type 0} {o : O} → Coincide R → R o →
 exactly {o = o} u r = record { permitted = r; only = λ o' r'. u o' o r' r }
 
 -- what is done, and what is kept, is as said
-pub as-left : (o : Outcome) → Leaves o.handle o.packet o.facts o
-as-left o = record { handle = refl; packet = refl; facts = refl }
+pub as_left : (o : Outcome) → Leaves o.handle o.packet o.facts o
+as_left o = record { handle = refl; packet = refl; facts = refl }
 
-pub as-kept : (k : Code) (p : List ℕ) (F : Facts) → Kept F p (refused k p F)
-as-kept k p F = record { handle = refl; packet = refl; facts = refl }
+pub as_kept : (k : Code) (p : List ℕ) (F : Facts) → Kept F p (refused k p F)
+as_kept k p F = record { handle = refl; packet = refl; facts = refl }
 
 -- checks pass one after the other; one with two reasons, if neither holds
 pub ◌then◌ : {A B : Type 0} → A → B → A × B
@@ -29,9 +29,9 @@ pub ◌past◌ : {A B C : Type 0} → (A → ⊥) → B → C ⊎ ((A → ⊥) �
 f past g = inr (f, g)
 
 -- what is in a list of one is that one
-pub listed-alone : {A : Type 0} {x y : A} → x ∈ (y ∷ []) → x ≡ y
-listed-alone = ⊎_elim (λ e. e) absurd
+pub listed_alone : {A : Type 0} {x y : A} → x ∈ (y ∷ []) → x ≡ y
+listed_alone = ⊎_elim (λ e. e) absurd
 
 -- one that fits alone is chosen
-pub alone-chosen : {Fit Early : ℕ → Type 0} {x : ℕ} → Fit x → ((y : ℕ) → Fit y → y ≡ x) → Chosen Fit Early x
-alone-chosen {x = x} fits only = record { fits = fits; first = λ y f. rw (only y f) (inr (Iff·rfl, le_refl x)) }
+pub alone_chosen : {Fit Early : ℕ → Type 0} {x : ℕ} → Fit x → ((y : ℕ) → Fit y → y ≡ x) → Chosen Fit Early x
+alone_chosen {x = x} fits only = record { fits = fits; first = λ y f. rw (only y f) (inr (iff_rfl, le_refl x)) }

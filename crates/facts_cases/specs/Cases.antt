@@ -8,11 +8,11 @@ use Rattle.facts.specs.declared.Manner.TheVariants.{Exclusive, DynamicLevel, Dyn
 use Rattle.facts.specs.Table.{Facts, Range, Ports, fresh}
 use Rattle.facts.specs.Ports.{Meet}
 use Rattle.facts.specs.Checks.{Outcome}
-use Rattle.facts.specs.Clients.{Register, Deregister, registered, withClients}
-use Rattle.facts.specs.Sockets.{withCard}
-use Rattle.facts.specs.Resources.{AdjustResourceInfo, withRanges, levelAdded, reserveBit}
-use Rattle.facts.specs.Irq.{RequestIrq, Sharers, withIrq}
-use Rattle.facts.specs.Io.{RequestIo, withIo}
+use Rattle.facts.specs.Clients.{Register, Deregister, registered, with_clients}
+use Rattle.facts.specs.Sockets.{with_card}
+use Rattle.facts.specs.Resources.{AdjustResourceInfo, with_ranges, level_added, reserve_bit}
+use Rattle.facts.specs.Irq.{RequestIrq, Sharers, with_irq}
+use Rattle.facts.specs.Io.{RequestIo, with_io}
 
 -- the rule permits the outcome, and no other
 pub record Exactly {O : Type 0} (R : O → Type 0) (o : O) : Type 0 where
@@ -37,94 +37,94 @@ range base count = record { base = base; count = count; reserved = false }
 
 -- just one range is managed
 abbrev pub managing : Range → Facts → Facts
-managing r F = withRanges F (r ∷ [])
+managing r F = with_ranges F (r ∷ [])
 
 -- sockets 0, 1 and 2 with cards in, and one live client: handle 1, attributes 4, event mask 0
 abbrev pub ready : Facts
-ready = registered (withCard (withCard (withCard (fresh 3) 0 true) 1 true) 2 true) 4 0
+ready = registered (with_card (with_card (with_card (fresh 3) 0 true) 1 true) 2 true) 4 0
 
 -- "levels 3 and 5 managed, 5 reserved"
-abbrev pub twoLevels : Facts
-twoLevels = levelAdded (levelAdded ready 3 0) 5 reserveBit
+abbrev pub two_levels : Facts
+two_levels = level_added (level_added ready 3 0) 5 reserve_bit
 
 -- the socket s then has an IRQ grant of the client 1
-abbrev pub grantingIrq : ℕ → ℕ → Manner → Facts → Facts
-grantingIrq s l m F = withIrq F s (some (record { client = 1; level = l; manner = m }))
+abbrev pub granting_irq : ℕ → ℕ → Manner → Facts → Facts
+granting_irq s l m F = with_irq F s (some (record { client = 1; level = l; manner = m }))
 
 -- the socket s then has an I/O grant of the client 1, not shared
-abbrev pub grantingIo : ℕ → Ports → Facts → Facts
-grantingIo s a F = withIo F s (some (record { client = 1; ports = a; shared = false }))
+abbrev pub granting_io : ℕ → Ports → Facts → Facts
+granting_io s a F = with_io F s (some (record { client = 1; ports = a; shared = false }))
 
 -- N6's table after its first grant, and after its second
-abbrev pub threeHeld : Facts
-threeHeld = grantingIrq 0 3 Exclusive twoLevels
+abbrev pub three_held : Facts
+three_held = granting_irq 0 3 Exclusive two_levels
 
-abbrev pub bothHeld : Facts
-bothHeld = grantingIrq 1 5 Exclusive threeHeld
+abbrev pub both_held : Facts
+both_held = granting_irq 1 5 Exclusive three_held
 
 -- the same for N7
-abbrev pub oneSharer : Facts
-oneSharer = grantingIrq 0 3 DynamicLevel twoLevels
+abbrev pub one_sharer : Facts
+one_sharer = granting_irq 0 3 DynamicLevel two_levels
 
-abbrev pub twoSharers : Facts
-twoSharers = grantingIrq 1 3 DynamicLevel oneSharer
+abbrev pub two_sharers : Facts
+two_sharers = granting_irq 1 3 DynamicLevel one_sharer
 
 -- "300, 16 managed"
-abbrev pub sixteenManaged : Facts
-sixteenManaged = managing (range 0x300 16) ready
+abbrev pub sixteen_managed : Facts
+sixteen_managed = managing (range 0x300 16) ready
 
 -- "300 to 307 held", by the socket 0
-abbrev pub halfHeld : Facts
-halfHeld = grantingIo 0 (ports 0x300 8 16) sixteenManaged
+abbrev pub half_held : Facts
+half_held = granting_io 0 (ports 0x300 8 16) sixteen_managed
 
 -- "302 to 30C managed"
-abbrev pub elevenManaged : Facts
-elevenManaged = managing (range 0x302 11) ready
+abbrev pub eleven_managed : Facts
+eleven_managed = managing (range 0x302 11) ready
 
 -- "300, 16 managed and unheld"
-abbrev pub unheldRange : Facts
-unheldRange = managing (range 0x300 16) (fresh 2)
+abbrev pub unheld_range : Facts
+unheld_range = managing (range 0x300 16) (fresh 2)
 
 -- a fresh table after "register", and after "register, deregister"
-abbrev pub oneClient : Facts
-oneClient = registered (fresh 2) 4 0
+abbrev pub one_client : Facts
+one_client = registered (fresh 2) 4 0
 
-abbrev pub noClient : Facts
-noClient = withClients oneClient []
+abbrev pub no_client : Facts
+no_client = with_clients one_client []
 
 -- RequestIRQ's packet: the socket, the attributes' low byte, AssignedIRQ, IRQInfo1 and IRQInfo2's low byte
-abbrev pub irqPacket : ℕ → ℕ → ℕ → ℕ → ℕ → List ℕ
-irqPacket s attributes assigned info1 info2 = s ∷ 0x00 ∷ attributes ∷ 0x00 ∷ assigned ∷ info1 ∷ info2 ∷ 0x00 ∷ []
+abbrev pub irq_packet : ℕ → ℕ → ℕ → ℕ → ℕ → List ℕ
+irq_packet s attributes assigned info1 info2 = s ∷ 0x00 ∷ attributes ∷ 0x00 ∷ assigned ∷ info1 ∷ info2 ∷ 0x00 ∷ []
 
 -- a card with the Level and Share bits. N6: "exclusive, mask 0028H", IRQInfo1 B0; N7: "only 3 named" by the low four bits, IRQInfo1 A3
 abbrev pub exclusive : ℕ → ℕ → List ℕ
-exclusive s assigned = irqPacket s 0x00 assigned 0xB0 0x28
+exclusive s assigned = irq_packet s 0x00 assigned 0xB0 0x28
 
-abbrev pub timeMultiplexed : ℕ → ℕ → List ℕ
-timeMultiplexed s assigned = irqPacket s 0x01 assigned 0xA3 0x00
+abbrev pub time_multiplexed : ℕ → ℕ → List ℕ
+time_multiplexed s assigned = irq_packet s 0x01 assigned 0xA3 0x00
 
 abbrev pub dynamic : ℕ → ℕ → List ℕ
-dynamic s assigned = irqPacket s 0x02 assigned 0xA3 0x00
+dynamic s assigned = irq_packet s 0x02 assigned 0xA3 0x00
 
 -- RequestIO's packet: the socket, the two bytes of BasePort1, NumPorts1, Attributes1, IOAddrLines
-abbrev pub requestPacket : ℕ → ℕ → ℕ → ℕ → ℕ → ℕ → List ℕ
-requestPacket s low high count attributes lines = s ∷ 0x00 ∷ low ∷ high ∷ count ∷ attributes ∷ 0x00 ∷ 0x00 ∷ 0x00 ∷ 0x00 ∷ lines ∷ []
+abbrev pub request_packet : ℕ → ℕ → ℕ → ℕ → ℕ → ℕ → List ℕ
+request_packet s low high count attributes lines = s ∷ 0x00 ∷ low ∷ high ∷ count ∷ attributes ∷ 0x00 ∷ 0x00 ∷ 0x00 ∷ 0x00 ∷ lines ∷ []
 
 -- the same at 16 lines, not shared
-abbrev pub ioPacket : ℕ → ℕ → ℕ → ℕ → List ℕ
-ioPacket s low high count = requestPacket s low high count 0x00 16
+abbrev pub io_packet : ℕ → ℕ → ℕ → ℕ → List ℕ
+io_packet s low high count = request_packet s low high count 0x00 16
 
 -- RegisterClient's packet: attributes 4, event mask 0
-abbrev pub clientPacket : List ℕ
-clientPacket =
+abbrev pub client_packet : List ℕ
+client_packet =
     0x04 ∷ 0x00 ∷ 0x00 ∷ 0x00 ∷ 0x00 ∷ 0x00 ∷ 0x00 ∷ 0x00 ∷ 0x00 ∷ 0x00 ∷ 0x00 ∷ 0x00 ∷ 0x00 ∷ 0x00 ∷ []
 
 -- AdjustResourceInfo's short packets: Add of 8 ports, at the base FFF8 or FFF9; First
-abbrev pub addPacket : ℕ → List ℕ
-addPacket low = 0x01 ∷ 0x01 ∷ low ∷ 0xFF ∷ 0x08 ∷ 0x00 ∷ 0x10 ∷ []
+abbrev pub add_packet : ℕ → List ℕ
+add_packet low = 0x01 ∷ 0x01 ∷ low ∷ 0xFF ∷ 0x08 ∷ 0x00 ∷ 0x10 ∷ []
 
-abbrev pub firstPacket : List ℕ
-firstPacket = 0x02 ∷ 0x01 ∷ 0x00 ∷ 0x00 ∷ 0x00 ∷ 0x00 ∷ 0x00 ∷ []
+abbrev pub first_packet : List ℕ
+first_packet = 0x02 ∷ 0x01 ∷ 0x00 ∷ 0x00 ∷ 0x00 ∷ 0x00 ∷ 0x00 ∷ []
 
 pub record Cases : Type 0 where
   -- "N1 2F8, 8 ports, 10 lines and 6F8, 8, 16 lines meet."
@@ -136,31 +136,31 @@ pub record Cases : Type 0 where
   -- "N4 100, 1, 8 lines and 200, 1, 16 lines meet."
   pub n4 : Meet (ports 0x100 1 8) (ports 0x200 1 16)
   -- "N5 Add FFF8, 8 passes; FFF9, 8 is BAD_BASE."
-  pub n5 : Exactly (AdjustResourceInfo (fresh 2) 1 (addPacket 0xF8)) (done 1 (addPacket 0xF8) (managing (range 0xFFF8 8) (fresh 2)))
-      × Exactly (AdjustResourceInfo (fresh 2) 1 (addPacket 0xF9)) (refused BadBase (addPacket 0xF9) (fresh 2))
+  pub n5 : Exactly (AdjustResourceInfo (fresh 2) 1 (add_packet 0xF8)) (done 1 (add_packet 0xF8) (managing (range 0xFFF8 8) (fresh 2)))
+      × Exactly (AdjustResourceInfo (fresh 2) 1 (add_packet 0xF9)) (refused BadBase (add_packet 0xF9) (fresh 2))
   -- "N6 levels 3 and 5 managed, 5 reserved; exclusive, mask 0028H from three sockets: 3, 5, BAD_IRQ."
-  pub n6 : Exactly (RequestIrq twoLevels 1 (exclusive 0 0)) (done 1 (exclusive 0 3) threeHeld)
-      × Exactly (RequestIrq threeHeld 1 (exclusive 1 0)) (done 1 (exclusive 1 5) bothHeld)
-      × Exactly (RequestIrq bothHeld 1 (exclusive 2 0)) (refused BadIrq (exclusive 2 0) bothHeld)
+  pub n6 : Exactly (RequestIrq two_levels 1 (exclusive 0 0)) (done 1 (exclusive 0 3) three_held)
+      × Exactly (RequestIrq three_held 1 (exclusive 1 0)) (done 1 (exclusive 1 5) both_held)
+      × Exactly (RequestIrq both_held 1 (exclusive 2 0)) (refused BadIrq (exclusive 2 0) both_held)
   -- "N7 only 3 named: dynamic level, then from another socket time-multiplexed BAD_IRQ, then from it dynamic level: two sharers."
-  pub n7 : Exactly (RequestIrq twoLevels 1 (dynamic 0 0)) (done 1 (dynamic 0 3) oneSharer)
-      × Exactly (RequestIrq oneSharer 1 (timeMultiplexed 1 0)) (refused BadIrq (timeMultiplexed 1 0) oneSharer)
-      × Exactly (RequestIrq oneSharer 1 (dynamic 1 0)) (done 1 (dynamic 1 3) twoSharers)
-      × Exactly (Sharers twoSharers 3) (record { code = Success; count = 2 })
+  pub n7 : Exactly (RequestIrq two_levels 1 (dynamic 0 0)) (done 1 (dynamic 0 3) one_sharer)
+      × Exactly (RequestIrq one_sharer 1 (time_multiplexed 1 0)) (refused BadIrq (time_multiplexed 1 0) one_sharer)
+      × Exactly (RequestIrq one_sharer 1 (dynamic 1 0)) (done 1 (dynamic 1 3) two_sharers)
+      × Exactly (Sharers two_sharers 3) (record { code = Success; count = 2 })
   -- "N8 300, 16 managed, 300 to 307 held: base 0, 8 ports, all at 16 lines, gives 308."
-  pub n8 : Exactly (RequestIo halfHeld 1 (ioPacket 1 0x00 0x00 8)) (done 1 (ioPacket 1 0x08 0x03 8) (grantingIo 1 (ports 0x308 8 16) halfHeld))
+  pub n8 : Exactly (RequestIo half_held 1 (io_packet 1 0x00 0x00 8)) (done 1 (io_packet 1 0x08 0x03 8) (granting_io 1 (ports 0x308 8 16) half_held))
   -- "N9 302 to 30C managed: base 0, 5 ports, 16 lines gives 308."
-  pub n9 : Exactly (RequestIo elevenManaged 1 (ioPacket 1 0x00 0x00 5))
-      (done 1 (ioPacket 1 0x08 0x03 5) (grantingIo 1 (ports 0x308 5 16) elevenManaged))
+  pub n9 : Exactly (RequestIo eleven_managed 1 (io_packet 1 0x00 0x00 5))
+      (done 1 (io_packet 1 0x08 0x03 5) (granting_io 1 (ports 0x308 5 16) eleven_managed))
   -- "N10 register, deregister, register: handle 2."
-  pub n10 : Exactly (Register (fresh 2) 0 clientPacket) (done 1 clientPacket oneClient)
-      × Exactly (Deregister oneClient 1 []) (done 1 [] noClient)
-      × Exactly (Register noClient 0 clientPacket) (done 2 clientPacket (registered noClient 4 0))
+  pub n10 : Exactly (Register (fresh 2) 0 client_packet) (done 1 client_packet one_client)
+      × Exactly (Deregister one_client 1 []) (done 1 [] no_client)
+      × Exactly (Register no_client 0 client_packet) (done 2 client_packet (registered no_client 4 0))
   -- "N11 N6's table before its grants, socket 0 with a card, packet 00 00 02 00 00 B0 28 00 becomes 00 00 02 00 03 B0 28 00; with D0 for B0,
   -- 00 00 02 01 03 D0 28 00."
-  pub n11 : Exactly (RequestIrq twoLevels 1 (0x00 ∷ 0x00 ∷ 0x02 ∷ 0x00 ∷ 0x00 ∷ 0xB0 ∷ 0x28 ∷ 0x00 ∷ []))
-      (done 1 (0x00 ∷ 0x00 ∷ 0x02 ∷ 0x00 ∷ 0x03 ∷ 0xB0 ∷ 0x28 ∷ 0x00 ∷ []) (grantingIrq 0 3 DynamicLevel twoLevels))
-      × Exactly (RequestIrq twoLevels 1 (0x00 ∷ 0x00 ∷ 0x02 ∷ 0x00 ∷ 0x00 ∷ 0xD0 ∷ 0x28 ∷ 0x00 ∷ []))
-      (done 1 (0x00 ∷ 0x00 ∷ 0x02 ∷ 0x01 ∷ 0x03 ∷ 0xD0 ∷ 0x28 ∷ 0x00 ∷ []) (grantingIrq 0 3 DynamicPulse twoLevels))
+  pub n11 : Exactly (RequestIrq two_levels 1 (0x00 ∷ 0x00 ∷ 0x02 ∷ 0x00 ∷ 0x00 ∷ 0xB0 ∷ 0x28 ∷ 0x00 ∷ []))
+      (done 1 (0x00 ∷ 0x00 ∷ 0x02 ∷ 0x00 ∷ 0x03 ∷ 0xB0 ∷ 0x28 ∷ 0x00 ∷ []) (granting_irq 0 3 DynamicLevel two_levels))
+      × Exactly (RequestIrq two_levels 1 (0x00 ∷ 0x00 ∷ 0x02 ∷ 0x00 ∷ 0x00 ∷ 0xD0 ∷ 0x28 ∷ 0x00 ∷ []))
+      (done 1 (0x00 ∷ 0x00 ∷ 0x02 ∷ 0x01 ∷ 0x03 ∷ 0xD0 ∷ 0x28 ∷ 0x00 ∷ []) (granting_irq 0 3 DynamicPulse two_levels))
   -- "N12 300, 16 managed and unheld, short First: 02 01 00 03 10 00 10, handle 0."
-  pub n12 : Exactly (AdjustResourceInfo unheldRange 1 firstPacket) (done 0 (0x02 ∷ 0x01 ∷ 0x00 ∷ 0x03 ∷ 0x10 ∷ 0x00 ∷ 0x10 ∷ []) unheldRange)
+  pub n12 : Exactly (AdjustResourceInfo unheld_range 1 first_packet) (done 0 (0x02 ∷ 0x01 ∷ 0x00 ∷ 0x03 ∷ 0x10 ∷ 0x00 ∷ 0x10 ∷ []) unheld_range)

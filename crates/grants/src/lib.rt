@@ -1,9 +1,9 @@
 // A seat's grants: entered or given back, and whether they are this client's. Whatever the bytes say, one record is written.
 ghost use Rattle.std.specs.Prelude.{◌≡◌, ◌<◌, length};
 ghost use Rattle.facts.specs.Table;
-ghost use Rattle.layout.specs.Layout.{tableSize};
-ghost use Rattle.layout.specs.Reading.{factsIn};
-ghost use Rattle.layout.specs.Changed.{ioEntered, irqEntered};
+ghost use Rattle.layout.specs.Layout.{table_size};
+ghost use Rattle.layout.specs.Reading.{facts_in};
+ghost use Rattle.layout.specs.Changed.{io_entered, irq_entered};
 ghost use Rattle.grants.specs.Grants.{PortsOf, LevelOf};
 
 use facts::{Handle, Manner, Seat};
@@ -20,8 +20,8 @@ pub fn enter_ports(
     lines: usize,
     shared: usize,
 )
-    requires { (length t.old ≡ tableSize) × (seat.0 < Table.mostSeats) × (base < 65536) × (count < 256) × (lines < 256) × (shared < 256) }
-    ensures { t.new ≡ ioEntered t.old seat.0 h.0 base count lines shared }
+    requires { (length t.old ≡ table_size) × (seat.0 < Table.most_seats) × (base < 65536) × (count < 256) × (lines < 256) × (shared < 256) }
+    ensures { t.new ≡ io_entered t.old seat.0 h.0 base count lines shared }
 {
     let at = seats::io_place(seat);
     let client = h.0;
@@ -40,8 +40,8 @@ pub enum Ports {
 }
 
 pub fn ports_of(t: &[u8], seat: Seat, h: Handle, base: usize, count: usize) -> Ports
-    requires { (length t.now ≡ tableSize) × (seat.0 < Table.mostSeats) }
-    ensures { PortsOf (factsIn t.now) h.0 seat.0 base count result }
+    requires { (length t.now ≡ table_size) × (seat.0 < Table.most_seats) }
+    ensures { PortsOf (facts_in t.now) h.0 seat.0 base count result }
 {
     let IoSeat::Held(x) = seats::held(t, seat) else {
         return Ports::Other;
@@ -61,8 +61,8 @@ pub fn ports_of(t: &[u8], seat: Seat, h: Handle, base: usize, count: usize) -> P
 
 // The record of the seat's IRQ grant: client, level and manner; of none it is nobody's, and zeros.
 pub fn enter_level(t: &mut [u8], seat: Seat, h: Handle, level: usize, manner: usize)
-    requires { (length t.old ≡ tableSize) × (seat.0 < Table.mostSeats) × (level < Table.allLevels) × (manner < 256) }
-    ensures { t.new ≡ irqEntered t.old seat.0 h.0 level manner }
+    requires { (length t.old ≡ table_size) × (seat.0 < Table.most_seats) × (level < Table.all_levels) × (manner < 256) }
+    ensures { t.new ≡ irq_entered t.old seat.0 h.0 level manner }
 {
     let at = seats::irq_place(seat);
     let client = h.0;
@@ -79,8 +79,8 @@ pub enum Level {
 }
 
 pub fn level_of(t: &[u8], seat: Seat, h: Handle, level: usize) -> Level
-    requires { (length t.now ≡ tableSize) × (seat.0 < Table.mostSeats) }
-    ensures { LevelOf (factsIn t.now) h.0 seat.0 level result }
+    requires { (length t.now ≡ table_size) × (seat.0 < Table.most_seats) }
+    ensures { LevelOf (facts_in t.now) h.0 seat.0 level result }
 {
     let IrqSeat::Held(x) = seats::level_held(t, seat) else {
         return Level::Other;

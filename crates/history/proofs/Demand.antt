@@ -1,36 +1,36 @@
 -- Demand 3 and the laws over all entries hold of this keeper. Assumes nothing.
 use Rattle.history.specs.{Ours, Demand3, EntryLaws}
-use Rattle.history.proofs.Runs.{exact, exact-since}
-use Rattle.history.proofs.Frame.{frame, card-out}
-use Rattle.history.proofs.Handles.{never-again}
-use Rattle.history.proofs.Sharing.{sharers-counted, one-grant, ports-apart, levels-apart}
-use Rattle.history.proofs.Laws.{one-outcome, refusal-keeps, unformed-refused, stays, boot-places, the-fifteen}
-use Rattle.history.proofs.Exactly.{refused-exactly}
-use Rattle.history.proofs.Codes.{exact-codes}
+use Rattle.history.proofs.Runs.{exact, exact_since}
+use Rattle.history.proofs.Frame.{frame, card_out}
+use Rattle.history.proofs.Handles.{never_again}
+use Rattle.history.proofs.Sharing.{sharers_counted, one_grant, ports_apart, levels_apart}
+use Rattle.history.proofs.Laws.{one_outcome, refusal_keeps, unformed_refused, stays, boot_places, the_fifteen}
+use Rattle.history.proofs.Exactly.{refused_exactly}
+use Rattle.history.proofs.Codes.{exact_codes}
 
-pub demand-3 : Demand3 Ours
-demand-3 =
+pub demand_3 : Demand3 Ours
+demand_3 =
     record {
       exact = exact;
-      exact-since = exact-since;
+      exact_since = exact_since;
       frame = frame;
-      card-out = card-out;
-      never-again = never-again;
-      sharers-counted = sharers-counted;
-      one-grant = one-grant;
-      ports-apart = ports-apart;
-      levels-apart = levels-apart;
+      card_out = card_out;
+      never_again = never_again;
+      sharers_counted = sharers_counted;
+      one_grant = one_grant;
+      ports_apart = ports_apart;
+      levels_apart = levels_apart;
     }
 
-pub entry-laws : EntryLaws Ours
-entry-laws =
+pub entry_laws : EntryLaws Ours
+entry_laws =
     record {
-      one-outcome = one-outcome;
-      refusal-keeps = refusal-keeps;
-      unformed-refused = unformed-refused;
+      one_outcome = one_outcome;
+      refusal_keeps = refusal_keeps;
+      unformed_refused = unformed_refused;
       stays = stays;
-      boot-places = boot-places;
-      refused-exactly = refused-exactly;
-      exact-codes = exact-codes;
-      the-fifteen = the-fifteen;
+      boot_places = boot_places;
+      refused_exactly = refused_exactly;
+      exact_codes = exact_codes;
+      the_fifteen = the_fifteen;
     }

@@ -1,143 +1,143 @@
 -- The tables of the examples, and that they are well formed: a run of requests, and two tables that are full. Assumes nothing.
-use Rattle.facts.proofs.Words.{◌≡◌, refl, ap, inl, inr, List, [], ◌∷◌, true, true≢false, false≢true, some, Option·none-ne-some, ℕ, zero, suc}
+use Rattle.facts.proofs.Words.{◌≡◌, refl, ap, inl, inr, List, [], ◌∷◌, true, true≢false, false≢true, some, none-ne-some, ℕ, zero, suc}
 use Rattle.facts.proofs.Words.{◌+◌, ◌≤◌, ◌<◌, arith, length, WellFormed}
-use Rattle.facts.specs.{Exclusive, Facts, Range, fresh, ◌∈◌, Apart, withClients, RequestSocketMask, withCard, withMask, levelAdded, rangeAdded}
-use Rattle.facts.specs.{withRanges, RequestIrq, Fits, IrqAttributesBad, IrqInfoBad, RequestIo, IoAttributesBad, IoSizeBad, requestIrq, requestIo}
-use Rattle.facts.specs.{requestSocketMask, mostIssued, mostRanges, irqAsked}
-use Rattle.facts.proofs.{card-formed, clients-formed, ranges-formed, listing, level-added-formed, range-added-formed, named-one}
-use Rattle.facts_cases.specs.{done, oneClient, range, ports, grantingIrq, grantingIo}
-use Rattle.facts_cases.proofs.{alone-taken, as-left, ◌then◌, ◌nor◌, listed-alone}
+use Rattle.facts.specs.{Exclusive, Facts, Range, fresh, ◌∈◌, Apart, with_clients, RequestSocketMask, with_card, with_mask, level_added, range_added}
+use Rattle.facts.specs.{with_ranges, RequestIrq, Fits, IrqAttributesBad, IrqInfoBad, RequestIo, IoAttributesBad, IoSizeBad, requestIrq, requestIo}
+use Rattle.facts.specs.{requestSocketMask, most_issued, most_ranges, irq_asked}
+use Rattle.facts.proofs.{card_formed, clients_formed, ranges_formed, listing, level_added_formed, range_added_formed, named_one}
+use Rattle.facts_cases.specs.{done, one_client, range, ports, granting_irq, granting_io}
+use Rattle.facts_cases.proofs.{alone_taken, as_left, ◌then◌, ◌nor◌, listed_alone}
 use Rattle.history.proofs.Giving.{left}
-use Rattle.history.proofs.OnSockets.{Ready, ready, two-sockets, one-client, for, own-passed, irqRequests, ioRequests, maskRequests}
+use Rattle.history.proofs.OnSockets.{Ready, ready, two_sockets, one_client_lem, for, own_passed, irq_requests, io_requests, mask_requests}
 
 -- a card in each socket, and the level 3 and all ports managed
 abbrev pub idle : Facts
-idle = rangeAdded (levelAdded (withCard (withCard oneClient 0 true) 1 true) 3 0) 0 0x10000 0
+idle = range_added (level_added (with_card (with_card one_client 0 true) 1 true) 3 0) 0 0x10000 0
 
-pub idle-ready : Ready idle
-idle-ready =
+pub idle_ready : Ready idle
+idle_ready =
     ready
-    (range-added-formed _
-    (level-added-formed _ (card-formed _ (card-formed oneClient one-client.formed 0 true (omega arith)) 1 true (omega arith)) 3 0
+    (range_added_formed _
+    (level_added_formed _ (card_formed _ (card_formed one_client one_client_lem.formed 0 true (omega arith)) 1 true (omega arith)) 3 0
     ((λ e. e (inl refl)) then (omega arith) then false≢true then tt))
     0 0x10000 0 16
     (((λ e. e (inl refl)) nor omega arith) then (omega arith nor omega arith) then (omega arith) then (λ e. e.2.listed) then (omega arith) then tt))
     _ (inl refl) refl
 
 -- packets for the socket 0, past socket and function. One level named, exclusive, and AssignedIRQ
-abbrev pub irqNaming : ℕ → ℕ → List ℕ
-irqNaming l assigned = 0x00 ∷ 0x00 ∷ assigned ∷ (0x20 + l) ∷ 0x00 ∷ 0x00 ∷ []
+abbrev pub irq_naming : ℕ → ℕ → List ℕ
+irq_naming l assigned = 0x00 ∷ 0x00 ∷ assigned ∷ (0x20 + l) ∷ 0x00 ∷ 0x00 ∷ []
 
 -- eight ports at 16 lines, by their base's bytes
-abbrev pub ioAt : ℕ → ℕ → List ℕ
-ioAt low high = low ∷ high ∷ 0x08 ∷ 0x00 ∷ 0x00 ∷ 0x00 ∷ 0x00 ∷ 0x00 ∷ 0x10 ∷ []
+abbrev pub io_at : ℕ → ℕ → List ℕ
+io_at low high = low ∷ high ∷ 0x08 ∷ 0x00 ∷ 0x00 ∷ 0x00 ∷ 0x00 ∷ 0x00 ∷ 0x10 ∷ []
 
 -- what the client 1 asks for: the level 3, the ports 300 to 307, and the event mask 1
-abbrev pub packetIrq : List ℕ
-packetIrq = irqNaming 3 0
+abbrev pub packet_irq : List ℕ
+packet_irq = irq_naming 3 0
 
-abbrev pub packetIo : List ℕ
-packetIo = ioAt 0x00 0x03
+abbrev pub packet_io : List ℕ
+packet_io = io_at 0x00 0x03
 
-abbrev pub maskAsked : List ℕ
-maskAsked = 0x01 ∷ 0x00 ∷ []
+abbrev pub mask_asked : List ℕ
+mask_asked = 0x01 ∷ 0x00 ∷ []
 
 -- their attributes, IRQInfo1 and sizes are in order
-pub irq-good : (l : ℕ) → l < 16 → (IrqAttributesBad (for 0 (irqNaming l 0)) → ⊥) × (IrqInfoBad (for 0 (irqNaming l 0)) → ⊥)
-irq-good l below =
+pub irq_good : (l : ℕ) → l < 16 → (IrqAttributesBad (for 0 (irq_naming l 0)) → ⊥) × (IrqInfoBad (for 0 (irq_naming l 0)) → ⊥)
+irq_good l below =
     ((λ e. omega arith) nor (λ e. omega arith) nor (λ e. omega arith) nor (λ e. omega arith) nor (λ e. omega arith))
     then ((λ e. omega arith) nor (λ e. omega arith) nor (λ e. omega arith))
 
-pub io-good : (low high : ℕ) → (IoAttributesBad (for 0 (ioAt low high)) → ⊥) × (IoSizeBad (for 0 (ioAt low high)) → ⊥)
-io-good low high = (omega arith nor omega arith nor omega arith nor omega arith) then (omega arith nor omega arith nor omega arith)
+pub io_good : (low high : ℕ) → (IoAttributesBad (for 0 (io_at low high)) → ⊥) × (IoSizeBad (for 0 (io_at low high)) → ⊥)
+io_good low high = (omega arith nor omega arith nor omega arith nor omega arith) then (omega arith nor omega arith nor omega arith)
 
 -- it is granted one after the other
-abbrev pub irqHeld : Facts
-irqHeld = grantingIrq 0 3 Exclusive idle
+abbrev pub irq_held : Facts
+irq_held = granting_irq 0 3 Exclusive idle
 
-abbrev pub ioHeld : Facts
-ioHeld = grantingIo 0 (ports 0x300 8 16) irqHeld
+abbrev pub io_held : Facts
+io_held = granting_io 0 (ports 0x300 8 16) irq_held
 
 abbrev pub busy : Facts
-busy = withClients ioHeld (withMask 1 0 (some 1) ioHeld.clients)
+busy = with_clients io_held (with_mask 1 0 (some 1) io_held.clients)
 
-pub irq-granted : RequestIrq idle 1 (for 0 packetIrq) (done 1 (for 0 (irqNaming 3 3)) irqHeld)
-irq-granted =
+pub irq_granted : RequestIrq idle 1 (for 0 packet_irq) (done 1 (for 0 (irq_naming 3 3)) irq_held)
+irq_granted =
     inr (
-      own-passed irqRequests idle-ready packetIrq refl
-          (true≢false then (irq-good 3 (omega arith)).0 then (irq-good 3 (omega arith)).1 then (λ e. e refl) then (λ e. e 3 fits) then tt),
-      (refl, record { level = 3; taken = alone-taken (λ s. refl) fits (λ l f. named-one (for 0 packetIrq) l (omega arith) f.named); leaves = as-left _ }),
+      own_passed irq_requests idle_ready packet_irq refl
+          (true≢false then (irq_good 3 (omega arith)).0 then (irq_good 3 (omega arith)).1 then (λ e. e refl) then (λ e. e 3 fits) then tt),
+      (refl, record { level = 3; taken = alone_taken (λ s. refl) fits (λ l f. named_one (for 0 packet_irq) l (omega arith) f.named); leaves = as_left _ }),
     )
   where
-    fits : Fits idle (irqAsked (for 0 packetIrq)) 3
-    fits = record { named = refl; managed = refl; free = inl (λ s g h. Option·none-ne-some g h.live) }
+    fits : Fits idle (irq_asked (for 0 packet_irq)) 3
+    fits = record { named = refl; managed = refl; free = inl (λ s g h. none-ne-some g h.live) }
 
-pub irq-ready : Ready irqHeld
-irq-ready =
-    ready (left idle-ready.formed requestIrq 1 (for 0 packetIrq) (done 1 (for 0 (irqNaming 3 3)) irqHeld) tt irq-granted) _ (inl refl) refl
+pub irq_ready : Ready irq_held
+irq_ready =
+    ready (left idle_ready.formed requestIrq 1 (for 0 packet_irq) (done 1 (for 0 (irq_naming 3 3)) irq_held) tt irq_granted) _ (inl refl) refl
 
-pub io-granted : RequestIo irqHeld 1 (for 0 packetIo) (done 1 (for 0 packetIo) ioHeld)
-io-granted =
+pub io_granted : RequestIo irq_held 1 (for 0 packet_io) (done 1 (for 0 packet_io) io_held)
+io_granted =
     inr (
-      own-passed ioRequests irq-ready packetIo refl
+      own_passed io_requests irq_ready packet_io refl
           (true≢false
-          then (io-good 0x00 0x03).0
-          then (io-good 0x00 0x03).1
+          then (io_good 0x00 0x03).0
+          then (io_good 0x00 0x03).1
           then (λ e. e refl)
           then (λ e. (omega arith nor (λ u. u (λ x m. record { range = _; listed = inl refl; has = omega arith }))
           nor (λ u. u (λ x a. record { range = _; listed = inl refl; has = omega (arith, a.below) }))) e.1)
-          then (λ e. Option·none-ne-some _ e.1.held)
+          then (λ e. none-ne-some _ e.1.held)
           then (omega arith)
           then tt),
-      (refl, record { base = 0x300; taken = inl (omega arith, refl); leaves = as-left _ }),
+      (refl, record { base = 0x300; taken = inl (omega arith, refl); leaves = as_left _ }),
     )
 
-pub io-ready : Ready ioHeld
-io-ready =
-    ready (left irq-ready.formed requestIo 1 (for 0 packetIo) (done 1 (for 0 packetIo) ioHeld) tt io-granted) _ (inl refl) refl
+pub io_ready : Ready io_held
+io_ready =
+    ready (left irq_ready.formed requestIo 1 (for 0 packet_io) (done 1 (for 0 packet_io) io_held) tt io_granted) _ (inl refl) refl
 
-pub mask-granted : RequestSocketMask ioHeld 1 (for 0 maskAsked) (done 1 (for 0 maskAsked) busy)
-mask-granted =
+pub mask_granted : RequestSocketMask io_held 1 (for 0 mask_asked) (done 1 (for 0 mask_asked) busy)
+mask_granted =
     inr (
-      own-passed maskRequests io-ready maskAsked refl
-          (true≢false then (λ e. e (omega arith)) then (λ e. Option·none-ne-some _ (rw (listed-alone e.1.listed) at e.1.mask)) then tt),
-      (refl, as-left _),
+      own_passed mask_requests io_ready mask_asked refl
+          (true≢false then (λ e. e (omega arith)) then (λ e. none-ne-some _ (rw (listed_alone e.1.listed) at e.1.mask)) then tt),
+      (refl, as_left _),
     )
 
-pub busy-ready : Ready busy
-busy-ready =
-    ready (left io-ready.formed requestSocketMask 1 (for 0 maskAsked) (done 1 (for 0 maskAsked) busy) tt mask-granted) _ (inl refl) refl
+pub busy_ready : Ready busy
+busy_ready =
+    ready (left io_ready.formed requestSocketMask 1 (for 0 mask_asked) (done 1 (for 0 mask_asked) busy) tt mask_granted) _ (inl refl) refl
 
 -- every handle issued
 abbrev pub spent : Facts
-spent = listing (fresh 2) mostIssued []
+spent = listing (fresh 2) most_issued []
 
-pub spent-formed : WellFormed spent
-spent-formed =
-    clients-formed (fresh 2) two-sockets mostIssued [] (omega arith) (omega arith) tt (λ c m. absurd m)
-    (λ s g e. absurd (Option·none-ne-some g e)) (λ s g e. absurd (Option·none-ne-some g e))
+pub spent_formed : WellFormed spent
+spent_formed =
+    clients_formed (fresh 2) two_sockets most_issued [] (omega arith) (omega arith) tt (λ c m. absurd m)
+    (λ s g e. absurd (none-ne-some g e)) (λ s g e. absurd (none-ne-some g e))
 
 -- as many ranges as there can be, of a port each
-abbrev onePort : ℕ → ℕ → List Range
-onePort base zero = []
-onePort base (suc n) = range base 1 ∷ onePort (base + 1) n
+abbrev one_port : ℕ → ℕ → List Range
+one_port base zero = []
+one_port base (suc n) = range base 1 ∷ one_port (base + 1) n
 
-pub one-port-length : (base n : ℕ) → length (onePort base n) ≡ n
-one-port-length base zero = refl
-one-port-length base (suc n) = ap suc (one-port-length (base + 1) n)
+pub one_port_length : (base n : ℕ) → length (one_port base n) ≡ n
+one_port_length base zero = refl
+one_port_length base (suc n) = ap suc (one_port_length (base + 1) n)
 
-one-port-apart : (base n : ℕ) → Apart base (onePort base n)
-one-port-apart base zero = tt
-one-port-apart base (suc n) = (omega arith, omega arith, one-port-apart (base + 1) n)
+one_port_apart : (base n : ℕ) → Apart base (one_port base n)
+one_port_apart base zero = tt
+one_port_apart base (suc n) = (omega arith, omega arith, one_port_apart (base + 1) n)
 
-pub one-port-below : (base n : ℕ) (r : Range) → r ∈ onePort base n → r.base + r.count ≤ base + n
-one-port-below base (suc n) r (inl e) = omega (arith, ap (λ (x : Range). x.base) e, ap (λ (x : Range). x.count) e)
-one-port-below base (suc n) r (inr m) = omega (arith, one-port-below (base + 1) n r m)
+pub one_port_below : (base n : ℕ) (r : Range) → r ∈ one_port base n → r.base + r.count ≤ base + n
+one_port_below base (suc n) r (inl e) = omega (arith, ap (λ (x : Range). x.base) e, ap (λ (x : Range). x.count) e)
+one_port_below base (suc n) r (inr m) = omega (arith, one_port_below (base + 1) n r m)
 
 abbrev pub full : Facts
-full = withRanges (fresh 2) (onePort 0 mostRanges)
+full = with_ranges (fresh 2) (one_port 0 most_ranges)
 
-pub full-formed : WellFormed full
-full-formed =
-    ranges-formed (fresh 2) two-sockets _ (omega (arith, one-port-length 0 mostRanges)) (one-port-apart 0 mostRanges)
-    (λ r m. omega (arith, one-port-below 0 mostRanges r m)) (λ s g e. absurd (Option·none-ne-some g e))
+pub full_formed : WellFormed full
+full_formed =
+    ranges_formed (fresh 2) two_sockets _ (omega (arith, one_port_length 0 most_ranges)) (one_port_apart 0 most_ranges)
+    (λ r m. omega (arith, one_port_below 0 most_ranges r m)) (λ s g e. absurd (none-ne-some g e))

@@ -1,84 +1,84 @@
 -- What a service makes and gives back, and that it is nothing else. Assumes nothing.
 use Rattle.facts.proofs.Words.{◌≡◌, List, Bool, ℕ, length}
-use Rattle.facts.specs.{Record, Width, IoGrant, IrqGrant, clientAttributes, clientEvents, socketOf, eventsAsked, actionOf, resourceOf, add, remove}
-use Rattle.facts.specs.{irqLevel, ioRange, levelGiven, levelAttributes, ioAdjustLength, reserves, baseGiven, countGiven, attributesGiven, type_of}
-use Rattle.facts.specs.{assignedIrq, typeAsked, baseAsked, countAsked, registerClient, deregisterClient, ioAsked, irqAsked}
-use Rattle.facts.specs.{adjustResourceInfo, requestIrq, releaseIrq, requestIo, releaseIo, requestSocketMask, releaseSocketMask, ioGrant, irqGrant}
-use Rattle.history.specs.{Fact, client, mask, level, range, io, irq, Made, GivenBack, Recorded, client-made, mask-made, level-made, range-made}
-use Rattle.history.specs.{io-made, irq-made, client-back, mask-back, level-back, range_back, io-back, irq-back, level-recorded, range-recorded}
+use Rattle.facts.specs.{Record, Width, IoGrant, IrqGrant, client_attributes, client_events, socket_of, events_asked, action_of, resource_of, add, remove}
+use Rattle.facts.specs.{irq_level, io_range, level_given, level_attributes, io_adjust_length, reserves, base_given, count_given, attributes_given, type_of}
+use Rattle.facts.specs.{assigned_irq, type_asked_lem, base_asked_lem, count_asked_lem, register_client, deregisterClient, io_asked, irq_asked}
+use Rattle.facts.specs.{adjustResourceInfo, requestIrq, releaseIrq, requestIo, releaseIo, requestSocketMask, releaseSocketMask, io_grant, irq_grant}
+use Rattle.history.specs.{Fact, client, mask, level, range, io, irq, Made, GivenBack, Recorded, client_made, mask_made, level_made, range_made}
+use Rattle.history.specs.{io_made, irq_made, client_back, mask_back, level_back, range_back, io_back, irq_back, level_recorded, range_recorded}
 
 module _ {h : ℕ} {p : List ℕ} {a : ℕ} {q : List ℕ} (P : Fact → Type 0) where
-  pub client-only : P (client a (clientAttributes p) (clientEvents p)) → (f : Fact) → Made h p a q registerClient f → P f
-  client-only x f client-made = x
+  pub client_only : P (client a (client_attributes p) (client_events p)) → (f : Fact) → Made h p a q register_client f → P f
+  client_only x f client_made = x
 
-  pub mask-only : P (mask h (socketOf p) (eventsAsked p)) → (f : Fact) → Made h p a q requestSocketMask f → P f
-  mask-only x f mask-made = x
+  pub mask_only : P (mask h (socket_of p) (events_asked p)) → (f : Fact) → Made h p a q requestSocketMask f → P f
+  mask_only x f mask_made = x
 
-  pub io-only : P (io (socketOf p) (ioGrant h (ioAsked p) (baseAsked q)))
+  pub io_only : P (io (socket_of p) (io_grant h (io_asked p) (base_asked_lem q)))
       → (f : Fact) → Made h p a q requestIo f → P f
-  io-only x f io-made = x
+  io_only x f io_made = x
 
-  pub irq-only : P (irq (socketOf p) (irqGrant h (irqAsked p) (assignedIrq q)))
+  pub irq_only : P (irq (socket_of p) (irq_grant h (irq_asked p) (assigned_irq q)))
       → (f : Fact) → Made h p a q requestIrq f → P f
-  irq-only x f irq-made = x
+  irq_only x f irq_made = x
 
-  pub adjusted-only : (resourceOf p ≡ irqLevel → actionOf p ≡ add → P (level (levelGiven p) (reserves (levelAttributes p))))
-      → ((w : Width) → length p ≡ ioAdjustLength w → resourceOf p ≡ ioRange → actionOf p ≡ add → P (range (record { base = baseGiven w p; count = countGiven w p; reserved = reserves (attributesGiven w p) })))
+  pub adjusted_only : (resource_of p ≡ irq_level → action_of p ≡ add → P (level (level_given p) (reserves (level_attributes p))))
+      → ((w : Width) → length p ≡ io_adjust_length w → resource_of p ≡ io_range → action_of p ≡ add → P (range (record { base = base_given w p; count = count_given w p; reserved = reserves (attributes_given w p) })))
       → (f : Fact) → Made h p a q adjustResourceInfo f → P f
-  adjusted-only l r f (level-made e i) = l e i
-  adjusted-only l r f (range-made w n e i) = r w n e i
+  adjusted_only l r f (level_made e i) = l e i
+  adjusted_only l r f (range_made w n e i) = r w n e i
 
   -- releases make nothing
-  pub deregister-makes-none : (f : Fact) → Made h p a q deregisterClient f → P f
-  deregister-makes-none f = elim [ ]
+  pub deregister_makes_none : (f : Fact) → Made h p a q deregisterClient f → P f
+  deregister_makes_none f = elim [ ]
 
-  pub release-mask-makes-none : (f : Fact) → Made h p a q releaseSocketMask f → P f
-  release-mask-makes-none f = elim [ ]
+  pub release_mask_makes_none : (f : Fact) → Made h p a q releaseSocketMask f → P f
+  release_mask_makes_none f = elim [ ]
 
-  pub release-io-makes-none : (f : Fact) → Made h p a q releaseIo f → P f
-  release-io-makes-none f = elim [ ]
+  pub release_io_makes_none : (f : Fact) → Made h p a q releaseIo f → P f
+  release_io_makes_none f = elim [ ]
 
-  pub release-irq-makes-none : (f : Fact) → Made h p a q releaseIrq f → P f
-  release-irq-makes-none f = elim [ ]
+  pub release_irq_makes_none : (f : Fact) → Made h p a q releaseIrq f → P f
+  release_irq_makes_none f = elim [ ]
 
 module _ {h : ℕ} {p : List ℕ} (P : Fact → Type 0) where
-  pub client-back-only : ((attributes events : ℕ) → P (client h attributes events)) → (f : Fact) → GivenBack h p deregisterClient f → P f
-  client-back-only x f client-back = x _ _
+  pub client_back_only : ((attributes events : ℕ) → P (client h attributes events)) → (f : Fact) → GivenBack h p deregisterClient f → P f
+  client_back_only x f client_back = x _ _
 
-  pub mask-back-only : ((events : ℕ) → P (mask h (socketOf p) events)) → (f : Fact) → GivenBack h p releaseSocketMask f → P f
-  mask-back-only x f mask-back = x _
+  pub mask_back_only : ((events : ℕ) → P (mask h (socket_of p) events)) → (f : Fact) → GivenBack h p releaseSocketMask f → P f
+  mask_back_only x f mask_back = x _
 
-  pub io-back-only : ((g : IoGrant) → g.client ≡ h → g.ports.base ≡ baseAsked p → g.ports.count ≡ countAsked p → P (io (socketOf p) g))
+  pub io_back_only : ((g : IoGrant) → g.client ≡ h → g.ports.base ≡ base_asked_lem p → g.ports.count ≡ count_asked_lem p → P (io (socket_of p) g))
       → (f : Fact) → GivenBack h p releaseIo f → P f
-  io-back-only x f (io-back holder base count) = x _ holder base count
+  io_back_only x f (io_back holder base count) = x _ holder base count
 
-  pub irq-back-only : ((g : IrqGrant) → g.client ≡ h → g.level ≡ assignedIrq p → type_of g.manner ≡ typeAsked p → P (irq (socketOf p) g))
+  pub irq_back_only : ((g : IrqGrant) → g.client ≡ h → g.level ≡ assigned_irq p → type_of g.manner ≡ type_asked_lem p → P (irq (socket_of p) g))
       → (f : Fact) → GivenBack h p releaseIrq f → P f
-  irq-back-only x f (irq-back holder number type) = x _ holder number type
+  irq_back_only x f (irq_back holder number type) = x _ holder number type
 
-  pub adjusted-back-only : ((v : Bool) → resourceOf p ≡ irqLevel → actionOf p ≡ remove → P (level (levelGiven p) v))
-      → ((v : Bool) (w : Width) → length p ≡ ioAdjustLength w → resourceOf p ≡ ioRange → actionOf p ≡ remove
-      → P (range (record { base = baseGiven w p; count = countGiven w p; reserved = v })))
+  pub adjusted_back_only : ((v : Bool) → resource_of p ≡ irq_level → action_of p ≡ remove → P (level (level_given p) v))
+      → ((v : Bool) (w : Width) → length p ≡ io_adjust_length w → resource_of p ≡ io_range → action_of p ≡ remove
+      → P (range (record { base = base_given w p; count = count_given w p; reserved = v })))
       → (f : Fact) → GivenBack h p adjustResourceInfo f → P f
-  adjusted-back-only l r f (level-back e i) = l _ e i
-  adjusted-back-only l r f (range_back w n e i) = r _ w n e i
+  adjusted_back_only l r f (level_back e i) = l _ e i
+  adjusted_back_only l r f (range_back w n e i) = r _ w n e i
 
   -- registrations and requests give nothing back
-  pub register-keeps : (f : Fact) → GivenBack h p registerClient f → P f
-  register-keeps f = elim [ ]
+  pub register_keeps : (f : Fact) → GivenBack h p register_client f → P f
+  register_keeps f = elim [ ]
 
-  pub request-mask-keeps : (f : Fact) → GivenBack h p requestSocketMask f → P f
-  request-mask-keeps f = elim [ ]
+  pub request_mask_keeps : (f : Fact) → GivenBack h p requestSocketMask f → P f
+  request_mask_keeps f = elim [ ]
 
-  pub request-io-keeps : (f : Fact) → GivenBack h p requestIo f → P f
-  request-io-keeps f = elim [ ]
+  pub request_io_keeps : (f : Fact) → GivenBack h p requestIo f → P f
+  request_io_keeps f = elim [ ]
 
-  pub request-irq-keeps : (f : Fact) → GivenBack h p requestIrq f → P f
-  request-irq-keeps f = elim [ ]
+  pub request_irq_keeps : (f : Fact) → GivenBack h p requestIrq f → P f
+  request_irq_keeps f = elim [ ]
 
 -- what a boot record makes
-pub recorded-only : {r : Record} (P : Fact → Type 0) → (r.resource ≡ irqLevel → P (level r.base (reserves r.attributes)))
-    → (r.resource ≡ ioRange → P (range (record { base = r.base; count = r.count; reserved = reserves r.attributes })))
+pub recorded_only : {r : Record} (P : Fact → Type 0) → (r.resource ≡ irq_level → P (level r.base (reserves r.attributes)))
+    → (r.resource ≡ io_range → P (range (record { base = r.base; count = r.count; reserved = reserves r.attributes })))
     → (f : Fact) → Recorded r f → P f
-recorded-only P l r f (level-recorded e) = l e
-recorded-only P l r f (range-recorded e) = r e
+recorded_only P l r f (level_recorded e) = l e
+recorded_only P l r f (range_recorded e) = r e

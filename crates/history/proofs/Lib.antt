@@ -29,5 +29,5 @@ pub mod WrongOnce
 pub mod WrongHistory
 pub mod WrongSamples
 pub use Answered.{entries}
-pub use Pinned.{said-once}
-pub use Demand.{demand-3, entry-laws}
+pub use Pinned.{said_once}
+pub use Demand.{demand_3, entry_laws}

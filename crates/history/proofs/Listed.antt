@@ -10,11 +10,11 @@ module _ {A : Type 0} (number : A → ℕ) (one : (x y : A) → number x ≡ num
 
   pub listed : (ys : List A) (x : A) → T (lists ys x) → x ∈ ys
   listed [] x t = t
-  listed (y ∷ ys) x t = marked-or-not (eqb (number x) (number y)) (eqb-true (number x) (number y)) (listed ys x) t
+  listed (y ∷ ys) x t = marked_or_not (eqb (number x) (number y)) (eqb-true (number x) (number y)) (listed ys x) t
     where
-      marked-or-not : (same : Bool) → (same ≡ true → number x ≡ number y) → (T (lists ys x) → x ∈ ys) → T (cond same true (lists ys x)) → x ∈ (y ∷ ys)
-      marked-or-not true e later t = inl (one x y (e refl))
-      marked-or-not false e later t = inr (later t)
+      marked_or_not : (same : Bool) → (same ≡ true → number x ≡ number y) → (T (lists ys x) → x ∈ ys) → T (cond same true (lists ys x)) → x ∈ (y ∷ ys)
+      marked_or_not true e later t = inl (one x y (e refl))
+      marked_or_not false e later t = inr (later t)
 
 -- each of those listed
 module _ {A : Type 0} (P : A → Type 0) where

@@ -1,168 +1,168 @@
 -- Runs for the wrong keepers: what happens before a first grant, on tables of the examples. Assumes nothing.
-use Rattle.facts.proofs.Words.{◌≡◌, refl, inl, inr, List, [], ◌∷◌, ◌++◌, true, false≢true, some, Option·none-ne-some, ℕ, ◌<◌, arith, length}
+use Rattle.facts.proofs.Words.{◌≡◌, refl, inl, inr, List, [], ◌∷◌, ◌++◌, true, false≢true, some, none-ne-some, ℕ, ◌<◌, arith, length}
 use Rattle.facts.proofs.Words.{WellFormed}
-use Rattle.facts.specs.{Code, Success, Facts, IrqGrant, fresh, mostClients, mostIssued, Register, nextHandle, registered as entered, withCard, Wide}
-use Rattle.facts.specs.{Passed, levelAdded, addLevelChecks, addRangeChecks, registerClient, adjustResourceInfo, requestIrq, requestIo, serviceNumber}
-use Rattle.facts.proofs.{card-formed, level-added-formed}
+use Rattle.facts.specs.{Code, Success, Facts, IrqGrant, fresh, most_clients, most_issued, Register, next_handle, registered as entered, with_card, Wide}
+use Rattle.facts.specs.{Passed, level_added, add_level_checks, add_range_checks, register_client, adjustResourceInfo, requestIrq, requestIo, service_number}
+use Rattle.facts.proofs.{card_formed, level_added_formed}
 use Rattle.layout.specs.{image, Accepted}
-use Rattle.layout.proofs.{image-size}
-use Rattle.facts_cases.specs.{done, oneClient, clientPacket}
-use Rattle.facts_cases.proofs.{cases, as-left, ◌then◌, ◌nor◌}
-use Rattle.history.specs.{Event, makeFresh, call, cardIn, Keeper, Ours, Runs, FromFresh}
-use Rattle.history.proofs.Answered.{accepted-one}
-use Rattle.history.proofs.Giving.{accepted, serving, serves, left, level-named, range-named}
-use Rattle.history.proofs.OnSockets.{Ready, ready, two-sockets, one-client, for}
-use Rattle.history.proofs.ExampleTables.{idle, irqHeld, ioHeld, idle-ready, irq-ready, packetIrq, packetIo, irqNaming, irq-granted, io-granted}
+use Rattle.layout.proofs.{image_size}
+use Rattle.facts_cases.specs.{done, one_client, client_packet}
+use Rattle.facts_cases.proofs.{cases, as_left, ◌then◌, ◌nor◌}
+use Rattle.history.specs.{Event, make_fresh, call, card_in, Keeper, Ours, Runs, FromFresh}
+use Rattle.history.proofs.Answered.{accepted_one}
+use Rattle.history.proofs.Giving.{accepted, serving, serves, left, level_named, range_named}
+use Rattle.history.proofs.OnSockets.{Ready, ready, two_sockets, one_client_lem, for}
+use Rattle.history.proofs.ExampleTables.{idle, irq_held, io_held, idle_ready, irq_ready, packet_irq, packet_io, irq_naming, irq_granted, io_granted}
 
 -- from a fresh table of two sockets
-pub made-two : Ours (makeFresh 2 Success) (image (fresh 2)) (image (fresh 2))
-made-two = inl (record { size = image-size (fresh 2); least = omega arith; most = omega arith }, refl, refl)
+pub made_two : Ours (make_fresh 2 Success) (image (fresh 2)) (image (fresh 2))
+made_two = inl (record { size = image_size (fresh 2); least = omega arith; most = omega arith }, refl, refl)
 
-pub from-two : {K : Keeper} → K (makeFresh 2 Success) (image (fresh 2)) (image (fresh 2)) → (es : List Event) (b : List ℕ)
+pub from_two : {K : Keeper} → K (make_fresh 2 Success) (image (fresh 2)) (image (fresh 2)) → (es : List Event) (b : List ℕ)
     → Runs K (image (fresh 2)) es b → FromFresh K 2 es b
-from-two made es b runs = record { old = image (fresh 2); start = image (fresh 2); made = made; runs = runs }
+from_two made es b runs = record { old = image (fresh 2); start = image (fresh 2); made = made; runs = runs }
 
 -- what a table says is its set of facts
 pub says : {F : Facts} → WellFormed F → (a : Accepted (image F)) → a.facts ≡ F
-says w a = accepted-one a (accepted w)
+says w a = accepted_one a (accepted w)
 
 -- a client registers, cards come in, and the level 3 and all ports are added
 abbrev pub registers : ℕ → Event
-registers h = call (serviceNumber registerClient) 0 clientPacket Success h clientPacket
+registers h = call (service_number register_client) 0 client_packet Success h client_packet
 
-abbrev addLevel : List ℕ
-addLevel = 1 ∷ 2 ∷ 0 ∷ 3 ∷ []
+abbrev add_level : List ℕ
+add_level = 1 ∷ 2 ∷ 0 ∷ 3 ∷ []
 
-abbrev portsAdded : List ℕ
-portsAdded = 0 ∷ 0 ∷ 0 ∷ 0 ∷ 0 ∷ 0 ∷ 1 ∷ 0 ∷ 0 ∷ 16 ∷ []
+abbrev ports_added : List ℕ
+ports_added = 0 ∷ 0 ∷ 0 ∷ 0 ∷ 0 ∷ 0 ∷ 1 ∷ 0 ∷ 0 ∷ 16 ∷ []
 
-abbrev addRange : List ℕ
-addRange = 1 ∷ 1 ∷ portsAdded
+abbrev add_range : List ℕ
+add_range = 1 ∷ 1 ∷ ports_added
 
 abbrev adjusts : List ℕ → Event
-adjusts p = call (serviceNumber adjustResourceInfo) 1 p Success 1 p
+adjusts p = call (service_number adjustResourceInfo) 1 p Success 1 p
 
 abbrev pub before : List Event
-before = registers 1 ∷ cardIn 0 Success ∷ cardIn 1 Success ∷ adjusts addLevel ∷ adjusts addRange ∷ []
+before = registers 1 ∷ card_in 0 Success ∷ card_in 1 Success ∷ adjusts add_level ∷ adjusts add_range ∷ []
 
 -- no socket has an IRQ grant
 abbrev pub Ungranted : Facts → Type 0
 Ungranted F = (s : ℕ) (g : IrqGrant) → F.irq s ≡ some g → ⊥
 
 ungranted : (s : ℕ) (g : IrqGrant) → (fresh 2).irq s ≡ some g → ⊥
-ungranted s g e = Option·none-ne-some g e
+ungranted s g e = none-ne-some g e
 
 -- the tables between, and the steps
-abbrev oneCard : Facts
-oneCard = withCard oneClient 0 true
+abbrev one_card : Facts
+one_card = with_card one_client 0 true
 
 abbrev carded : Facts
-carded = withCard oneCard 1 true
+carded = with_card one_card 1 true
 
 abbrev levelled : Facts
-levelled = levelAdded carded 3 0
+levelled = level_added carded 3 0
 
-one-card-formed : WellFormed oneCard
-one-card-formed = card-formed oneClient one-client.formed 0 true (omega arith)
+one_card_formed : WellFormed one_card
+one_card_formed = card_formed one_client one_client_lem.formed 0 true (omega arith)
 
-carded-formed : WellFormed carded
-carded-formed = card-formed oneCard one-card-formed 1 true (omega arith)
+carded_formed : WellFormed carded
+carded_formed = card_formed one_card one_card_formed 1 true (omega arith)
 
-level-free : Passed (addLevelChecks carded 3 0)
-level-free = (λ e. e (inl refl)) then (omega arith) then false≢true then tt
+level_free : Passed (add_level_checks carded 3 0)
+level_free = (λ e. e (inl refl)) then (omega arith) then false≢true then tt
 
-levelled-formed : WellFormed levelled
-levelled-formed = level-added-formed carded carded-formed 3 0 level-free
+levelled_formed : WellFormed levelled
+levelled_formed = level_added_formed carded carded_formed 3 0 level_free
 
-pub registered : Ours (registers 1) (image (fresh 2)) (image oneClient)
-registered = serves two-sockets registerClient 0 clientPacket (done 1 clientPacket oneClient) tt cases.n10.0.permitted
+pub registered : Ours (registers 1) (image (fresh 2)) (image one_client)
+registered = serves two_sockets register_client 0 client_packet (done 1 client_packet one_client) tt cases.n10.0.permitted
 
-card-in : (s : ℕ) (F : Facts) → WellFormed F → s < F.sockets → Ours (cardIn s Success) (image F) (image (withCard F s true))
-card-in s F w l =
-    record { code = Success; is = refl; permitted = inl (serving w (withCard F s true) (inr ((λ e. omega (arith, e, l)) then tt, (refl, refl)))) }
+card_in_lem : (s : ℕ) (F : Facts) → WellFormed F → s < F.sockets → Ours (card_in s Success) (image F) (image (with_card F s true))
+card_in_lem s F w l =
+    record { code = Success; is = refl; permitted = inl (serving w (with_card F s true) (inr ((λ e. omega (arith, e, l)) then tt, (refl, refl)))) }
 
-level_in : Ours (adjusts addLevel) (image carded) (image levelled)
+level_in : Ours (adjusts add_level) (image carded) (image levelled)
 level_in =
-    serves carded-formed adjustResourceInfo 1 addLevel (done 1 addLevel levelled) tt
-    (inr (level-named 1 0 3 (omega arith), inl (refl, inl (refl, inr (level-free, (refl, as-left _))))))
+    serves carded_formed adjustResourceInfo 1 add_level (done 1 add_level levelled) tt
+    (inr (level_named 1 0 3 (omega arith), inl (refl, inl (refl, inr (level_free, (refl, as_left _))))))
 
-range-in : Ours (adjusts addRange) (image levelled) (image idle)
-range-in =
-    serves levelled-formed adjustResourceInfo 1 addRange (done 1 addRange idle) tt
-    (inr (range-named portsAdded refl, inr (refl, Wide, refl, inl (refl, inr (range-free, (refl, as-left _))))))
+range_in_lem : Ours (adjusts add_range) (image levelled) (image idle)
+range_in_lem =
+    serves levelled_formed adjustResourceInfo 1 add_range (done 1 add_range idle) tt
+    (inr (range_named ports_added refl, inr (refl, Wide, refl, inl (refl, inr (range_free, (refl, as_left _))))))
   where
-    range-free : Passed (addRangeChecks levelled 0 0x10000 0 16)
-    range-free =
+    range_free : Passed (add_range_checks levelled 0 0x10000 0 16)
+    range_free =
         ((λ e. e (inl refl)) nor omega arith) then (omega arith nor omega arith) then (omega arith) then (λ e. e.2.listed) then (omega arith) then tt
 
 -- what is asked for: the level 3, and the ports 300 to 307
-abbrev pub asksIrq : Event
-asksIrq = call (serviceNumber requestIrq) 1 (for 0 packetIrq) Success 1 (for 0 (irqNaming 3 3))
+abbrev pub asks_irq : Event
+asks_irq = call (service_number requestIrq) 1 (for 0 packet_irq) Success 1 (for 0 (irq_naming 3 3))
 
-abbrev pub asksIo : Event
-asksIo = call (serviceNumber requestIo) 1 (for 0 packetIo) Success 1 (for 0 packetIo)
+abbrev pub asks_io : Event
+asks_io = call (service_number requestIo) 1 (for 0 packet_io) Success 1 (for 0 packet_io)
 
-pub irq-step : Ours asksIrq (image idle) (image irqHeld)
-irq-step = serves idle-ready.formed requestIrq 1 (for 0 packetIrq) (done 1 (for 0 (irqNaming 3 3)) irqHeld) tt irq-granted
+pub irq_step : Ours asks_irq (image idle) (image irq_held)
+irq_step = serves idle_ready.formed requestIrq 1 (for 0 packet_irq) (done 1 (for 0 (irq_naming 3 3)) irq_held) tt irq_granted
 
-pub io-step : Ours asksIo (image irqHeld) (image ioHeld)
-io-step = serves irq-ready.formed requestIo 1 (for 0 packetIo) (done 1 (for 0 packetIo) ioHeld) tt io-granted
+pub io_step : Ours asks_io (image irq_held) (image io_held)
+io_step = serves irq_ready.formed requestIo 1 (for 0 packet_io) (done 1 (for 0 packet_io) io_held) tt io_granted
 
 -- a client more registers, where there is room
-pub register-permitted : (F : Facts) → length F.clients < mostClients → F.issued < mostIssued
-    → Register F 0 clientPacket (done (nextHandle F) clientPacket (entered F 4 0))
-register-permitted F room issued =
+pub register_permitted : (F : Facts) → length F.clients < most_clients → F.issued < most_issued
+    → Register F 0 client_packet (done (next_handle F) client_packet (entered F 4 0))
+register_permitted F room issued =
     inr (
       (λ e. e refl)
           then (λ e. e (record { bits = omega arith; type = inr (inr refl) }))
           then (λ e. e (omega arith))
           then ((λ e. omega (arith, e, room)) nor (λ e. omega (arith, e, issued)))
           then tt,
-      (refl, as-left _),
+      (refl, as_left _),
     )
 
 -- a second one
 abbrev pub pair : Facts
 pair = entered idle 4 0
 
-pub second-registered : Ours (registers 2) (image idle) (image pair)
-second-registered =
-    serves idle-ready.formed registerClient 0 clientPacket (done 2 clientPacket pair) tt (register-permitted idle (omega arith) (omega arith))
+pub second_registered : Ours (registers 2) (image idle) (image pair)
+second_registered =
+    serves idle_ready.formed register_client 0 client_packet (done 2 client_packet pair) tt (register_permitted idle (omega arith) (omega arith))
 
-pub pair-formed : WellFormed pair
-pair-formed = left idle-ready.formed registerClient 0 clientPacket (done 2 clientPacket pair) tt (register-permitted idle (omega arith) (omega arith))
+pub pair_formed : WellFormed pair
+pair_formed = left idle_ready.formed register_client 0 client_packet (done 2 client_packet pair) tt (register_permitted idle (omega arith) (omega arith))
 
-pub pair-ready : Ready pair
-pair-ready = ready pair-formed _ (inl refl) refl
+pub pair_ready : Ready pair
+pair_ready = ready pair_formed _ (inl refl) refl
 
 -- a keeper that does the same at cs_fresh, at calls and at card in, where there is no IRQ grant
 abbrev Same : Keeper → Event → Type 0
 Same K e = (F G : Facts) → WellFormed F → Ungranted F → Ours e (image F) (image G) → K e (image F) (image G)
 
 pub record BeginsAlike (K : Keeper) : Type 0 where
-  pub makes : (n : ℕ) (k : Code) → Same K (makeFresh n k)
+  pub makes : (n : ℕ) (k : Code) → Same K (make_fresh n k)
   pub calls : (n h : ℕ) (p : List ℕ) (k : Code) (a : ℕ) (q : List ℕ) → Same K (call n h p k a q)
-  pub cards : (s : ℕ) (k : Code) → Same K (cardIn s k)
+  pub cards : (s : ℕ) (k : Code) → Same K (card_in s k)
 
 -- comes to the table of the examples
-pub set-up : (K : Keeper) → BeginsAlike K → (es : List Event) (b : List ℕ) → Runs K (image idle) es b → FromFresh K 2 (before ++ es) b
-set-up K begins es b rest =
-    let range-step : Runs K (image levelled) (adjusts addRange ∷ es) b =
-    (tt, image idle, begins.calls _ _ _ _ _ _ levelled idle levelled-formed ungranted range-in, rest) in
-    let level-step : Runs K (image carded) (adjusts addLevel ∷ adjusts addRange ∷ es) b =
-    (tt, image levelled, begins.calls _ _ _ _ _ _ carded levelled carded-formed ungranted level_in, range-step) in
-    let card-step : Runs K (image oneCard) (cardIn 1 Success ∷ adjusts addLevel ∷ adjusts addRange ∷ es) b =
-    (tt, image carded, begins.cards _ _ oneCard carded one-card-formed ungranted (card-in 1 oneCard one-card-formed (omega arith)), level-step) in
-    let first-card : Runs K (image oneClient) (cardIn 0 Success ∷ cardIn 1 Success ∷ adjusts addLevel ∷ adjusts addRange ∷ es) b =
-    (tt, image oneCard, begins.cards _ _ oneClient oneCard one-client.formed ungranted (card-in 0 oneClient one-client.formed (omega arith)), card-step) in
-    from-two (begins.makes 2 Success (fresh 2) (fresh 2) two-sockets ungranted made-two) (before ++ es) b
-    (tt, image oneClient, begins.calls _ _ _ _ _ _ (fresh 2) oneClient two-sockets ungranted registered, first-card)
+pub set_up : (K : Keeper) → BeginsAlike K → (es : List Event) (b : List ℕ) → Runs K (image idle) es b → FromFresh K 2 (before ++ es) b
+set_up K begins es b rest =
+    let range-step : Runs K (image levelled) (adjusts add_range ∷ es) b =
+    (tt, image idle, begins.calls _ _ _ _ _ _ levelled idle levelled_formed ungranted range_in_lem, rest) in
+    let level-step : Runs K (image carded) (adjusts add_level ∷ adjusts add_range ∷ es) b =
+    (tt, image levelled, begins.calls _ _ _ _ _ _ carded levelled carded_formed ungranted level_in, range-step) in
+    let card-step : Runs K (image one_card) (card_in 1 Success ∷ adjusts add_level ∷ adjusts add_range ∷ es) b =
+    (tt, image carded, begins.cards _ _ one_card carded one_card_formed ungranted (card_in_lem 1 one_card one_card_formed (omega arith)), level-step) in
+    let first-card : Runs K (image one_client) (card_in 0 Success ∷ card_in 1 Success ∷ adjusts add_level ∷ adjusts add_range ∷ es) b =
+    (tt, image one_card, begins.cards _ _ one_client one_card one_client_lem.formed ungranted (card_in_lem 0 one_client one_client_lem.formed (omega arith)), card-step) in
+    from_two (begins.makes 2 Success (fresh 2) (fresh 2) two_sockets ungranted made_two) (before ++ es) b
+    (tt, image one_client, begins.calls _ _ _ _ _ _ (fresh 2) one_client two_sockets ungranted registered, first-card)
 
 -- and, once the second client is registered, goes on from there
-pub set-up-two : (K : Keeper) → BeginsAlike K → (es : List Event) (b : List ℕ) → Runs K (image pair) es b → FromFresh K 2 (before ++ (registers 2 ∷ es)) b
-set-up-two K begins es b rest =
-    set-up K begins (registers 2 ∷ es) b
-    (tt, image pair, begins.calls _ _ _ _ _ _ idle pair idle-ready.formed ungranted second-registered, rest)
+pub set_up_two : (K : Keeper) → BeginsAlike K → (es : List Event) (b : List ℕ) → Runs K (image pair) es b → FromFresh K 2 (before ++ (registers 2 ∷ es)) b
+set_up_two K begins es b rest =
+    set_up K begins (registers 2 ∷ es) b
+    (tt, image pair, begins.calls _ _ _ _ _ _ idle pair idle_ready.formed ungranted second_registered, rest)
 
-pub ours-begins : BeginsAlike Ours
-ours-begins = record { makes = λ n k F G w free s. s; calls = λ n h p k a q F G w free s. s; cards = λ t k F G w free s. s }
+pub ours_begins : BeginsAlike Ours
+ours_begins = record { makes = λ n k F G w free s. s; calls = λ n h p k a q F G w free s. s; cards = λ t k F G w free s. s }

@@ -6,25 +6,25 @@ use Rattle.history.specs.{Event, Fact, Makes, GivesBack, Lasts, StandsSince}
 use Rattle.history.specs.Stands.{Stands}
 
 module _ (f : Fact) where
-  lasts-more : (e : Event) (es : List Event) → (GivesBack e f → ⊥) → Lasts es f → Lasts (e ∷ es) f
-  lasts-more e es kept lasts x = ⊎_elim (λ i back. kept (subst (λ (y : Event). GivesBack y f) i back)) (lasts x)
+  lasts_more : (e : Event) (es : List Event) → (GivesBack e f → ⊥) → Lasts es f → Lasts (e ∷ es) f
+  lasts_more e es kept lasts x = ⊎_elim (λ i back. kept (subst (λ (y : Event). GivesBack y f) i back)) (lasts x)
 
   stands_here : (e : Event) (es : List Event) → Makes e f → Lasts es f → Stands (e ∷ es) f
   stands_here e es made lasts = record { earlier = []; maker = e; later = es; are = refl; made = made; lasts = lasts }
 
-  stands-later : (e : Event) {es : List Event} → Stands es f → Stands (e ∷ es) f
-  stands-later e s =
+  stands_later : (e : Event) {es : List Event} → Stands es f → Stands (e ∷ es) f
+  stands_later e s =
       record { earlier = e ∷ s.earlier; maker = s.maker; later = s.later; are = ap (λ (x : List Event). e ∷ x) s.are; made = s.made; lasts = s.lasts }
 
-  pub stands-never : Stands [] f → ⊥
-  stands-never s = along s.earlier s.are
+  pub stands_never : Stands [] f → ⊥
+  stands_never s = along s.earlier s.are
     where
       along : (xs : List Event) → [] ≡ xs ++ (s.maker ∷ s.later) → ⊥
       along [] e = nil≢cons e
       along (x ∷ xs) e = nil≢cons e
 
-  stands-first : (e : Event) (es : List Event) → Stands (e ∷ es) f → (Makes e f × Lasts es f) ⊎ Stands es f
-  stands-first e es s = along s.earlier s.are
+  stands_first : (e : Event) (es : List Event) → Stands (e ∷ es) f → (Makes e f × Lasts es f) ⊎ Stands es f
+  stands_first e es s = along s.earlier s.are
     where
       along : (xs : List Event) → (e ∷ es) ≡ xs ++ (s.maker ∷ s.later) → (Makes e f × Lasts es f) ⊎ Stands es f
       along [] i =
@@ -36,20 +36,20 @@ module _ (f : Fact) where
           inr (record { earlier = xs; maker = s.maker; later = s.later; are = tail-eq_of_cons-eq i; made = s.made; lasts = s.lasts })
 
   -- the last event of a log made it, or it stood before that and wasn't given back by it
-  pub stands-last : (es : List Event) (e : Event) → Stands (es ++ (e ∷ [])) f → Makes e f ⊎ (Stands es f × (GivesBack e f → ⊥))
-  stands-last [] e s = ⊎_elim (λ m. inl m.0) (λ t. absurd (stands-never t)) (stands-first e [] s)
-  stands-last (x ∷ es) e s =
+  pub stands_last : (es : List Event) (e : Event) → Stands (es ++ (e ∷ [])) f → Makes e f ⊎ (Stands es f × (GivesBack e f → ⊥))
+  stands_last [] e s = ⊎_elim (λ m. inl m.0) (λ t. absurd (stands_never t)) (stands_first e [] s)
+  stands_last (x ∷ es) e s =
       ⊎_elim
       (λ m. inr (
         stands_here x es m.0 (λ y i. m.1 y (in_left y es (e ∷ []) i)),
         m.1 e (in_right e es (e ∷ []) (inl refl)),
       ))
-      (λ t. ⊎_elim inl (λ y. inr (stands-later x y.0, y.1)) (stands-last es e t))
-      (stands-first x (es ++ (e ∷ [])) s)
+      (λ t. ⊎_elim inl (λ y. inr (stands_later x y.0, y.1)) (stands_last es e t))
+      (stands_first x (es ++ (e ∷ [])) s)
 
-  pub last-stands : (es : List Event) (e : Event) → Makes e f ⊎ (Stands es f × (GivesBack e f → ⊥)) → Stands (es ++ (e ∷ [])) f
-  last-stands es e (inl m) = record { earlier = es; maker = e; later = []; are = refl; made = m; lasts = λ y i. absurd i }
-  last-stands es e (inr (s, kept)) =
+  pub last_stands : (es : List Event) (e : Event) → Makes e f ⊎ (Stands es f × (GivesBack e f → ⊥)) → Stands (es ++ (e ∷ [])) f
+  last_stands es e (inl m) = record { earlier = es; maker = e; later = []; are = refl; made = m; lasts = λ y i. absurd i }
+  last_stands es e (inr (s, kept)) =
       record {
         earlier = s.earlier;
         maker = s.maker;
@@ -62,10 +62,10 @@ module _ (f : Fact) where
 
 -- the first event of a run, where P holds before it and Q after it
 module _ (P Q : Fact → Type 0) (e : Event) (f : Fact) (turned : Q f ↔ (Makes e f ⊎ (P f × (GivesBack e f → ⊥)))) (es : List Event) where
-  pub since-first : StandsSince Q es f → StandsSince P (e ∷ es) f
-  since-first (inl s) = inl (stands-later f e s)
-  since-first (inr (q, lasts)) = ⊎_elim (λ m. inl (stands_here f e es m lasts)) (λ p. inr (p.0, lasts-more f e es p.1 lasts)) (turned.0 q)
+  pub since_first : StandsSince Q es f → StandsSince P (e ∷ es) f
+  since_first (inl s) = inl (stands_later f e s)
+  since_first (inr (q, lasts)) = ⊎_elim (λ m. inl (stands_here f e es m lasts)) (λ p. inr (p.0, lasts_more f e es p.1 lasts)) (turned.0 q)
 
-  pub first-since : StandsSince P (e ∷ es) f → StandsSince Q es f
-  first-since (inl s) = ⊎_elim (λ m. inr (turned.1 (inl m.0), m.1)) inl (stands-first f e es s)
-  first-since (inr (p, lasts)) = inr (turned.1 (inr (p, lasts e (inl refl))), λ x m. lasts x (inr m))
+  pub first_since : StandsSince P (e ∷ es) f → StandsSince Q es f
+  first_since (inl s) = ⊎_elim (λ m. inr (turned.1 (inl m.0), m.1)) inl (stands_first f e es s)
+  first_since (inr (p, lasts)) = inr (turned.1 (inr (p, lasts e (inl refl))), λ x m. lasts x (inr m))

@@ -72,19 +72,19 @@ kind (io s g) = 5
 kind (irq s g) = 6
 
 -- and so do facts of different clients
-abbrev pub clientIn : Fact → ℕ
-clientIn (client h a e) = h
-clientIn (mask h s e) = h
-clientIn (level n v) = 0
-clientIn (range x) = 0
-clientIn (card s) = 0
-clientIn (io s g) = g.client
-clientIn (irq s g) = g.client
+abbrev pub client_in : Fact → ℕ
+client_in (client h a e) = h
+client_in (mask h s e) = h
+client_in (level n v) = 0
+client_in (range x) = 0
+client_in (card s) = 0
+client_in (io s g) = g.client
+client_in (irq s g) = g.client
 
 -- x is put in the place k: B and N say what is given back there and what is made, where y stands
-pub put-turned : {A : Type 0} (f : ℕ → A) (k : ℕ) (x y : A) (B N : ℕ → Type 0) → (f k ≡ y → B k ⊎ (x ≡ y)) → (x ≡ y → N k ⊎ (f k ≡ y)) → (j : ℕ)
+pub put_turned : {A : Type 0} (f : ℕ → A) (k : ℕ) (x y : A) (B N : ℕ → Type 0) → (f k ≡ y → B k ⊎ (x ≡ y)) → (x ≡ y → N k ⊎ (f k ≡ y)) → (j : ℕ)
     → (f j ≡ y → B j ⊎ (put f k x j ≡ y)) × (put f k x j ≡ y → N j ⊎ (f j ≡ y))
-put-turned {A} f k x y B N back new j = either_way (put_is f k x j)
+put_turned {A} f k x y B N back new j = either_way (put_is f k x j)
   where
     either_way : ((j ≡ k) × (put f k x j ≡ x)) ⊎ ((j ≡ k → ⊥) × (put f k x j ≡ f j)) → (f j ≡ y → B j ⊎ (put f k x j ≡ y)) × (put f k x j ≡ y → N j ⊎ (f j ≡ y))
     either_way (inl (here, is)) =

@@ -1,17 +1,17 @@
 -- Keepers that are wrong once: each does as this keeper, and permits one event more. What that event breaks is one part of a law over all entries.
 -- Assumes nothing.
 use Rattle.facts.proofs.Words.{◌≡◌, refl, subst, ◌⊎◌, inl, inr, ◌≢◌, List, [], ◌∷◌, ℕ, ◌+◌, ◌*◌, ◌<◌, arith, length, WellFormed}
-use Rattle.facts.specs.{Code, Success, BadBase, BadIrq, GeneralFailure, InUse, number_of, Facts, ◌∈◌, Passed, Fits, NoLevelFits, assignedIrq}
-use Rattle.facts.specs.{irqAheadChecks, NotAllManaged, InTheWay, Candidate, NoCandidate, baseAsked, ioAheadChecks, recordSize, recordsIn}
-use Rattle.facts.specs.{recordsAdded, Service, requestIrq, requestIo, serviceNumber, Serves, allLevels, mostRanges, ioAsked, irqAsked}
-use Rattle.facts.proofs.{code-byte}
+use Rattle.facts.specs.{Code, Success, BadBase, BadIrq, GeneralFailure, InUse, number_of, Facts, ◌∈◌, Passed, Fits, NoLevelFits, assigned_irq}
+use Rattle.facts.specs.{irq_ahead_checks, NotAllManaged, InTheWay, Candidate, NoCandidate, base_asked_lem, io_ahead_checks, record_size, records_in}
+use Rattle.facts.specs.{records_added, Service, requestIrq, requestIo, service_number, Serves, all_levels, most_ranges, io_asked, irq_asked}
+use Rattle.facts.proofs.{code_byte}
 use Rattle.layout.specs.{image, Accepted}
-use Rattle.history.specs.{Event, given, code_in, makeFresh, call, cardIn, cardOut, boot, sharers, Keeper, Ours, Fact, Makes, Tells, Between}
-use Rattle.history.specs.{Asked, service, no-service, card-in, card-out, boot-list, sharers-of, fresh-table, codes_of, CanGive, OneOutcome}
+use Rattle.history.specs.{Event, given, code_in, make_fresh, call, card_in, cardOut, boot, sharers, Keeper, Ours, Fact, Makes, Tells, Between}
+use Rattle.history.specs.{Asked, service, no_service, card_in_lem, card_out, boot-list, sharers-of, fresh-table, codes_of, CanGive, OneOutcome}
 use Rattle.history.specs.{AddsRecords, RefusalKeeps, Unformed, UnformedRefused, Stays, BootPlaces, RefusedExactly, ExactCodes, TheCodes}
 use Rattle.history.specs.{fifteen}
 use Rattle.history.proofs.Giving.{accepted}
-use Rattle.history.proofs.Examples.{none-serves}
+use Rattle.history.proofs.Examples.{none_serves}
 use Rattle.history.proofs.SampleRuns.{says}
 
 -- besides what this keeper permits, the event e₀ may find the bytes b₀ and leave the bytes b₀'
@@ -22,58 +22,58 @@ pub besides : (e : Event) (b b' : List ℕ) → Besides e b b' e b b'
 besides e b b' = inr (refl, refl, refl)
 
 -- OneOutcome: another answer, or another table left, whatever the entry
-pub other-outcome-wrong : (e e' : Event) (b b₁ b₂ : List ℕ) → given e ≡ given e' → Ours e b b₁ → ((e ≡ e') × (b₁ ≡ b₂) → ⊥)
+pub other_outcome_wrong : (e e' : Event) (b b₁ b₂ : List ℕ) → given e ≡ given e' → Ours e b b₁ → ((e ≡ e') × (b₁ ≡ b₂) → ⊥)
     → OneOutcome (Besides e' b b₂) → ⊥
-other-outcome-wrong e e' b b₁ b₂ same ours differ x = differ (x e e' b b₁ b₂ same (inl ours) (besides e' b b₂))
+other_outcome_wrong e e' b b₁ b₂ same ours differ x = differ (x e e' b b₁ b₂ same (inl ours) (besides e' b b₂))
 
 -- so at each entry: the same is given, and something that was answered is another, or the table is
 abbrev OtherWrong : Event → Event → Type 0
 OtherWrong e e' = (b b₁ b₂ : List ℕ) → Ours e b b₁ → ((e ≡ e') × (b₁ ≡ b₂) → ⊥) → OneOutcome (Besides e' b b₂) → ⊥
 
-pub other-fresh-wrong : (n : ℕ) (k k' : Code) → OtherWrong (makeFresh n k) (makeFresh n k')
-other-fresh-wrong n k k' b b₁ b₂ = other-outcome-wrong (makeFresh n k) (makeFresh n k') b b₁ b₂ refl
+pub other_fresh_wrong : (n : ℕ) (k k' : Code) → OtherWrong (make_fresh n k) (make_fresh n k')
+other_fresh_wrong n k k' b b₁ b₂ = other_outcome_wrong (make_fresh n k) (make_fresh n k') b b₁ b₂ refl
 
-pub other-call-wrong : (n h : ℕ) (p : List ℕ) (k k' : Code) (a a' : ℕ) (q q' : List ℕ) → OtherWrong (call n h p k a q) (call n h p k' a' q')
-other-call-wrong n h p k k' a a' q q' b b₁ b₂ = other-outcome-wrong (call n h p k a q) (call n h p k' a' q') b b₁ b₂ refl
+pub other_call_wrong : (n h : ℕ) (p : List ℕ) (k k' : Code) (a a' : ℕ) (q q' : List ℕ) → OtherWrong (call n h p k a q) (call n h p k' a' q')
+other_call_wrong n h p k k' a a' q q' b b₁ b₂ = other_outcome_wrong (call n h p k a q) (call n h p k' a' q') b b₁ b₂ refl
 
-pub other-card-in-wrong : (s : ℕ) (k k' : Code) → OtherWrong (cardIn s k) (cardIn s k')
-other-card-in-wrong s k k' b b₁ b₂ = other-outcome-wrong (cardIn s k) (cardIn s k') b b₁ b₂ refl
+pub other_card_in_wrong : (s : ℕ) (k k' : Code) → OtherWrong (card_in s k) (card_in s k')
+other_card_in_wrong s k k' b b₁ b₂ = other_outcome_wrong (card_in s k) (card_in s k') b b₁ b₂ refl
 
-pub other-card-out-wrong : (s : ℕ) (k k' : Code) → OtherWrong (cardOut s k) (cardOut s k')
-other-card-out-wrong s k k' b b₁ b₂ = other-outcome-wrong (cardOut s k) (cardOut s k') b b₁ b₂ refl
+pub other_card_out_wrong : (s : ℕ) (k k' : Code) → OtherWrong (cardOut s k) (cardOut s k')
+other_card_out_wrong s k k' b b₁ b₂ = other_outcome_wrong (cardOut s k) (cardOut s k') b b₁ b₂ refl
 
-pub other-boot-wrong : (r : List ℕ) (k k' : Code) (i i' : ℕ) → OtherWrong (boot r k i) (boot r k' i')
-other-boot-wrong r k k' i i' b b₁ b₂ = other-outcome-wrong (boot r k i) (boot r k' i') b b₁ b₂ refl
+pub other_boot_wrong : (r : List ℕ) (k k' : Code) (i i' : ℕ) → OtherWrong (boot r k i) (boot r k' i')
+other_boot_wrong r k k' i i' b b₁ b₂ = other_outcome_wrong (boot r k i) (boot r k' i') b b₁ b₂ refl
 
-pub other-sharers-wrong : (l : ℕ) (k k' : Code) (c c' : ℕ) → OtherWrong (sharers l k c) (sharers l k' c')
-other-sharers-wrong l k k' c c' b b₁ b₂ = other-outcome-wrong (sharers l k c) (sharers l k' c') b b₁ b₂ refl
+pub other_sharers_wrong : (l : ℕ) (k k' : Code) (c c' : ℕ) → OtherWrong (sharers l k c) (sharers l k' c')
+other_sharers_wrong l k k' c c' b b₁ b₂ = other_outcome_wrong (sharers l k c) (sharers l k' c') b b₁ b₂ refl
 
 -- RefusalKeeps: a refusal that answers a handle or a count, rewrites the packet, or writes in the table
 module _ (k : Code) (refused : k ≢ Success) (b b' : List ℕ) where
-  pub handle-answered-wrong : (n h a : ℕ) (p q : List ℕ) → a ≢ 0 → RefusalKeeps (Besides (call n h p k a q) b b') → ⊥
-  handle-answered-wrong n h a p q d x = d (x _ b b' (besides (call n h p k a q) b b') refused).0
+  pub handle_answered_wrong : (n h a : ℕ) (p q : List ℕ) → a ≢ 0 → RefusalKeeps (Besides (call n h p k a q) b b') → ⊥
+  handle_answered_wrong n h a p q d x = d (x _ b b' (besides (call n h p k a q) b b') refused).0
 
-  pub packet-rewritten-wrong : (n h a : ℕ) (p q : List ℕ) → q ≢ p → RefusalKeeps (Besides (call n h p k a q) b b') → ⊥
-  packet-rewritten-wrong n h a p q d x = d (x _ b b' (besides (call n h p k a q) b b') refused).1
+  pub packet_rewritten_wrong : (n h a : ℕ) (p q : List ℕ) → q ≢ p → RefusalKeeps (Besides (call n h p k a q) b b') → ⊥
+  packet_rewritten_wrong n h a p q d x = d (x _ b b' (besides (call n h p k a q) b b') refused).1
 
-  pub call-writes-wrong : (n h a : ℕ) (p q : List ℕ) → b' ≢ b → RefusalKeeps (Besides (call n h p k a q) b b') → ⊥
-  call-writes-wrong n h a p q d x = d (x _ b b' (besides (call n h p k a q) b b') refused).2
+  pub call_writes_wrong : (n h a : ℕ) (p q : List ℕ) → b' ≢ b → RefusalKeeps (Besides (call n h p k a q) b b') → ⊥
+  call_writes_wrong n h a p q d x = d (x _ b b' (besides (call n h p k a q) b b') refused).2
 
-  pub card-in-writes-wrong : (s : ℕ) → b' ≢ b → RefusalKeeps (Besides (cardIn s k) b b') → ⊥
-  card-in-writes-wrong s d x = d (x _ b b' (besides (cardIn s k) b b') refused)
+  pub card_in_writes_wrong : (s : ℕ) → b' ≢ b → RefusalKeeps (Besides (card_in s k) b b') → ⊥
+  card_in_writes_wrong s d x = d (x _ b b' (besides (card_in s k) b b') refused)
 
-  pub card-out-writes-wrong : (s : ℕ) → b' ≢ b → RefusalKeeps (Besides (cardOut s k) b b') → ⊥
-  card-out-writes-wrong s d x = d (x _ b b' (besides (cardOut s k) b b') refused)
+  pub card_out_writes_wrong : (s : ℕ) → b' ≢ b → RefusalKeeps (Besides (cardOut s k) b b') → ⊥
+  card_out_writes_wrong s d x = d (x _ b b' (besides (cardOut s k) b b') refused)
 
-  pub fresh-writes-wrong : (n : ℕ) → b' ≢ b → RefusalKeeps (Besides (makeFresh n k) b b') → ⊥
-  fresh-writes-wrong n d x = d (x _ b b' (besides (makeFresh n k) b b') refused)
+  pub fresh_writes_wrong : (n : ℕ) → b' ≢ b → RefusalKeeps (Besides (make_fresh n k) b b') → ⊥
+  fresh_writes_wrong n d x = d (x _ b b' (besides (make_fresh n k) b b') refused)
 
-  pub count-answered-wrong : (l c : ℕ) → c ≢ 0 → RefusalKeeps (Besides (sharers l k c) b b') → ⊥
-  count-answered-wrong l c d x = d ((x _ b b' (besides (sharers l k c) b b')).0 refused)
+  pub count_answered_wrong : (l c : ℕ) → c ≢ 0 → RefusalKeeps (Besides (sharers l k c) b b') → ⊥
+  count_answered_wrong l c d x = d ((x _ b b' (besides (sharers l k c) b b')).0 refused)
 
 -- a question that writes
-pub question-writes-wrong : (l c : ℕ) (k : Code) (b b' : List ℕ) → b' ≢ b → RefusalKeeps (Besides (sharers l k c) b b') → ⊥
-question-writes-wrong l c k b b' d x = d (x _ b b' (besides (sharers l k c) b b')).1
+pub question_writes_wrong : (l c : ℕ) (k : Code) (b b' : List ℕ) → b' ≢ b → RefusalKeeps (Besides (sharers l k c) b b') → ⊥
+question_writes_wrong l c k b b' d x = d (x _ b b' (besides (sharers l k c) b b')).1
 
 -- what holds between the tables of two sets holds between the sets
 pub between : {F G : Facts} → WellFormed F → WellFormed G → (R : Facts → Facts → Type 0) → Between (image F) (image G) R → R F G
@@ -82,190 +82,190 @@ between {F} {G} w w' R x =
 
 -- a boot list that writes in a table that isn't accepted, or leaves one that isn't
 module _ (r : List ℕ) (k : Code) (i : ℕ) (b b' : List ℕ) where
-  pub boot-writes-wrong : (Accepted b → ⊥) → b' ≢ b → RefusalKeeps (Besides (boot r k i) b b') → ⊥
-  boot-writes-wrong none d x = d ((x _ b b' (besides (boot r k i) b b')).0 none)
+  pub boot_writes_wrong : (Accepted b → ⊥) → b' ≢ b → RefusalKeeps (Besides (boot r k i) b b') → ⊥
+  boot_writes_wrong none d x = d ((x _ b b' (besides (boot r k i) b b')).0 none)
 
-  pub boot-leaves-none-wrong : Accepted b → (Accepted b' → ⊥) → RefusalKeeps (Besides (boot r k i) b b') → ⊥
-  boot-leaves-none-wrong a none x = none ((x _ b b' (besides (boot r k i) b b')).1 a).after
+  pub boot_leaves_none_wrong : Accepted b → (Accepted b' → ⊥) → RefusalKeeps (Besides (boot r k i) b b') → ⊥
+  boot_leaves_none_wrong a none x = none ((x _ b b' (besides (boot r k i) b b')).1 a).after
 
 -- one that drops a record, drops a fact that was there, adds one that none of its records makes, or changes a count
 module _ (r : List ℕ) (k : Code) (i : ℕ) {F G : Facts} (w : WellFormed F) (w' : WellFormed G) where
   adds : RefusalKeeps (Besides (boot r k i) (image F) (image G)) → AddsRecords r k i F G
   adds x = between w w' (AddsRecords r k i) ((x _ (image F) (image G) (besides (boot r k i) (image F) (image G))).1 (accepted w))
 
-  pub record-dropped-wrong : (f : Fact) → Makes (boot r k i) f → (Tells G f → ⊥) → RefusalKeeps (Besides (boot r k i) (image F) (image G)) → ⊥
-  record-dropped-wrong f made gone x = gone (((adds x).facts f).1 (inl made))
+  pub record_dropped_wrong : (f : Fact) → Makes (boot r k i) f → (Tells G f → ⊥) → RefusalKeeps (Besides (boot r k i) (image F) (image G)) → ⊥
+  record_dropped_wrong f made gone x = gone (((adds x).facts f).1 (inl made))
 
-  pub fact-dropped-wrong : (f : Fact) → Tells F f → (Tells G f → ⊥) → RefusalKeeps (Besides (boot r k i) (image F) (image G)) → ⊥
-  fact-dropped-wrong f had gone x = gone (((adds x).facts f).1 (inr had))
+  pub fact_dropped_wrong : (f : Fact) → Tells F f → (Tells G f → ⊥) → RefusalKeeps (Besides (boot r k i) (image F) (image G)) → ⊥
+  fact_dropped_wrong f had gone x = gone (((adds x).facts f).1 (inr had))
 
-  pub fact-added-wrong : (f : Fact) → (Makes (boot r k i) f ⊎ Tells F f → ⊥) → Tells G f → RefusalKeeps (Besides (boot r k i) (image F) (image G)) → ⊥
-  fact-added-wrong f never told x = never (((adds x).facts f).0 told)
+  pub fact_added_wrong : (f : Fact) → (Makes (boot r k i) f ⊎ Tells F f → ⊥) → Tells G f → RefusalKeeps (Besides (boot r k i) (image F) (image G)) → ⊥
+  fact_added_wrong f never told x = never (((adds x).facts f).0 told)
 
-  pub boot-issues-wrong : G.issued ≢ F.issued → RefusalKeeps (Besides (boot r k i) (image F) (image G)) → ⊥
-  boot-issues-wrong d x = d (adds x).issued
+  pub boot_issues_wrong : G.issued ≢ F.issued → RefusalKeeps (Besides (boot r k i) (image F) (image G)) → ⊥
+  boot_issues_wrong d x = d (adds x).issued
 
-  pub boot-sockets-wrong : G.sockets ≢ F.sockets → RefusalKeeps (Besides (boot r k i) (image F) (image G)) → ⊥
-  boot-sockets-wrong d x = d (adds x).sockets
+  pub boot_sockets_wrong : G.sockets ≢ F.sockets → RefusalKeeps (Besides (boot r k i) (image F) (image G)) → ⊥
+  boot_sockets_wrong d x = d (adds x).sockets
 
 -- UnformedRefused: another code on a table that isn't accepted, by any entry but cs_fresh; another place than 0
-unformed-code : (e : Event) → ((n : ℕ) (k : Code) → e ≢ makeFresh n k) → Unformed e → code_in e ≡ GeneralFailure
-unformed-code (makeFresh n k) other u = absurd (other n k refl)
-unformed-code (call n h p k a q) other u = u
-unformed-code (cardIn s k) other u = u
-unformed-code (cardOut s k) other u = u
-unformed-code (boot r k i) other u = u.0
-unformed-code (sharers l k c) other u = u
+unformed_code : (e : Event) → ((n : ℕ) (k : Code) → e ≢ make_fresh n k) → Unformed e → code_in e ≡ GeneralFailure
+unformed_code (make_fresh n k) other u = absurd (other n k refl)
+unformed_code (call n h p k a q) other u = u
+unformed_code (card_in s k) other u = u
+unformed_code (cardOut s k) other u = u
+unformed_code (boot r k i) other u = u.0
+unformed_code (sharers l k c) other u = u
 
-pub unformed-served-wrong : (e : Event) (b b' : List ℕ) → ((n : ℕ) (k : Code) → e ≢ makeFresh n k) → (Accepted b → ⊥) → code_in e ≢ GeneralFailure
+pub unformed_served_wrong : (e : Event) (b b' : List ℕ) → ((n : ℕ) (k : Code) → e ≢ make_fresh n k) → (Accepted b → ⊥) → code_in e ≢ GeneralFailure
     → UnformedRefused (Besides e b b') → ⊥
-unformed-served-wrong e b b' other none d x = d (unformed-code e other (x e b b' (besides e b b') none))
+unformed_served_wrong e b b' other none d x = d (unformed_code e other (x e b b' (besides e b b') none))
 
-pub unformed-place-wrong : (r : List ℕ) (k : Code) (i : ℕ) (b b' : List ℕ) → (Accepted b → ⊥) → i ≢ 0 → UnformedRefused (Besides (boot r k i) b b') → ⊥
-unformed-place-wrong r k i b b' none d x = d (x _ b b' (besides (boot r k i) b b') none).1
+pub unformed_place_wrong : (r : List ℕ) (k : Code) (i : ℕ) (b b' : List ℕ) → (Accepted b → ⊥) → i ≢ 0 → UnformedRefused (Besides (boot r k i) b b') → ⊥
+unformed_place_wrong r k i b b' none d x = d (x _ b b' (besides (boot r k i) b b') none).1
 
 -- Stays: an accepted table lost
-pub table-lost-wrong : (e : Event) (b b' : List ℕ) → Accepted b → (Accepted b' → ⊥) → Stays (Besides e b b') → ⊥
-table-lost-wrong e b b' a none x = none (x e b b' (besides e b b') a)
+pub table_lost_wrong : (e : Event) (b b' : List ℕ) → Accepted b → (Accepted b' → ⊥) → Stays (Besides e b b') → ⊥
+table_lost_wrong e b b' a none x = none (x e b b' (besides e b b') a)
 
 -- BootPlaces: SUCCESS in the middle of the list; a place past its end, or past all that can be added; another table than that of the records before it
 module _ (r : List ℕ) (i : ℕ) (b b' : List ℕ) where
-  pub success-early-wrong : length r ≢ i * recordSize → BootPlaces (Besides (boot r Success i) b b') → ⊥
-  success-early-wrong d x = d (x.success r i b b' (besides (boot r Success i) b b'))
+  pub success_early_wrong : length r ≢ i * record_size → BootPlaces (Besides (boot r Success i) b b') → ⊥
+  success_early_wrong d x = d (x.success r i b b' (besides (boot r Success i) b b'))
 
-  pub place-past-end-wrong : (k : Code) → length r < i * recordSize → BootPlaces (Besides (boot r k i) b b') → ⊥
-  place-past-end-wrong k l x = omega (arith, l, x.within r k i b b' (besides (boot r k i) b b'))
+  pub place_past_end_wrong : (k : Code) → length r < i * record_size → BootPlaces (Besides (boot r k i) b b') → ⊥
+  place_past_end_wrong k l x = omega (arith, l, x.within r k i b b' (besides (boot r k i) b b'))
 
-  pub place-past-all-wrong : (k : Code) → allLevels + mostRanges < i → BootPlaces (Besides (boot r k i) b b') → ⊥
-  place-past-all-wrong k l x = omega (arith, l, x.most r k i b b' (besides (boot r k i) b b'))
+  pub place_past_all_wrong : (k : Code) → all_levels + most_ranges < i → BootPlaces (Besides (boot r k i) b b') → ⊥
+  place_past_all_wrong k l x = omega (arith, l, x.most r k i b b' (besides (boot r k i) b b'))
 
-  pub other-records-wrong : (k : Code) (a : Accepted b) → b' ≢ image (recordsAdded a.facts (recordsIn i r)) → BootPlaces (Besides (boot r k i) b b') → ⊥
-  other-records-wrong k a d x = d (x.leaves r k i b b' (besides (boot r k i) b b') a)
+  pub other_records_wrong : (k : Code) (a : Accepted b) → b' ≢ image (records_added a.facts (records_in i r)) → BootPlaces (Besides (boot r k i) b b') → ⊥
+  other_records_wrong k a d x = d (x.leaves r k i b b' (besides (boot r k i) b b') a)
 
 -- RefusedExactly: RequestIRQ granted although no level fits, refused although one does, refused for that with another code, with BAD_IRQ although
 -- one fits, granted a level that doesn't fit
-module _ (h : ℕ) (p : List ℕ) (a : ℕ) (q b b' : List ℕ) (t : Accepted b) (passed : Passed (irqAheadChecks t.facts h p [])) where
+module _ (h : ℕ) (p : List ℕ) (a : ℕ) (q b b' : List ℕ) (t : Accepted b) (passed : Passed (irq_ahead_checks t.facts h p [])) where
   abbrev AnswersIrq : Code → Keeper
-  AnswersIrq k = Besides (call (serviceNumber requestIrq) h p k a q) b b'
+  AnswersIrq k = Besides (call (service_number requestIrq) h p k a q) b b'
 
-  answers-irq : (k : Code) → AnswersIrq k (call (serviceNumber requestIrq) h p k a q) b b'
-  answers-irq k = besides (call (serviceNumber requestIrq) h p k a q) b b'
+  answers_irq : (k : Code) → AnswersIrq k (call (service_number requestIrq) h p k a q) b b'
+  answers_irq k = besides (call (service_number requestIrq) h p k a q) b b'
 
-  pub unfit-granted-wrong : NoLevelFits t.facts (irqAsked p) → RefusedExactly (AnswersIrq Success) → ⊥
-  unfit-granted-wrong none x = (x.irq h p Success a q b b' t passed (answers-irq Success)).1 none refl
+  pub unfit_granted_wrong : NoLevelFits t.facts (irq_asked p) → RefusedExactly (AnswersIrq Success) → ⊥
+  unfit_granted_wrong none x = (x.irq h p Success a q b b' t passed (answers_irq Success)).1 none refl
 
-  pub fit-refused-wrong : (k : Code) → k ≢ Success → (NoLevelFits t.facts (irqAsked p) → ⊥) → RefusedExactly (AnswersIrq k) → ⊥
-  fit-refused-wrong k refused fits x = fits ((x.irq h p k a q b b' t passed (answers-irq k)).0 refused)
+  pub fit_refused_wrong : (k : Code) → k ≢ Success → (NoLevelFits t.facts (irq_asked p) → ⊥) → RefusedExactly (AnswersIrq k) → ⊥
+  fit_refused_wrong k refused fits x = fits ((x.irq h p k a q b b' t passed (answers_irq k)).0 refused)
 
-  pub unfit-code-wrong : (k : Code) → k ≢ BadIrq → NoLevelFits t.facts (irqAsked p) → RefusedExactly (AnswersIrq k) → ⊥
-  unfit-code-wrong k other none x = other ((x.irq-code h p k a q b b' t passed (answers-irq k)).1 none)
+  pub unfit_code_wrong : (k : Code) → k ≢ BadIrq → NoLevelFits t.facts (irq_asked p) → RefusedExactly (AnswersIrq k) → ⊥
+  unfit_code_wrong k other none x = other ((x.irq_code h p k a q b b' t passed (answers_irq k)).1 none)
 
-  pub fit-bad-irq-wrong : (NoLevelFits t.facts (irqAsked p) → ⊥) → RefusedExactly (AnswersIrq BadIrq) → ⊥
-  fit-bad-irq-wrong fits x = fits ((x.irq-code h p BadIrq a q b b' t passed (answers-irq BadIrq)).0 refl)
+  pub fit_bad_irq_wrong : (NoLevelFits t.facts (irq_asked p) → ⊥) → RefusedExactly (AnswersIrq BadIrq) → ⊥
+  fit_bad_irq_wrong fits x = fits ((x.irq_code h p BadIrq a q b b' t passed (answers_irq BadIrq)).0 refl)
 
-  pub other-level-written-wrong : (Fits t.facts (irqAsked p) (assignedIrq q) → ⊥) → RefusedExactly (AnswersIrq Success) → ⊥
-  other-level-written-wrong unfit x = unfit (x.irq-fits h p Success a q b b' t passed (answers-irq Success) refl)
+  pub other_level_written_wrong : (Fits t.facts (irq_asked p) (assigned_irq q) → ⊥) → RefusedExactly (AnswersIrq Success) → ⊥
+  other_level_written_wrong unfit x = unfit (x.irq_fits h p Success a q b b' t passed (answers_irq Success) refl)
 
-module _ (h : ℕ) (p : List ℕ) (a : ℕ) (q b b' : List ℕ) (t : Accepted b) (passed : Passed (ioAheadChecks t.facts h p [])) where
+module _ (h : ℕ) (p : List ℕ) (a : ℕ) (q b b' : List ℕ) (t : Accepted b) (passed : Passed (io_ahead_checks t.facts h p [])) where
   abbrev AnswersIo : Code → Keeper
-  AnswersIo k = Besides (call (serviceNumber requestIo) h p k a q) b b'
+  AnswersIo k = Besides (call (service_number requestIo) h p k a q) b b'
 
-  answers-io : (k : Code) → AnswersIo k (call (serviceNumber requestIo) h p k a q) b b'
-  answers-io k = besides (call (serviceNumber requestIo) h p k a q) b b'
+  answers_io : (k : Code) → AnswersIo k (call (service_number requestIo) h p k a q) b b'
+  answers_io k = besides (call (service_number requestIo) h p k a q) b b'
 
   -- RequestIO with a named base: granted although it isn't all managed or a grant is in the way, refused although neither is so; BAD_BASE although
   -- all is managed, another code where it isn't; IN_USE where it isn't all managed or nothing is in the way, another code where something is;
   -- another base written
-  module _ (named : baseAsked p ≢ 0) where
-    pub barred-granted-wrong : NotAllManaged t.facts (ioAsked p) ⊎ InTheWay t.facts (ioAsked p) → RefusedExactly (AnswersIo Success) → ⊥
-    barred-granted-wrong bars x = (x.io-named h p Success a q b b' t passed (answers-io Success) named).1 bars refl
+  module _ (named : base_asked_lem p ≢ 0) where
+    pub barred_granted_wrong : NotAllManaged t.facts (io_asked p) ⊎ InTheWay t.facts (io_asked p) → RefusedExactly (AnswersIo Success) → ⊥
+    barred_granted_wrong bars x = (x.io_named h p Success a q b b' t passed (answers_io Success) named).1 bars refl
 
-    pub clear-refused-wrong : (k : Code) → k ≢ Success → (NotAllManaged t.facts (ioAsked p) ⊎ InTheWay t.facts (ioAsked p) → ⊥) → RefusedExactly (AnswersIo k) → ⊥
-    clear-refused-wrong k refused clear x = clear ((x.io-named h p k a q b b' t passed (answers-io k) named).0 refused)
+    pub clear_refused_wrong : (k : Code) → k ≢ Success → (NotAllManaged t.facts (io_asked p) ⊎ InTheWay t.facts (io_asked p) → ⊥) → RefusedExactly (AnswersIo k) → ⊥
+    clear_refused_wrong k refused clear x = clear ((x.io_named h p k a q b b' t passed (answers_io k) named).0 refused)
 
-    pub managed-bad-base-wrong : (NotAllManaged t.facts (ioAsked p) → ⊥) → RefusedExactly (AnswersIo BadBase) → ⊥
-    managed-bad-base-wrong managed x = managed ((x.io-base h p BadBase a q b b' t passed (answers-io BadBase) named).0 refl)
+    pub managed_bad_base_wrong : (NotAllManaged t.facts (io_asked p) → ⊥) → RefusedExactly (AnswersIo BadBase) → ⊥
+    managed_bad_base_wrong managed x = managed ((x.io_base h p BadBase a q b b' t passed (answers_io BadBase) named).0 refl)
 
-    pub unmanaged-code-wrong : (k : Code) → k ≢ BadBase → NotAllManaged t.facts (ioAsked p) → RefusedExactly (AnswersIo k) → ⊥
-    unmanaged-code-wrong k other unmanaged x = other ((x.io-base h p k a q b b' t passed (answers-io k) named).1 unmanaged)
+    pub unmanaged_code_wrong : (k : Code) → k ≢ BadBase → NotAllManaged t.facts (io_asked p) → RefusedExactly (AnswersIo k) → ⊥
+    unmanaged_code_wrong k other unmanaged x = other ((x.io_base h p k a q b b' t passed (answers_io k) named).1 unmanaged)
 
-    pub clear-in-use-wrong : ((NotAllManaged t.facts (ioAsked p) → ⊥) × InTheWay t.facts (ioAsked p) → ⊥) → RefusedExactly (AnswersIo InUse) → ⊥
-    clear-in-use-wrong clear x = clear ((x.io-in-use h p InUse a q b b' t passed (answers-io InUse) named).0 refl)
+    pub clear_in_use_wrong : ((NotAllManaged t.facts (io_asked p) → ⊥) × InTheWay t.facts (io_asked p) → ⊥) → RefusedExactly (AnswersIo InUse) → ⊥
+    clear_in_use_wrong clear x = clear ((x.io_in_use h p InUse a q b b' t passed (answers_io InUse) named).0 refl)
 
-    pub in-the-way-code-wrong : (k : Code) → k ≢ InUse → (NotAllManaged t.facts (ioAsked p) → ⊥) → InTheWay t.facts (ioAsked p) → RefusedExactly (AnswersIo k) → ⊥
-    in-the-way-code-wrong k other managed way x = other ((x.io-in-use h p k a q b b' t passed (answers-io k) named).1 (managed, way))
+    pub in_the_way_code_wrong : (k : Code) → k ≢ InUse → (NotAllManaged t.facts (io_asked p) → ⊥) → InTheWay t.facts (io_asked p) → RefusedExactly (AnswersIo k) → ⊥
+    in_the_way_code_wrong k other managed way x = other ((x.io_in_use h p k a q b b' t passed (answers_io k) named).1 (managed, way))
 
-    pub other-base-written-wrong : (k : Code) → baseAsked q ≢ baseAsked p → RefusedExactly (AnswersIo k) → ⊥
-    other-base-written-wrong k d x = d (x.io-kept h p k a q b b' t passed (answers-io k) named)
+    pub other_base_written_wrong : (k : Code) → base_asked_lem q ≢ base_asked_lem p → RefusedExactly (AnswersIo k) → ⊥
+    other_base_written_wrong k d x = d (x.io_kept h p k a q b b' t passed (answers_io k) named)
 
   -- with base 0: granted although there is no candidate, refused although there is one, refused for that with another code, with IN_USE although
   -- there is one, granted a base that is none
-  module _ (zero : baseAsked p ≡ 0) where
-    pub none-granted-wrong : NoCandidate t.facts (ioAsked p) → RefusedExactly (AnswersIo Success) → ⊥
-    none-granted-wrong none x = (x.io-chosen h p Success a q b b' t passed (answers-io Success) zero).1 none refl
+  module _ (zero : base_asked_lem p ≡ 0) where
+    pub none_granted_wrong : NoCandidate t.facts (io_asked p) → RefusedExactly (AnswersIo Success) → ⊥
+    none_granted_wrong none x = (x.io_chosen h p Success a q b b' t passed (answers_io Success) zero).1 none refl
 
-    pub candidate-refused-wrong : (k : Code) → k ≢ Success → (NoCandidate t.facts (ioAsked p) → ⊥) → RefusedExactly (AnswersIo k) → ⊥
-    candidate-refused-wrong k refused some x = some ((x.io-chosen h p k a q b b' t passed (answers-io k) zero).0 refused)
+    pub candidate_refused_wrong : (k : Code) → k ≢ Success → (NoCandidate t.facts (io_asked p) → ⊥) → RefusedExactly (AnswersIo k) → ⊥
+    candidate_refused_wrong k refused some x = some ((x.io_chosen h p k a q b b' t passed (answers_io k) zero).0 refused)
 
-    pub none-code-wrong : (k : Code) → k ≢ InUse → NoCandidate t.facts (ioAsked p) → RefusedExactly (AnswersIo k) → ⊥
-    none-code-wrong k other none x = other ((x.io-chosen-code h p k a q b b' t passed (answers-io k) zero).1 none)
+    pub none_code_wrong : (k : Code) → k ≢ InUse → NoCandidate t.facts (io_asked p) → RefusedExactly (AnswersIo k) → ⊥
+    none_code_wrong k other none x = other ((x.io_chosen_code h p k a q b b' t passed (answers_io k) zero).1 none)
 
-    pub candidate-in-use-wrong : (NoCandidate t.facts (ioAsked p) → ⊥) → RefusedExactly (AnswersIo InUse) → ⊥
-    candidate-in-use-wrong some x = some ((x.io-chosen-code h p InUse a q b b' t passed (answers-io InUse) zero).0 refl)
+    pub candidate_in_use_wrong : (NoCandidate t.facts (io_asked p) → ⊥) → RefusedExactly (AnswersIo InUse) → ⊥
+    candidate_in_use_wrong some x = some ((x.io_chosen_code h p InUse a q b b' t passed (answers_io InUse) zero).0 refl)
 
-    pub no-candidate-written-wrong : (Candidate t.facts (ioAsked p) (baseAsked q) → ⊥) → RefusedExactly (AnswersIo Success) → ⊥
-    no-candidate-written-wrong none x = none (x.io-fits h p Success a q b b' t passed (answers-io Success) zero refl)
+    pub no_candidate_written_wrong : (Candidate t.facts (io_asked p) (base_asked_lem q) → ⊥) → RefusedExactly (AnswersIo Success) → ⊥
+    no_candidate_written_wrong none x = none (x.io_fits h p Success a q b b' t passed (answers_io Success) zero refl)
 
 -- ExactCodes: a code more than those listed, at any service or host call
 abbrev answer : Asked → Code → Event
-answer (service v) k = call (serviceNumber v) 0 [] k 0 []
-answer no-service k = call 0 0 [] k 0 []
-answer card-in k = cardIn 0 k
-answer card-out k = cardOut 0 k
+answer (service v) k = call (service_number v) 0 [] k 0 []
+answer no_service k = call 0 0 [] k 0 []
+answer card_in_lem k = card_in 0 k
+answer card_out k = cardOut 0 k
 answer boot-list k = boot [] k 0
 answer sharers-of k = sharers 0 k 0
-answer fresh-table k = makeFresh 0 k
+answer fresh-table k = make_fresh 0 k
 
 gives_more : (x : Asked) (k : Code) → CanGive (Besides (answer x k) [] []) x k
 gives_more (service v) k = (0, 0, [], [], [], [], besides (answer (service v) k) [] [])
-gives_more no-service k = (0, 0, 0, [], [], [], [], none-serves, besides (answer no-service k) [] [])
-gives_more card-in k = (0, [], [], besides (answer card-in k) [] [])
-gives_more card-out k = (0, [], [], besides (answer card-out k) [] [])
+gives_more no_service k = (0, 0, 0, [], [], [], [], none_serves, besides (answer no_service k) [] [])
+gives_more card_in_lem k = (0, [], [], besides (answer card_in_lem k) [] [])
+gives_more card_out k = (0, [], [], besides (answer card_out k) [] [])
 gives_more boot-list k = ([], [], [], 0, besides (answer boot-list k) [] [])
 gives_more sharers-of k = (0, 0, [], [], besides (answer sharers-of k) [] [])
 gives_more fresh-table k = (0, [], [], besides (answer fresh-table k) [] [])
 
-pub code-more-wrong : (x : Asked) (k : Code) → (k ∈ codes_of x → ⊥) → ExactCodes (Besides (answer x k) [] []) → ⊥
-code-more-wrong x k unlisted y = unlisted ((y x k).1 (gives_more x k))
+pub code_more_wrong : (x : Asked) (k : Code) → (k ∈ codes_of x → ⊥) → ExactCodes (Besides (answer x k) [] []) → ⊥
+code_more_wrong x k unlisted y = unlisted ((y x k).1 (gives_more x k))
 
 -- and one that is never given there
 pub data Of : Asked → Event → Type 0 where
-  of-service : {v : Service} {h a : ℕ} {p q : List ℕ} {k : Code} → Of (service v) (call (serviceNumber v) h p k a q)
-  of_none : {n h a : ℕ} {p q : List ℕ} {k : Code} → (Serves n → ⊥) → Of no-service (call n h p k a q)
-  of-card-in : {s : ℕ} {k : Code} → Of card-in (cardIn s k)
-  of-card-out : {s : ℕ} {k : Code} → Of card-out (cardOut s k)
-  of-boot : {r : List ℕ} {k : Code} {i : ℕ} → Of boot-list (boot r k i)
-  of-sharers : {l c : ℕ} {k : Code} → Of sharers-of (sharers l k c)
-  of-fresh : {n : ℕ} {k : Code} → Of fresh-table (makeFresh n k)
+  of_service : {v : Service} {h a : ℕ} {p q : List ℕ} {k : Code} → Of (service v) (call (service_number v) h p k a q)
+  of_none : {n h a : ℕ} {p q : List ℕ} {k : Code} → (Serves n → ⊥) → Of no_service (call n h p k a q)
+  of_card_in : {s : ℕ} {k : Code} → Of card_in_lem (card_in s k)
+  of_card_out : {s : ℕ} {k : Code} → Of card_out (cardOut s k)
+  of_boot : {r : List ℕ} {k : Code} {i : ℕ} → Of boot-list (boot r k i)
+  of_sharers : {l c : ℕ} {k : Code} → Of sharers-of (sharers l k c)
+  of_fresh : {n : ℕ} {k : Code} → Of fresh-table (make_fresh n k)
 
 abbrev Never : Asked → Code → Keeper
 Never x k e b b' = Ours e b b' × (Of x e → code_in e ≢ k)
 
-never-gives : (x : Asked) (k : Code) → CanGive (Never x k) x k → ⊥
-never-gives (service v) k (h, a, p, q, b, b', (ours, never)) = never of-service refl
-never-gives no-service k (n, h, a, p, q, b, b', none, (ours, never)) = never (of_none none) refl
-never-gives card-in k (s, b, b', (ours, never)) = never of-card-in refl
-never-gives card-out k (s, b, b', (ours, never)) = never of-card-out refl
-never-gives boot-list k (r, b, b', i, (ours, never)) = never of-boot refl
-never-gives sharers-of k (l, c, b, b', (ours, never)) = never of-sharers refl
-never-gives fresh-table k (n, b, b', (ours, never)) = never of-fresh refl
+never_gives : (x : Asked) (k : Code) → CanGive (Never x k) x k → ⊥
+never_gives (service v) k (h, a, p, q, b, b', (ours, never)) = never of_service refl
+never_gives no_service k (n, h, a, p, q, b, b', none, (ours, never)) = never (of_none none) refl
+never_gives card_in_lem k (s, b, b', (ours, never)) = never of_card_in refl
+never_gives card_out k (s, b, b', (ours, never)) = never of_card_out refl
+never_gives boot-list k (r, b, b', i, (ours, never)) = never of_boot refl
+never_gives sharers-of k (l, c, b, b', (ours, never)) = never of_sharers refl
+never_gives fresh-table k (n, b, b', (ours, never)) = never of_fresh refl
 
-pub code-missing-wrong : (x : Asked) (k : Code) → k ∈ codes_of x → ExactCodes (Never x k) → ⊥
-code-missing-wrong x k listed y = never-gives x k ((y x k).0 listed)
+pub code_missing_wrong : (x : Asked) (k : Code) → k ∈ codes_of x → ExactCodes (Never x k) → ⊥
+code_missing_wrong x k listed y = never_gives x k ((y x k).0 listed)
 
 -- TheCodes: a code's number left out; a sixteenth number
-pub number-left-out-wrong : (numbers : List ℕ) (k : Code) → (number_of k ∈ numbers → ⊥) → TheCodes numbers → ⊥
-number-left-out-wrong numbers k unlisted x = unlisted ((x (number_of k)).1 (k, refl))
+pub number_left_out_wrong : (numbers : List ℕ) (k : Code) → (number_of k ∈ numbers → ⊥) → TheCodes numbers → ⊥
+number_left_out_wrong numbers k unlisted x = unlisted ((x (number_of k)).1 (k, refl))
 
-pub sixteenth-wrong : TheCodes (0x100 ∷ fifteen) → ⊥
-sixteenth-wrong x = let y = (x 0x100).0 (inl refl) in omega (arith, y.1, code-byte y.0)
+pub sixteenth_wrong : TheCodes (0x100 ∷ fifteen) → ⊥
+sixteenth_wrong x = let y = (x 0x100).0 (inl refl) in omega (arith, y.1, code_byte y.0)

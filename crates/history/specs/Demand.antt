@@ -56,12 +56,12 @@ pub record Number (P : ℕ → Type 0) (n : ℕ) : Type 0 where
 abbrev pub SharersCounted : Keeper → Type 0
 SharersCounted K =
     (n : ℕ) (es : List Event) (b b' : List ℕ) (l c : ℕ) → FromFresh K n es b → K (sharers l Success c) b b'
-    → Number (λ (s : ℕ). (g : IrqGrant) × Stands es (irq s g) × (g.level ≡ l)) c × (c ≤ Table.mostSockets)
+    → Number (λ (s : ℕ). (g : IrqGrant) × Stands es (irq s g) × (g.level ≡ l)) c × (c ≤ Table.most_sockets)
 
 -- "at most one I/O grant .. and one IRQ grant .. for each socket": no two of a kind stand
 pub record OneGrant (K : Keeper) : Type 0 where
-  pub io-one : (n : ℕ) (es : List Event) (b : List ℕ) (s : ℕ) (g g' : IoGrant) → FromFresh K n es b → Stands es (io s g) → Stands es (io s g') → g ≡ g'
-  pub irq-one : (n : ℕ) (es : List Event) (b : List ℕ) (s : ℕ) (g g' : IrqGrant) → FromFresh K n es b → Stands es (irq s g) → Stands es (irq s g')
+  pub io_one : (n : ℕ) (es : List Event) (b : List ℕ) (s : ℕ) (g g' : IoGrant) → FromFresh K n es b → Stands es (io s g) → Stands es (io s g') → g ≡ g'
+  pub irq_one : (n : ℕ) (es : List Event) (b : List ℕ) (s : ℕ) (g g' : IrqGrant) → FromFresh K n es b → Stands es (irq s g) → Stands es (irq s g')
       → g ≡ g'
 
 -- demand 3: "no two live grants meet on a level or a decoded port unless both asked to share in the same manner": of two that stand and differ
@@ -78,11 +78,11 @@ LevelsApart K =
 -- all of it
 pub record Demand3 (K : Keeper) : Type 0 where
   pub exact : Exact K
-  pub exact-since : ExactSince K
+  pub exact_since : ExactSince K
   pub frame : Frame K
-  pub card-out : CardOutKeeps K
-  pub never-again : NeverAgain K
-  pub sharers-counted : SharersCounted K
-  pub one-grant : OneGrant K
-  pub ports-apart : PortsApart K
-  pub levels-apart : LevelsApart K
+  pub card_out : CardOutKeeps K
+  pub never_again : NeverAgain K
+  pub sharers_counted : SharersCounted K
+  pub one_grant : OneGrant K
+  pub ports_apart : PortsApart K
+  pub levels_apart : LevelsApart K

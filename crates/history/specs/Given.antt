@@ -3,11 +3,11 @@ use Rattle.std.specs.Prelude.{List, ℕ}
 
 pub data Given : Type 0 where
   -- cs_fresh: the number of sockets
-  makeFresh : (sockets : ℕ) → Given
+  make_fresh : (sockets : ℕ) → Given
   -- cs_call: the service's number, the handle and the packet
   call : (number handle : ℕ) (packet : List ℕ) → Given
   -- cs_card_in and cs_card_out
-  cardIn cardOut : (socket : ℕ) → Given
+  card_in cardOut : (socket : ℕ) → Given
   -- cs_boot: the list's bytes
   boot : (records : List ℕ) → Given
   -- cs_sharers

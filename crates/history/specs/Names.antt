@@ -5,63 +5,63 @@ use Rattle.facts.specs.declared.Record.{Record}
 use Rattle.facts.specs.declared.Width.{Width}
 use Rattle.facts.specs.Table.{Facts}
 use Rattle.facts.specs.Sets.{◌∈◌}
-use Rattle.facts.specs.Sockets.{socketOf}
-use Rattle.facts.specs.Resources.{actionOf, resourceOf, add, remove, irqLevel, ioRange, levelGiven, ioAdjustLength, baseGiven}
-use Rattle.facts.specs.Boot.{recordsIn}
-use Rattle.facts.specs.Services.{Service, registerClient, deregisterClient, adjustResourceInfo, requestIrq, releaseIrq, requestIo, releaseIo}
-use Rattle.facts.specs.Services.{requestSocketMask, releaseSocketMask, serviceNumber}
-use Rattle.history.specs.Events.{Event, makeFresh, call, cardIn, cardOut, boot, sharers}
+use Rattle.facts.specs.Sockets.{socket_of}
+use Rattle.facts.specs.Resources.{action_of, resource_of, add, remove, irq_level, io_range, level_given, io_adjust_length, base_given}
+use Rattle.facts.specs.Boot.{records_in}
+use Rattle.facts.specs.Services.{Service, register_client, deregisterClient, adjustResourceInfo, requestIrq, releaseIrq, requestIo, releaseIo}
+use Rattle.facts.specs.Services.{requestSocketMask, releaseSocketMask, service_number}
+use Rattle.history.specs.Events.{Event, make_fresh, call, card_in, cardOut, boot, sharers}
 use Rattle.history.specs.Stands.{Fact, client, mask, level, range, card, io, irq, Recorded}
 use Rattle.history.specs.Tables.{Tells}
 
 -- what can be spoken of in a table: client h, the mask of h at s, level l, the range at a base, what is in a socket, the number issued, the socket
 -- count
 pub data Name : Type 0 where
-  the-client : (handle : ℕ) → Name
-  the-mask : (handle socket : ℕ) → Name
-  the-level : (number : ℕ) → Name
-  the-range : (base : ℕ) → Name
-  the-card the-io the-irq : (socket : ℕ) → Name
-  the-issued the-sockets : Name
+  the_client : (handle : ℕ) → Name
+  the_mask : (handle socket : ℕ) → Name
+  the_level : (number : ℕ) → Name
+  the_range : (base : ℕ) → Name
+  the_card the-io the-irq : (socket : ℕ) → Name
+  the_issued the-sockets : Name
 
 abbrev pub name_of : Fact → Name
-name_of (client h a m) = the-client h
-name_of (mask h s m) = the-mask h s
-name_of (level l r) = the-level l
-name_of (range r) = the-range r.base
-name_of (card s) = the-card s
+name_of (client h a m) = the_client h
+name_of (mask h s m) = the_mask h s
+name_of (level l r) = the_level l
+name_of (range r) = the_range r.base
+name_of (card s) = the_card s
 name_of (io s g) = the-io s
 name_of (irq s g) = the-irq s
 
 -- the names of a service that answers SUCCESS: it was given the handle h and the packet p, and answered the handle a. First and Next have none.
 pub data NamedBy (h : ℕ) (p : List ℕ) (a : ℕ) : Service → Name → Type 0 where
-  register-client : NamedBy h p a registerClient (the-client a)
-  register-issued : NamedBy h p a registerClient the-issued
-  deregister : NamedBy h p a deregisterClient (the-client h)
-  request-mask : NamedBy h p a requestSocketMask (the-mask h (socketOf p))
-  release-mask : NamedBy h p a releaseSocketMask (the-mask h (socketOf p))
-  adjust-level : resourceOf p ≡ irqLevel → (actionOf p ≡ add) ⊎ (actionOf p ≡ remove) → NamedBy h p a adjustResourceInfo (the-level (levelGiven p))
-  adjust-range : (w : Width) → length p ≡ ioAdjustLength w → resourceOf p ≡ ioRange → (actionOf p ≡ add) ⊎ (actionOf p ≡ remove)
-      → NamedBy h p a adjustResourceInfo (the-range (baseGiven w p))
-  request-io : NamedBy h p a requestIo (the-io (socketOf p))
-  release-io : NamedBy h p a releaseIo (the-io (socketOf p))
-  request-irq : NamedBy h p a requestIrq (the-irq (socketOf p))
-  release-irq : NamedBy h p a releaseIrq (the-irq (socketOf p))
+  register_client_lem : NamedBy h p a register_client (the_client a)
+  register_issued : NamedBy h p a register_client the_issued
+  deregister : NamedBy h p a deregisterClient (the_client h)
+  request_mask : NamedBy h p a requestSocketMask (the_mask h (socket_of p))
+  release_mask : NamedBy h p a releaseSocketMask (the_mask h (socket_of p))
+  adjust_level : resource_of p ≡ irq_level → (action_of p ≡ add) ⊎ (action_of p ≡ remove) → NamedBy h p a adjustResourceInfo (the_level (level_given p))
+  adjust_range : (w : Width) → length p ≡ io_adjust_length w → resource_of p ≡ io_range → (action_of p ≡ add) ⊎ (action_of p ≡ remove)
+      → NamedBy h p a adjustResourceInfo (the_range (base_given w p))
+  request_io : NamedBy h p a requestIo (the-io (socket_of p))
+  release_io : NamedBy h p a releaseIo (the-io (socket_of p))
+  request_irq : NamedBy h p a requestIrq (the-irq (socket_of p))
+  release_irq : NamedBy h p a releaseIrq (the-irq (socket_of p))
 
 -- the names that an event's rule names: none of a refusal, but for a boot list's records before the place that it answers; none of a question; all
 -- of a table made fresh
 abbrev pub Names : Event → Name → Type 0
-Names (makeFresh n k) x = k ≡ Success
-Names (call n h p k a q) x = (k ≡ Success) × (v : Service) × (serviceNumber v ≡ n) × NamedBy h p a v x
-Names (cardIn s k) x = (k ≡ Success) × (x ≡ the-card s)
-Names (cardOut s k) x = (k ≡ Success) × (x ≡ the-card s)
-Names (boot b k i) x = (r : Record) × (r ∈ recordsIn i b) × (f : Fact) × Recorded r f × (name_of f ≡ x)
+Names (make_fresh n k) x = k ≡ Success
+Names (call n h p k a q) x = (k ≡ Success) × (v : Service) × (service_number v ≡ n) × NamedBy h p a v x
+Names (card_in s k) x = (k ≡ Success) × (x ≡ the_card s)
+Names (cardOut s k) x = (k ≡ Success) × (x ≡ the_card s)
+Names (boot b k i) x = (r : Record) × (r ∈ records_in i b) × (f : Fact) × Recorded r f × (name_of f ≡ x)
 Names (sharers l k c) x = ⊥
 
 -- the name reads the same in both
 pub record Alike (F G : Facts) (x : Name) : Type 0 where
   pub facts : (f : Fact) → name_of f ≡ x → Tells F f ↔ Tells G f
-  pub issued : x ≡ the-issued → F.issued ≡ G.issued
+  pub issued : x ≡ the_issued → F.issued ≡ G.issued
   pub sockets : x ≡ the-sockets → F.sockets ≡ G.sockets
 
 -- every name but the event's reads the same

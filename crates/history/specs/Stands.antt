@@ -6,17 +6,17 @@ use Rattle.facts.specs.declared.Width.{Width}
 use Rattle.facts.specs.Codes.{number_of}
 use Rattle.facts.specs.Table.{Range, IoGrant, IrqGrant}
 use Rattle.facts.specs.Sets.{◌∈◌}
-use Rattle.facts.specs.Clients.{clientAttributes, clientEvents}
-use Rattle.facts.specs.Sockets.{socketOf, eventsAsked}
-use Rattle.facts.specs.Resources.{actionOf, resourceOf, add, remove, irqLevel, ioRange, levelGiven, levelAttributes, ioAdjustLength, reserves}
-use Rattle.facts.specs.Resources.{baseGiven, countGiven, attributesGiven}
+use Rattle.facts.specs.Clients.{client_attributes, client_events}
+use Rattle.facts.specs.Sockets.{socket_of, events_asked}
+use Rattle.facts.specs.Resources.{action_of, resource_of, add, remove, irq_level, io_range, level_given, level_attributes, io_adjust_length, reserves}
+use Rattle.facts.specs.Resources.{base_given, count_given, attributes_given}
 use Rattle.facts.specs.Levels.{type_of}
-use Rattle.facts.specs.Irq.{assignedIrq, typeAsked, irqAsked, irqGrant}
-use Rattle.facts.specs.Io.{baseAsked, countAsked, ioAsked, ioGrant}
-use Rattle.facts.specs.Boot.{recordsIn}
-use Rattle.facts.specs.Services.{Service, registerClient, deregisterClient, adjustResourceInfo, requestIrq, releaseIrq, requestIo, releaseIo}
-use Rattle.facts.specs.Services.{requestSocketMask, releaseSocketMask, serviceNumber}
-use Rattle.history.specs.Events.{Event, makeFresh, call, cardIn, cardOut, boot, sharers}
+use Rattle.facts.specs.Irq.{assigned_irq, type_asked_lem, irq_asked, irq_grant}
+use Rattle.facts.specs.Io.{base_asked_lem, count_asked_lem, io_asked, io_grant}
+use Rattle.facts.specs.Boot.{records_in}
+use Rattle.facts.specs.Services.{Service, register_client, deregisterClient, adjustResourceInfo, requestIrq, releaseIrq, requestIo, releaseIo}
+use Rattle.facts.specs.Services.{requestSocketMask, releaseSocketMask, service_number}
+use Rattle.history.specs.Events.{Event, make_fresh, call, card_in, cardOut, boot, sharers}
 
 -- one thing that a table can say
 pub data Fact : Type 0 where
@@ -33,49 +33,49 @@ pub data Fact : Type 0 where
 
 -- what a service makes that answers SUCCESS: it was given the handle h and the packet p, answered the handle a and left the packet q
 pub data Made (h : ℕ) (p : List ℕ) (a : ℕ) (q : List ℕ) : Service → Fact → Type 0 where
-  client-made : Made h p a q registerClient (client a (clientAttributes p) (clientEvents p))
-  mask-made : Made h p a q requestSocketMask (mask h (socketOf p) (eventsAsked p))
-  level-made : resourceOf p ≡ irqLevel → actionOf p ≡ add
-      → Made h p a q adjustResourceInfo (level (levelGiven p) (reserves (levelAttributes p)))
-  range-made : (w : Width) → length p ≡ ioAdjustLength w → resourceOf p ≡ ioRange → actionOf p ≡ add
-      → Made h p a q adjustResourceInfo (range (record { base = baseGiven w p; count = countGiven w p; reserved = reserves (attributesGiven w p) }))
-  io-made : Made h p a q requestIo (io (socketOf p) (ioGrant h (ioAsked p) (baseAsked q)))
-  irq-made : Made h p a q requestIrq (irq (socketOf p) (irqGrant h (irqAsked p) (assignedIrq q)))
+  client_made : Made h p a q register_client (client a (client_attributes p) (client_events p))
+  mask_made : Made h p a q requestSocketMask (mask h (socket_of p) (events_asked p))
+  level_made : resource_of p ≡ irq_level → action_of p ≡ add
+      → Made h p a q adjustResourceInfo (level (level_given p) (reserves (level_attributes p)))
+  range_made : (w : Width) → length p ≡ io_adjust_length w → resource_of p ≡ io_range → action_of p ≡ add
+      → Made h p a q adjustResourceInfo (range (record { base = base_given w p; count = count_given w p; reserved = reserves (attributes_given w p) }))
+  io_made : Made h p a q requestIo (io (socket_of p) (io_grant h (io_asked p) (base_asked_lem q)))
+  irq_made : Made h p a q requestIrq (irq (socket_of p) (irq_grant h (irq_asked p) (assigned_irq q)))
 
 -- what it gives back
 pub data GivenBack (h : ℕ) (p : List ℕ) : Service → Fact → Type 0 where
-  client-back : {attributes events : ℕ} → GivenBack h p deregisterClient (client h attributes events)
-  mask-back : {events : ℕ} → GivenBack h p releaseSocketMask (mask h (socketOf p) events)
-  level-back : {reserved : Bool} → resourceOf p ≡ irqLevel → actionOf p ≡ remove
-      → GivenBack h p adjustResourceInfo (level (levelGiven p) reserved)
-  range_back : {reserved : Bool} (w : Width) → length p ≡ ioAdjustLength w → resourceOf p ≡ ioRange → actionOf p ≡ remove
-      → GivenBack h p adjustResourceInfo (range (record { base = baseGiven w p; count = countGiven w p; reserved = reserved }))
+  client_back : {attributes events : ℕ} → GivenBack h p deregisterClient (client h attributes events)
+  mask_back : {events : ℕ} → GivenBack h p releaseSocketMask (mask h (socket_of p) events)
+  level_back : {reserved : Bool} → resource_of p ≡ irq_level → action_of p ≡ remove
+      → GivenBack h p adjustResourceInfo (level (level_given p) reserved)
+  range_back : {reserved : Bool} (w : Width) → length p ≡ io_adjust_length w → resource_of p ≡ io_range → action_of p ≡ remove
+      → GivenBack h p adjustResourceInfo (range (record { base = base_given w p; count = count_given w p; reserved = reserved }))
   -- the client's own, of that base and count
-  io-back : {g : IoGrant} → g.client ≡ h → g.ports.base ≡ baseAsked p → g.ports.count ≡ countAsked p
-      → GivenBack h p releaseIo (io (socketOf p) g)
+  io_back : {g : IoGrant} → g.client ≡ h → g.ports.base ≡ base_asked_lem p → g.ports.count ≡ count_asked_lem p
+      → GivenBack h p releaseIo (io (socket_of p) g)
   -- the client's own, of that level and type
-  irq-back : {g : IrqGrant} → g.client ≡ h → g.level ≡ assignedIrq p → type_of g.manner ≡ typeAsked p
-      → GivenBack h p releaseIrq (irq (socketOf p) g)
+  irq_back : {g : IrqGrant} → g.client ≡ h → g.level ≡ assigned_irq p → type_of g.manner ≡ type_asked_lem p
+      → GivenBack h p releaseIrq (irq (socket_of p) g)
 
 -- what a record of a boot list makes
 pub data Recorded (r : Record) : Fact → Type 0 where
-  level-recorded : r.resource ≡ irqLevel → Recorded r (level r.base (reserves r.attributes))
-  range-recorded : r.resource ≡ ioRange → Recorded r (range (record { base = r.base; count = r.count; reserved = reserves r.attributes }))
+  level_recorded : r.resource ≡ irq_level → Recorded r (level r.base (reserves r.attributes))
+  range_recorded : r.resource ≡ io_range → Recorded r (range (record { base = r.base; count = r.count; reserved = reserves r.attributes }))
 
 -- the event makes the fact; a boot list makes its records before the place that it answers
 abbrev pub Makes : Event → Fact → Type 0
-Makes (makeFresh n k) f = ⊥
-Makes (call n h p k a q) f = (k ≡ Success) × (v : Service) × (serviceNumber v ≡ n) × Made h p a q v f
-Makes (cardIn s k) f = (k ≡ Success) × (f ≡ card s)
+Makes (make_fresh n k) f = ⊥
+Makes (call n h p k a q) f = (k ≡ Success) × (v : Service) × (service_number v ≡ n) × Made h p a q v f
+Makes (card_in s k) f = (k ≡ Success) × (f ≡ card s)
 Makes (cardOut s k) f = ⊥
-Makes (boot b k i) f = (r : Record) × (r ∈ recordsIn i b) × Recorded r f
+Makes (boot b k i) f = (r : Record) × (r ∈ records_in i b) × Recorded r f
 Makes (sharers l k c) f = ⊥
 
 -- the event gives the fact back; one that made a new table would begin another run
 abbrev pub GivesBack : Event → Fact → Type 0
-GivesBack (makeFresh n k) f = ⊥
-GivesBack (call n h p k a q) f = (k ≡ Success) × (v : Service) × (serviceNumber v ≡ n) × GivenBack h p v f
-GivesBack (cardIn s k) f = ⊥
+GivesBack (make_fresh n k) f = ⊥
+GivesBack (call n h p k a q) f = (k ≡ Success) × (v : Service) × (service_number v ≡ n) × GivenBack h p v f
+GivesBack (card_in s k) f = ⊥
 GivesBack (cardOut s k) f = (k ≡ Success) × (f ≡ card s)
 GivesBack (boot b k i) f = ⊥
 GivesBack (sharers l k c) f = ⊥
@@ -103,9 +103,9 @@ Registers e h = (attributes events : ℕ) × Makes e (client h attributes events
 
 -- the number of registrations that succeeded
 abbrev pub registration : Event → ℕ
-registration (makeFresh n k) = 0
-registration (call n h p k a q) = cond (eqb n (serviceNumber registerClient)) (cond (eqb (number_of k) (number_of Success)) 1 0) 0
-registration (cardIn s k) = 0
+registration (make_fresh n k) = 0
+registration (call n h p k a q) = cond (eqb n (service_number register_client)) (cond (eqb (number_of k) (number_of Success)) 1 0) 0
+registration (card_in s k) = 0
 registration (cardOut s k) = 0
 registration (boot b k i) = 0
 registration (sharers l k c) = 0

@@ -19,8 +19,8 @@ Tells F (irq s g) = F.irq s ≡ some g
 -- the table b is accepted, and says this of its sockets and of the handles issued, and just those facts of which P holds
 pub record TellsExactly (b : List ℕ) (sockets issued : ℕ) (P : Fact → Type 0) : Type 0 where
   pub accepted : Accepted b
-  pub sockets-are : accepted.facts.sockets ≡ sockets
-  pub issued-are : accepted.facts.issued ≡ issued
+  pub sockets_are : accepted.facts.sockets ≡ sockets
+  pub issued_are : accepted.facts.issued ≡ issued
   pub tells : (f : Fact) → Tells accepted.facts f ↔ P f
 
 -- both tables are accepted, and R holds between what they say

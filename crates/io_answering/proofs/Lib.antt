@@ -2,6 +2,6 @@
 pub mod Filling
 pub mod Gaps
 pub mod Walking
-pub use Filling.{filling-start, none_yet, none-are, filling-more, rows_are, gaps-say}
-pub use Gaps.{ends-within, clear-answers, answers-clear, clear-says, own-says, past-unmanaged}
-pub use Walking.{masked, ones-short, masked-behind, reach-filled, row-says}
+pub use Filling.{filling_start, none_yet, none_are, filling_more, rows_are, gaps_say}
+pub use Gaps.{ends_within, clear_answers, answers_clear, clear_says, own_says, past_unmanaged}
+pub use Walking.{masked, ones_short, masked_behind, reach_filled, row_says}

@@ -2,10 +2,10 @@
 use Rattle.facts.proofs.Words.{◌≡◌, refl, ap, sym, ◌∙◌, ◌≢◌, List, Bool, cond, ℕ, ◌+◌, ◌-◌, ◌*◌, ◌/◌, ◌%◌, ◌^◌, ◌≤◌, ◌<◌, min}
 use Rattle.facts.proofs.Words.{mod-lt, mod-add-mod, add-mul-mod_self_right, div-add-mod', one-mul, add-mul, dec_lt}
 use Rattle.facts.proofs.Words.{arith, bit_and, and_mask, ne_eqb, pow_pos, pow_mono, Ports, Says, eqb, ℕ_discrete}
-use Rattle.facts.specs.{Meet, allPorts, mostLines}
-use Rattle.facts.proofs.{says-as, says_eq, told}
-use Rattle.io_ranges.proofs.{all-ports-mod, meet-near, near-meet}
-use Rattle.io_answering.specs.{mostGaps, mostCounted, row_at, RowsFit, LowBits, reachOf, ahead_of, portsFrom}
+use Rattle.facts.specs.{Meet, all_ports, most_lines}
+use Rattle.facts.proofs.{says_as, says_eq, told}
+use Rattle.io_ranges.proofs.{all_ports_mod, meet_near, near_meet}
+use Rattle.io_answering.specs.{most_gaps, most_counted, row_at, RowsFit, LowBits, reach_of_lem, ahead_of, ports_from}
 
 -- a ones takes the remainder by the period
 pub masked : (n ones : ℕ) → LowBits ones → bit_and n ones ≡ n % (ones + 1)
@@ -14,24 +14,24 @@ masked n ones m =
     ap (bit_and n) e ∙ and_mask n m.lines ∙ ap (λ (k : ℕ). n % k) (sym m.is)
 
 -- the period is at most half of all ports
-pub ones-short : (ones : ℕ) → LowBits ones → ones + 1 ≤ 2 ^ 15
-ones-short ones m = let l : m.lines ≤ 15 = omega (arith, m.fewer) in omega (arith, m.is, pow_mono l)
+pub ones_short : (ones : ℕ) → LowBits ones → ones + 1 ≤ 2 ^ 15
+ones_short ones m = let l : m.lines ≤ 15 = omega (arith, m.fewer) in omega (arith, m.is, pow_mono l)
 
 -- the distance behind, by the low bits
-pub masked-behind : (base last ones : ℕ) → LowBits ones
+pub masked_behind : (base last ones : ℕ) → LowBits ones
     → bit_and (last + (ones + 1) - bit_and base ones) ones ≡ (last + (ones + 1) - base % (ones + 1)) % (ones + 1)
-masked-behind base last ones m =
+masked_behind base last ones m =
     masked (last + (ones + 1) - bit_and base ones) ones m ∙ ap (λ (n : ℕ). (last + (ones + 1) - n) % (ones + 1)) (masked base ones m)
 
 -- how far a gap with ports reaches
-pub reach-filled : (ports more : ℕ) → ports ≢ 0 → reachOf ports more ≡ ports + more
-reach-filled ports more n = ap (λ (b : Bool). cond b 0 (ports + more)) (ne_eqb ports 0 n)
+pub reach_filled : (ports more : ℕ) → ports ≢ 0 → reach_of_lem ports more ≡ ports + more
+reach_filled ports more n = ap (λ (b : Bool). cond b 0 (ports + more)) (ne_eqb ports 0 n)
 
 -- how far a port lies past a base, modulo the period, by their remainders
-behind-is : (y base k : ℕ) → k ≤ mostLines → base ≤ allPorts
-    → (y % 2 ^ k + 2 ^ k - base % 2 ^ k) % 2 ^ k ≡ (y + allPorts - base) % 2 ^ k
-behind-is y base k h l = ap (λ (n : ℕ). n % m) e₁ ∙ mod-add-mod y m past ∙ sym (all-ports-mod k h (y + past)) ∙ ap (λ (n : ℕ). n % m) e₂
-    ∙ add-mul-mod_self_right (y + allPorts - base) (base / m + 1) m
+behind_is : (y base k : ℕ) → k ≤ most_lines → base ≤ all_ports
+    → (y % 2 ^ k + 2 ^ k - base % 2 ^ k) % 2 ^ k ≡ (y + all_ports - base) % 2 ^ k
+behind_is y base k h l = ap (λ (n : ℕ). n % m) e₁ ∙ mod-add-mod y m past ∙ sym (all_ports_mod k h (y + past)) ∙ ap (λ (n : ℕ). n % m) e₂
+    ∙ add-mul-mod_self_right (y + all_ports - base) (base / m + 1) m
   where
     m : ℕ
     m = 2 ^ k
@@ -45,14 +45,14 @@ behind-is y base k h l = ap (λ (n : ℕ). n % m) e₁ ∙ mod-add-mod y m past 
     e₁ : y % m + m - base % m ≡ y % m + past
     e₁ = omega (arith, rest)
 
-    e₂ : y + past + allPorts ≡ y + allPorts - base + (base / m + 1) * m
+    e₂ : y + past + all_ports ≡ y + all_ports - base + (base / m + 1) * m
     e₂ = omega (arith, rest, div-add-mod' base m, add-mul (base / m) 1 m, one-mul m)
 
 -- one gap and a card of so many ports at the base x
-module _ (g : Ports) (low : g.base ≤ allPorts) (counted : g.count ≤ mostCounted) (all : g.lines ≡ mostLines) (count lines : ℕ)
-    (some : 1 ≤ count) (fewer : lines < mostLines) (x : ℕ) where
+module _ (g : Ports) (low : g.base ≤ all_ports) (counted : g.count ≤ most_counted) (all : g.lines ≡ most_lines) (count lines : ℕ)
+    (some : 1 ≤ count) (fewer : lines < most_lines) (x : ℕ) where
   abbrev behind : ℕ
-  behind = (x + count - 1 + allPorts - g.base) % 2 ^ lines
+  behind = (x + count - 1 + all_ports - g.base) % 2 ^ lines
 
   abbrev far : ℕ
   far = ahead_of g.base g.count ((x + count - 1) % 2 ^ lines) (count - 1) (2 ^ lines)
@@ -64,34 +64,34 @@ module _ (g : Ports) (low : g.base ≤ allPorts) (counted : g.count ≤ mostCoun
   empty : g.count ≡ 0 → far ≡ 0
   empty e =
       ap (λ (n : ℕ). ahead_of g.base n ((x + count - 1) % 2 ^ lines) (count - 1) (2 ^ lines)) e
-      ∙ zero-sub (((x + count - 1) % 2 ^ lines + 2 ^ lines - g.base % 2 ^ lines) % 2 ^ lines)
+      ∙ zero_sub (((x + count - 1) % 2 ^ lines + 2 ^ lines - g.base % 2 ^ lines) % 2 ^ lines)
     where
-      zero-sub : (n : ℕ) → ◌≡◌ {A = ℕ} (0 - n) 0
-      zero-sub n = omega arith
+      zero_sub : (n : ℕ) → ◌≡◌ {A = ℕ} (0 - n) 0
+      zero_sub n = omega arith
 
   -- one with ports is left behind as far as the card's ports reach past it
   filled : 1 ≤ g.count → far ≡ g.count + (count - 1) - behind
   filled h =
       ap (λ (n : ℕ). n - ((x + count - 1) % 2 ^ lines + 2 ^ lines - g.base % 2 ^ lines) % 2 ^ lines)
-      (reach-filled g.count (count - 1) (λ e. omega (arith, e)))
-      ∙ ap (λ (n : ℕ). g.count + (count - 1) - n) (behind-is (x + count - 1) g.base lines (omega arith) low)
+      (reach_filled g.count (count - 1) (λ e. omega (arith, e)))
+      ∙ ap (λ (n : ℕ). g.count + (count - 1) - n) (behind_is (x + count - 1) g.base lines (omega arith) low)
 
-  pub far_none : far ≡ 0 → Meet (portsFrom count lines x) g → ⊥
+  pub far_none : far ≡ 0 → Meet (ports_from count lines x) g → ⊥
   far_none e m =
-      let port : 1 ≤ g.count = omega (arith, m.other-in.from, m.other-in.below) in
-      omega (arith, e, filled port, meet-near (portsFrom count lines x) g lines least (omega arith) some port low m)
+      let port : 1 ≤ g.count = omega (arith, m.other_in.from, m.other_in.below) in
+      omega (arith, e, filled port, meet_near (ports_from count lines x) g lines least (omega arith) some port low m)
 
-  pub far_some : far ≢ 0 → Meet (portsFrom count lines x) g
+  pub far_some : far ≢ 0 → Meet (ports_from count lines x) g
   far_some n = below_or_not (dec_lt 0 g.count)
     where
-      below_or_not : Dec (0 < g.count) → Meet (portsFrom count lines x) g
+      below_or_not : Dec (0 < g.count) → Meet (ports_from count lines x) g
       below_or_not (no d) = absurd (n (empty (omega arith)))
-      below_or_not (yes h) = near-meet (portsFrom count lines x) g lines least (omega arith) some h low (omega (arith, n, filled h))
+      below_or_not (yes h) = near_meet (ports_from count lines x) g lines least (omega arith) some h low (omega (arith, n, filled h))
 
 -- how far it is ahead of the gap in the place n is 0 exactly if it doesn't meet that gap
-pub row-says : (rows : List ℕ) (count lines x n d : ℕ) → RowsFit rows → 1 ≤ count → lines < mostLines → n < mostGaps
+pub row_says : (rows : List ℕ) (count lines x n d : ℕ) → RowsFit rows → 1 ≤ count → lines < most_lines → n < most_gaps
     → d ≡ ahead_of (row_at rows n).base (row_at rows n).count ((x + count - 1) % 2 ^ lines) (count - 1) (2 ^ lines)
-    → Says (eqb d 0) (Meet (portsFrom count lines x) (row_at rows n) → ⊥)
-row-says rows count lines x n d fit some fewer l e =
-    says-as (says_eq d 0) (λ z. far_none (row_at rows n) (fit.bases n l) (fit.counts n l) refl count lines some fewer x (sym e ∙ z))
+    → Says (eqb d 0) (Meet (ports_from count lines x) (row_at rows n) → ⊥)
+row_says rows count lines x n d fit some fewer l e =
+    says_as (says_eq d 0) (λ z. far_none (row_at rows n) (fit.bases n l) (fit.counts n l) refl count lines some fewer x (sym e ∙ z))
     (λ z. told (ℕ_discrete d 0) (λ k. z (far_some (row_at rows n) (fit.bases n l) (fit.counts n l) refl count lines some fewer x (λ q. k (e ∙ q)))))

@@ -3,20 +3,20 @@ use Rattle.std.specs.Prelude.{List, ℕ, ◌-◌, ◌≤◌}
 use Rattle.facts.specs.Table
 use Rattle.facts.specs.Table.{Ports}
 use Rattle.facts.specs.Ports.{Within, Meet, Answers}
-use Rattle.layout.specs.Reading.{rangesIn, below}
-use Rattle.layout.specs.Sound.{ManagedIn, rangeBase, endBefore}
+use Rattle.layout.specs.Reading.{ranges_in, below}
+use Rattle.layout.specs.Sound.{ManagedIn, range_base, end_before_lem}
 
 -- where the range in the place i starts; past the last one, one past FFFF
 abbrev pub start_at : List ℕ → ℕ → ℕ
-start_at b = below (rangesIn b) Table.allPorts (rangeBase b)
+start_at b = below (ranges_in b) Table.all_ports (range_base b)
 
 -- the gap before the place i: from the end of the range listed before it up to the start of the one there. All its lines count.
-abbrev pub gapIn : List ℕ → ℕ → Ports
-gapIn b i = record { base = endBefore b i; count = start_at b i - endBefore b i; lines = Table.mostLines }
+abbrev pub gap_in : List ℕ → ℕ → Ports
+gap_in b i = record { base = end_before_lem b i; count = start_at b i - end_before_lem b i; lines = Table.most_lines }
 
 -- the ports meet a gap
 abbrev pub MeetsGap : List ℕ → Ports → Type 0
-MeetsGap b a = (i : ℕ) × (i ≤ rangesIn b) × Meet a (gapIn b i)
+MeetsGap b a = (i : ℕ) × (i ≤ ranges_in b) × Meet a (gap_in b i)
 
 -- the ports are managed, and so is wherever a card with them answers
 pub record AllManagedIn (b : List ℕ) (a : Ports) : Type 0 where

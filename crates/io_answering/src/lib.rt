@@ -3,11 +3,11 @@
 ghost use Rattle.std.specs.Prelude.{◌≡◌, ◌+◌, ◌≤◌, ◌<◌, length};
 ghost use Rattle.facts.specs.Table;
 ghost use Rattle.facts.specs.Says.{Says};
-ghost use Rattle.layout.specs.Layout.{tableSize};
-ghost use Rattle.layout.specs.Reading.{rangesIn};
+ghost use Rattle.layout.specs.Layout.{table_size};
+ghost use Rattle.layout.specs.Reading.{ranges_in};
 ghost use Rattle.layout.specs.Sound.{RangesSound};
 ghost use Rattle.io_answering.specs.Gaps.{AllManagedIn};
-ghost use Rattle.io_answering.specs.Rows.{mostCounted, NoGaps, LowBits, reachOf, ahead_of, portsFrom, RowsFit, MeetsRows, GapsAre};
+ghost use Rattle.io_answering.specs.Rows.{most_counted, NoGaps, LowBits, reach_of_lem, ahead_of, ports_from, RowsFit, MeetsRows, GapsAre};
 
 use layout::{ALL_PORTS, MOST_LINES, MOST_RANGES, RANGE_SIZE, RANGES_AT, RANGES_IN};
 
@@ -24,7 +24,7 @@ const MOST_COUNTED: usize = 32768;
 // Fills the rows, which have nothing yet, for cards of so many lines; those of one that decodes all, which answers at its own ports alone, keep nothing.
 // `end` is where the ranges passed end, and the gap begins.
 pub fn gap_rows(t: &[u8], lines: usize, rows: &mut [u16])
-    requires t_len { (length t.now ≡ tableSize) × (rangesIn t.now ≤ Table.mostRanges) × RangesSound t.now }
+    requires t_len { (length t.now ≡ table_size) × (ranges_in t.now ≤ Table.most_ranges) × RangesSound t.now }
     requires no_gaps { NoGaps rows.old }
     ensures { GapsAre t.now lines rows.new }
 {
@@ -46,8 +46,8 @@ pub fn gap_rows(t: &[u8], lines: usize, rows: &mut [u16])
 
 // How far a gap and so many more ports reach; a gap without a port reaches nowhere.
 fn reach_of(ports: u16, more: u16) -> u16
-    requires { (ports ≤ mostCounted) × (more < 256) }
-    ensures { result ≡ reachOf ports more }
+    requires { (ports ≤ most_counted) × (more < 256) }
+    ensures { result ≡ reach_of_lem ports more }
 {
     if ports == 0 {
         return 0;
@@ -59,7 +59,7 @@ fn reach_of(ports: u16, more: u16) -> u16
 // port of the gap. By 10 lines the last of eight ports from 2F8H on lies 15 ports past the start of a gap from 6F0H on: 2FFH - 2F0H. The gap's 16 ports
 // and the card's seven others reach 23 ports, so it has to move by 8.
 fn ahead(base: u16, ports: u16, last: u16, more: u16, ones: u16) -> u16
-    requires { (ports ≤ mostCounted) × (last ≤ ones) × (more < 256) × LowBits ones }
+    requires { (ports ≤ most_counted) × (last ≤ ones) × (more < 256) × LowBits ones }
     ensures { result ≡ ahead_of base ports last more (ones + 1) }
 {
     let behind = (last + (ones + 1) - (base & ones)) & ones;
@@ -73,8 +73,8 @@ fn ahead(base: u16, ports: u16, last: u16, more: u16, ones: u16) -> u16
 // Whether a card with so many ports at a base answers in no gap: how far it is ahead of each, or-ed together with no early exit, so that many are looked
 // at side by side. A card of 10 lines at 2F8 answers at 6F8 as well: with the gap from 6F0 on, of 16 ports, it is 8 ports ahead, and the answer is no.
 fn clear(rows: &[u16; ROWS], base: usize, count: usize, lines: usize) -> bool
-    requires { RowsFit rows.now × (base ≤ Table.allPorts) × (1 ≤ count) × (count < 256) × (lines < Table.mostLines) }
-    ensures { Says result (MeetsRows rows.now (portsFrom count lines base) → ⊥) }
+    requires { RowsFit rows.now × (base ≤ Table.all_ports) × (1 ≤ count) × (count < 256) × (lines < Table.most_lines) }
+    ensures { Says result (MeetsRows rows.now (ports_from count lines base) → ⊥) }
 {
     let period = io_ranges::power(lines);
     let ones = period - 1;
@@ -96,8 +96,8 @@ fn clear(rows: &[u16; ROWS], base: usize, count: usize, lines: usize) -> bool
 
 // Whether the ports are managed, and every other where a card with them answers. One that decodes all lines answers nowhere else.
 pub fn managed(t: &[u8], rows: &[u16; ROWS], base: usize, count: usize, lines: usize) -> bool
-    requires t_len { (length t.now ≡ tableSize) × (rangesIn t.now ≤ Table.mostRanges) × RangesSound t.now × GapsAre t.now lines rows.now }
-    requires base_bound { (base < Table.allPorts) × (1 ≤ count) × (count < 256) × (lines ≤ Table.mostLines) }
+    requires t_len { (length t.now ≡ table_size) × (ranges_in t.now ≤ Table.most_ranges) × RangesSound t.now × GapsAre t.now lines rows.now }
+    requires base_bound { (base < Table.all_ports) × (1 ≤ count) × (count < 256) × (lines ≤ Table.most_lines) }
     ensures { Says result (AllManagedIn t.now (record { base = base; count = count; lines = lines })) }
 {
     if lines == MOST_LINES {

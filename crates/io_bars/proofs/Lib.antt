@@ -2,6 +2,6 @@
 pub mod Barring
 pub mod Entering
 pub mod Said
-pub use Barring.{bar-none, bar-is}
-pub use Entering.{entered-size, Entered, none-entered, one-entered, Kept, kept_on}
-pub use Said.{OfSeat, OfGap, seat-below, seat-fits, grants-are, no_gaps, gaps-are}
+pub use Barring.{bar_none, bar_is}
+pub use Entering.{entered_size, Entered, none_entered, one_entered, Kept, kept_on}
+pub use Said.{OfSeat, OfGap, seat_below, seat_fits, grants_are, no_gaps, gaps_are}

@@ -1,4 +1,4 @@
 -- What the contracts of `io_bars` cite. Assumes nothing.
 pub mod Bars
 pub use declared.Bar.{Bar}
-pub use Bars.{mostPorts, stretch, StretchIs, BarIs, seatPorts, PortsFit, SeatFits, barEntered, GrantBars, GrantBarsOf, GapBars}
+pub use Bars.{most_ports, stretch, StretchIs, BarIs, seat_ports, PortsFit, SeatFits, bar_entered, GrantBars, GrantBarsOf, GapBars}

@@ -3,8 +3,8 @@
 ghost use Rattle.std.specs.Prelude.{◌≡◌, ◌+◌, ◌≤◌, ◌<◌, length, replicate};
 ghost use Rattle.facts.specs.Table;
 ghost use Rattle.layout.specs.Sound.{Accepted};
-ghost use Rattle.io_obstacles.specs.Search.{gapPlaces, grantRows, gapRows};
-ghost use Rattle.io_bars.specs.Bars.{mostPorts, BarIs, seatPorts, SeatFits, barEntered, GrantBarsOf, GapBars};
+ghost use Rattle.io_obstacles.specs.Search.{gap_places, grant_rows, gap_rows_lem};
+ghost use Rattle.io_bars.specs.Bars.{most_ports, BarIs, seat_ports, SeatFits, bar_entered, GrantBarsOf, GapBars};
 
 use facts::Seat;
 use io_obstacles::{GAP_PLACES, GAP_ROWS, GRANT_PLACES, GRANT_ROWS};
@@ -22,7 +22,7 @@ pub struct Bar {
 // The bases at which so many ports, decoded by so many lines, meet others: from where their last port is the first of those on, up to where their first
 // port is the last. Four ports meet the eight from 300 on at 2FD to 307, which are 4 + 8 - 1 bases, and again after each period.
 fn bar_of(base: usize, ports: usize, decoded: usize, count: usize, lines: usize) -> Bar
-    requires { (base ≤ Table.allPorts) × (ports ≤ mostPorts) × (decoded ≤ Table.mostLines) × (1 ≤ count) × (count < 256) × (lines ≤ Table.mostLines) }
+    requires { (base ≤ Table.all_ports) × (ports ≤ most_ports) × (decoded ≤ Table.most_lines) × (1 ≤ count) × (count < 256) × (lines ≤ Table.most_lines) }
     ensures { BarIs (record { base = base; count = ports; lines = decoded }) count lines result }
 {
     let start = (base + ALL_PORTS + 1 - count) % ALL_PORTS;
@@ -44,8 +44,8 @@ fn bar_of(base: usize, ports: usize, decoded: usize, count: usize, lines: usize)
 
 // The bar of what is held at a seat; of nothing, one that has no base.
 fn seat_bar(held: IoSeat, count: usize, lines: usize) -> Bar
-    requires { SeatFits held × (1 ≤ count) × (count < 256) × (lines ≤ Table.mostLines) }
-    ensures { BarIs (seatPorts held) count lines result }
+    requires { SeatFits held × (1 ≤ count) × (count < 256) × (lines ≤ Table.most_lines) }
+    ensures { BarIs (seat_ports held) count lines result }
 {
     match held {
         IoSeat::Held(x) => bar_of(x.base, x.count, x.lines, count, lines),
@@ -55,8 +55,8 @@ fn seat_bar(held: IoSeat, count: usize, lines: usize) -> Bar
 
 // A bar is entered in its place.
 fn enter(rows: &mut [u16], places: usize, i: usize, bar: Bar)
-    requires { (places + places + places ≤ length rows.old) × (places ≤ gapPlaces) × (i < places) }
-    ensures { rows.new ≡ barEntered rows.old places i bar }
+    requires { (places + places + places ≤ length rows.old) × (places ≤ gap_places) × (i < places) }
+    ensures { rows.new ≡ bar_entered rows.old places i bar }
 {
     rows[i] = bar.start;
     rows[places + i] = bar.ones;
@@ -65,7 +65,7 @@ fn enter(rows: &mut [u16], places: usize, i: usize, bar: Bar)
 
 // The bars of the live grants.
 pub fn grant_bars(t: &[u8], count: usize, lines: usize, rows: &mut [u16])
-    requires { Accepted t.now × (1 ≤ count) × (count < 256) × (lines ≤ Table.mostLines) × (rows.old ≡ replicate grantRows 0) }
+    requires { Accepted t.now × (1 ≤ count) × (count < 256) × (lines ≤ Table.most_lines) × (rows.old ≡ replicate grant_rows 0) }
     ensures { GrantBarsOf t.now count lines rows.new }
 {
     for s in 0..MOST_SEATS {
@@ -77,7 +77,7 @@ pub fn grant_bars(t: &[u8], count: usize, lines: usize, rows: &mut [u16])
 // The bars of the gaps, each in the place of its gap; none, for a card that decodes all lines, which answers at its own ports alone. A card that decodes
 // 10 lines and asks for four ports answers in a gap of 16 ports from 6F0H on at the bases 6EDH to 6FFH, and so at 2EDH to 2FFH: a bar of 4 + 16 - 1 bases.
 pub fn gap_bars(t: &[u8], count: usize, lines: usize, rows: &mut [u16])
-    requires { Accepted t.now × (1 ≤ count) × (count < 256) × (lines ≤ Table.mostLines) × (rows.old ≡ replicate gapRows 0) }
+    requires { Accepted t.now × (1 ≤ count) × (count < 256) × (lines ≤ Table.most_lines) × (rows.old ≡ replicate gap_rows_lem 0) }
     ensures { GapBars t.now count lines rows.new }
 {
     if lines == MOST_LINES {

@@ -1,20 +1,20 @@
 -- Each way to the base that is taken is the rule's. Assumes nothing.
 use Rattle.facts.proofs.Words.{◌≡◌, refl, inl, inr, ◌≢◌, ℕ, ◌≤◌, ◌<◌, arith}
 use Rattle.facts.specs.{BadBase, InUse, Facts, FirstGiven, Passed, IoAsked, NotAllManaged, GrantInTheWay, NoCandidate, CandidateTaken}
-use Rattle.facts.specs.{BaseTaken, baseChecks}
+use Rattle.facts.specs.{BaseTaken, base_checks}
 
 module _ (F : Facts) (q : IoAsked) where
   -- a base that is named
   module _ (named : q.base ≢ 0) where
-    pub unmanaged : NotAllManaged F q → FirstGiven (baseChecks F q) BadBase
+    pub unmanaged : NotAllManaged F q → FirstGiven (base_checks F q) BadBase
     unmanaged x = inl ((named, x), refl)
 
     -- a socket's grant is in the way, or none is
     module _ (managed : NotAllManaged F q → ⊥) where
-      pub held : (s : ℕ) → GrantInTheWay F q s → FirstGiven (baseChecks F q) InUse
+      pub held : (s : ℕ) → GrantInTheWay F q s → FirstGiven (base_checks F q) InUse
       held s g = inr ((λ y. managed y.1), inl ((named, record { seat = g.seat; stands = g.stands }), refl))
 
-      pub free : ((s : ℕ) → GrantInTheWay F q s → ⊥) → (x : ℕ) → x ≡ q.base → Passed (baseChecks F q) × BaseTaken F q x
+      pub free : ((s : ℕ) → GrantInTheWay F q s → ⊥) → (x : ℕ) → x ≡ q.base → Passed (base_checks F q) × BaseTaken F q x
       free clear x e = (
         (
           (λ y. managed y.1),
@@ -25,10 +25,10 @@ module _ (F : Facts) (q : IoAsked) where
 
   -- base 0
   module _ (zero : q.base ≡ 0) where
-    pub none : NoCandidate F q → FirstGiven (baseChecks F q) InUse
+    pub none : NoCandidate F q → FirstGiven (base_checks F q) InUse
     none x = inr ((λ y. y.0 zero), inr ((λ y. y.0 zero), inl ((zero, x), refl)))
 
-    pub first : (x : ℕ) → CandidateTaken F q x → Passed (baseChecks F q) × BaseTaken F q x
+    pub first : (x : ℕ) → CandidateTaken F q x → Passed (base_checks F q) × BaseTaken F q x
     first x taken =
         (((λ y. y.0 zero), ((λ y. y.0 zero), ((λ y. y.1 x taken.fits), tt))), inr (zero, taken))
 

@@ -1,5 +1,5 @@
 -- What the bytes say of a named base, and each way to the base that is taken. Assumes nothing.
 pub mod Said
 pub mod Ends
-pub use Said.{all-managed}
+pub use Said.{all_managed}
 pub use Ends.{unmanaged, held, free, none, first, low}

@@ -3,79 +3,79 @@
 use Rattle.facts.proofs.Words.{◌≡◌, refl, ap, sym, ◌∙◌, subst, ◌⊎◌, inl, inr, ⊎_elim, List, false, ℕ, zero, suc, ◌+◌, ◌-◌, ◌*◌, ◌≤◌, ◌<◌, dec_lt, arith, eqb-false}
 use Rattle.facts.proofs.Words.{ne_eqb}
 use Rattle.layout.proofs.Of
-use Rattle.facts.specs.{MeetsHeld, IoAsked, Range, Lowest, Has, Managed, Answers, WhollyUnreserved, portsAt, SmallestPower, Candidate, CandidateTaken}
-use Rattle.facts.specs.{mostLines, Facts}
-use Rattle.facts.proofs.{Unreserved, wholly-unreserved-told, chosen-first, chosen-then, smallest-power-unique}
-use Rattle.layout.specs.{rangesIn, rangeIn, marked, Accepted, RangesSound}
+use Rattle.facts.specs.{MeetsHeld, IoAsked, Range, Lowest, Has, Managed, Answers, WhollyUnreserved, ports_at, SmallestPower, Candidate, CandidateTaken}
+use Rattle.facts.specs.{most_lines, Facts}
+use Rattle.facts.proofs.{Unreserved, wholly_unreserved_told, chosen_first, chosen_then, smallest_power_unique}
+use Rattle.layout.specs.{ranges_in, range_in, marked, Accepted, RangesSound}
 use Rattle.layout.proofs.{HasPort}
 use Rattle.table_read.proofs.{All}
-use Rattle.io_ranges.proofs.{answers-own}
-use Rattle.io_answering.proofs.{clear-answers, answers-clear}
+use Rattle.io_ranges.proofs.{answers_own}
+use Rattle.io_answering.proofs.{clear_answers, answers_clear}
 use Rattle.io_candidates.specs.declared.TakenBase.TheVariants.{Base}
 use Rattle.io_answering.specs.{MeetsGap}
-use Rattle.io_candidates.specs.{reserveMark, Counts, SomeMarked, Free, CandidateIn, FirstIs}
-use Rattle.io_candidates.proofs.Choosing.{lowest-as}
-use Rattle.io_candidates.proofs.Runs.{counts-below}
+use Rattle.io_candidates.specs.{reserve_mark, Counts, SomeMarked, Free, CandidateIn, FirstIs}
+use Rattle.io_candidates.proofs.Choosing.{lowest_as}
+use Rattle.io_candidates.proofs.Runs.{counts_below}
 
 -- what bars a base at which the ports are asked for is a live grant that they meet, or a gap
 abbrev pub BarsOnly : List ℕ → Facts → IoAsked → (ℕ → Type 0) → Type 0
-BarsOnly b F q Bar = (x : ℕ) → Bar x → MeetsHeld F (portsAt q x) ⊎ MeetsGap b (portsAt q x)
+BarsOnly b F q Bar = (x : ℕ) → Bar x → MeetsHeld F (ports_at q x) ⊎ MeetsGap b (ports_at q x)
 
 -- and each of these does: a gap, where the card doesn't decode all lines
 pub record BarsAll (b : List ℕ) (F : Facts) (q : IoAsked) (Bar : ℕ → Type 0) : Type 0 where
-  pub held : (x : ℕ) → MeetsHeld F (portsAt q x) → Bar x
-  pub gap : q.lines < mostLines → (x : ℕ) → MeetsGap b (portsAt q x) → Bar x
+  pub held : (x : ℕ) → MeetsHeld F (ports_at q x) → Bar x
+  pub gap : q.lines < most_lines → (x : ℕ) → MeetsGap b (ports_at q x) → Bar x
 
 module _ (b : List ℕ) (a : Accepted b) where
   ordered : RangesSound b
-  ordered = (Of.sound-in b a).ranges
+  ordered = (Of.sound_in b a).ranges
 
   -- what a range's record says
-  reserved-is : (i : ℕ) → (rangeIn b i).reserved ≡ marked (reserveMark b i)
-  unfolding rangeIn
-  reserved-is i = refl
+  reserved_is : (i : ℕ) → (range_in b i).reserved ≡ marked (reserve_mark b i)
+  unfolding range_in
+  reserved_is i = refl
 
-  has-said : (i q : ℕ) → HasPort b i q → Has (rangeIn b i) q
-  unfolding rangeIn
-  has-said i q w = w
+  has_said : (i q : ℕ) → HasPort b i q → Has (range_in b i) q
+  unfolding range_in
+  has_said i q w = w
 
-  said_has : (i q : ℕ) → Has (rangeIn b i) q → HasPort b i q
-  unfolding rangeIn
+  said_has : (i q : ℕ) → Has (range_in b i) q → HasPort b i q
+  unfolding range_in
   said_has i q w = w
 
   -- a port that counts is managed, by the range that has it
-  abbrev managed-by : (most q : ℕ) → Counts b most q → Managed a.facts q
-  managed-by most q c =
-      record { range = rangeIn b c.range; listed = Of.range_listed b a c.range c.listed; has = has-said c.range q c.has }
+  abbrev managed_by : (most q : ℕ) → Counts b most q → Managed a.facts q
+  managed_by most q c =
+      record { range = range_in b c.range; listed = Of.range_listed b a c.range c.listed; has = has_said c.range q c.has }
 
   -- among all ranges a port counts exactly if it is managed
-  managed-counts : (q : ℕ) → Managed a.facts q → Counts b 1 q
-  managed-counts q m =
-      let x = Of.said-managed b a q m in
+  managed_counts : (q : ℕ) → Managed a.facts q → Counts b 1 q
+  managed_counts q m =
+      let x = Of.said_managed b a q m in
       record { range = x.0; listed = x.1; mark = (ordered x.0 x.1).mark; has = x.2 }
 
   -- among the unreserved ranges alone exactly if one of them has it
-  counts-unreserved : (q : ℕ) → Counts b 0 q → Unreserved a.facts q
-  counts-unreserved q c = (
-    managed-by 0 q c,
-    reserved-is c.range ∙ ne_eqb (reserveMark b c.range) 1 (λ e. omega (arith, e, c.mark)),
+  counts_unreserved : (q : ℕ) → Counts b 0 q → Unreserved a.facts q
+  counts_unreserved q c = (
+    managed_by 0 q c,
+    reserved_is c.range ∙ ne_eqb (reserve_mark b c.range) 1 (λ e. omega (arith, e, c.mark)),
   )
 
-  unreserved-counts : (q : ℕ) → Unreserved a.facts q → Counts b 0 q
-  unreserved-counts q u = of-each (Of.listed-range b a u.0.range u.0.listed)
+  unreserved_counts : (q : ℕ) → Unreserved a.facts q → Counts b 0 q
+  unreserved_counts q u = of_each (Of.listed_range b a u.0.range u.0.listed)
     where
-      of-each : (i : ℕ) × (i < rangesIn b) × (u.0.range ≡ rangeIn b i) → Counts b 0 q
-      of-each x =
-          let unmarked : marked (reserveMark b x.0) ≡ false =
-          sym (reserved-is x.0) ∙ sym (ap (λ (r : Range). r.reserved) x.2) ∙ u.1 in
+      of_each : (i : ℕ) × (i < ranges_in b) × (u.0.range ≡ range_in b i) → Counts b 0 q
+      of_each x =
+          let unmarked : marked (reserve_mark b x.0) ≡ false =
+          sym (reserved_is x.0) ∙ sym (ap (λ (r : Range). r.reserved) x.2) ∙ u.1 in
           record {
             range = x.0;
             listed = x.1;
-            mark = omega (arith, (ordered x.0 x.1).mark, eqb-false (reserveMark b x.0) 1 unmarked);
+            mark = omega (arith, (ordered x.0 x.1).mark, eqb-false (reserve_mark b x.0) 1 unmarked);
             has = said_has x.0 q (subst (λ (r : Range). Has r q) x.2 u.0.has);
           }
 
-  module _ (q : IoAsked) (step : ℕ) (align : SmallestPower q.count step) (one : 1 ≤ q.count) (lines : q.lines ≤ mostLines) (Bar : ℕ → Type 0) where
+  module _ (q : IoAsked) (step : ℕ) (align : SmallestPower q.count step) (one : 1 ≤ q.count) (lines : q.lines ≤ most_lines) (Bar : ℕ → Type 0) where
     abbrev Search : ℕ → ℕ → Type 0
     Search most = CandidateIn b Bar most q.count step
 
@@ -84,66 +84,66 @@ module _ (b : List ℕ) (a : Accepted b) where
 
     -- what bars a base is a live grant or a gap: then a candidate is one by the bytes, where all ranges count
     module _ (only : BarsOnly b a.facts q Bar) where
-      pub candidate-free : (x : ℕ) → Candidate a.facts q x → Free Bar step x
-      candidate-free x c =
+      pub candidate_free : (x : ℕ) → Candidate a.facts q x → Free Bar step x
+      candidate_free x c =
           record {
             multiple = record {
               times = c.times;
-              is = subst (λ (n : ℕ). x ≡ c.times * n) (smallest-power-unique q.count c.step step c.align align) c.multiple;
+              is = subst (λ (n : ℕ). x ≡ c.times * n) (smallest_power_unique q.count c.step step c.align align) c.multiple;
             };
             unbarred = λ y.
-                ⊎_elim (λ m. c.meets-none m.seat m.range m.held m.meets)
-                (λ m. answers-clear b ordered (portsAt q x) lines (λ p w. Of.said-managed b a p (c.answers p w)) m) (only x y);
+                ⊎_elim (λ m. c.meets_none m.seat m.range m.held m.meets)
+                (λ m. answers_clear b ordered (ports_at q x) lines (λ p w. Of.said_managed b a p (c.answers p w)) m) (only x y);
           }
 
-      pub candidate-found : (x : ℕ) → Candidate a.facts q x → Search 1 x
-      candidate-found x c =
-          record { free = candidate-free x c; positive = c.positive; counted = λ p w. managed-counts p (c.managed p w) }
+      pub candidate_found : (x : ℕ) → Candidate a.facts q x → Search 1 x
+      candidate_found x c =
+          record { free = candidate_free x c; positive = c.positive; counted = λ p w. managed_counts p (c.managed p w) }
 
       -- and one that lies wholly in unreserved ranges, where these alone count
-      early-found : (x : ℕ) → Candidate a.facts q x × Early x → Search 0 x
-      early-found x c =
-          record { free = candidate-free x c.0; positive = c.0.positive; counted = λ p w. unreserved-counts p (c.1 p w) }
+      early_found : (x : ℕ) → Candidate a.facts q x × Early x → Search 0 x
+      early_found x c =
+          record { free = candidate_free x c.0; positive = c.0.positive; counted = λ p w. unreserved_counts p (c.1 p w) }
 
       -- every live grant and, where a card doesn't decode all lines, every gap bars its bases: then what is found is a candidate
       module _ (all : BarsAll b a.facts q Bar) where
         -- wherever its card answers is managed: no gap bars it, or it decodes all lines and answers at its own ports alone
-        found-answers : (most x : ℕ) → Search most x → (p : ℕ) → Answers (portsAt q x) p → Managed a.facts p
-        found-answers most x c p y = below_or_not (dec_lt q.lines mostLines)
+        found_answers : (most x : ℕ) → Search most x → (p : ℕ) → Answers (ports_at q x) p → Managed a.facts p
+        found_answers most x c p y = below_or_not (dec_lt q.lines most_lines)
           where
-            below_or_not : Dec (q.lines < mostLines) → Managed a.facts p
-            below_or_not (yes l) = Of.managed-said b a p (clear-answers b ordered (portsAt q x) lines (λ m. c.free.unbarred (all.gap l x m)) p y)
+            below_or_not : Dec (q.lines < most_lines) → Managed a.facts p
+            below_or_not (yes l) = Of.managed_said b a p (clear_answers b ordered (ports_at q x) lines (λ m. c.free.unbarred (all.gap l x m)) p y)
             below_or_not (no l) =
                 let own = c.counted y.own y.own_in in
-                let every : q.lines ≡ mostLines = omega arith in
-                subst (Managed a.facts) (sym (answers-own (portsAt q x) every p y (counts-below b ordered most y.own own)))
-                (managed-by most y.own own)
+                let every : q.lines ≡ most_lines = omega arith in
+                subst (Managed a.facts) (sym (answers_own (ports_at q x) every p y (counts_below b ordered most y.own own)))
+                (managed_by most y.own own)
 
-        found-candidate : (most x : ℕ) → Search most x → Candidate a.facts q x
-        found-candidate most x c =
+        found_candidate : (most x : ℕ) → Search most x → Candidate a.facts q x
+        found_candidate most x c =
             record {
               step = step;
               times = c.free.multiple.times;
               align = align;
               multiple = c.free.multiple.is;
               positive = c.positive;
-              managed = λ p w. managed-by most p (c.counted p w);
-              answers = found-answers most x c;
+              managed = λ p w. managed_by most p (c.counted p w);
+              answers = found_answers most x c;
               within =
                   let last = c.counted (x + q.count - 1) (record { from = omega arith; below = omega arith }) in
-                  omega (arith, counts-below b ordered most (x + q.count - 1) last);
-              meets-none = λ s g e m. c.free.unbarred (all.held x (record { seat = s; range = g; held = e; meets = m }));
+                  omega (arith, counts_below b ordered most (x + q.count - 1) last);
+              meets_none = λ s g e m. c.free.unbarred (all.held x (record { seat = s; range = g; held = e; meets = m }));
             }
 
         found_early : (x : ℕ) → Search 0 x → Candidate a.facts q x × Early x
-        found_early x c = (found-candidate 0 x c, λ p w. counts-unreserved p (c.counted p w))
+        found_early x c = (found_candidate 0 x c, λ p w. counts_unreserved p (c.counted p w))
 
         -- the lowest of these is taken, or else the lowest of all
         pub first_taken : (x : ℕ) → FirstIs b Bar q.count step (Base x) → CandidateTaken a.facts q x
         first_taken x (inl low) =
-            chosen-first (λ y _. wholly-unreserved-told a.facts y q.count) (lowest-as found_early early-found (Base x) low)
+            chosen_first (λ y _. wholly_unreserved_told a.facts y q.count) (lowest_as found_early early_found (Base x) low)
         first_taken x (inr late) =
-            chosen-then (λ y c e. late.0 y (early-found y (c, e))) (lowest-as (found-candidate 1) candidate-found (Base x) late.1)
+            chosen_then (λ y c e. late.0 y (early_found y (c, e))) (lowest_as (found_candidate 1) candidate_found (Base x) late.1)
 
 -- the two searches, one after the other
 module _ (b : List ℕ) (Bar : ℕ → Type 0) (count step : ℕ) where
@@ -156,10 +156,10 @@ module _ (b : List ℕ) (Bar : ℕ → Type 0) (count step : ℕ) where
   first_by (suc (suc most)) l none x low = absurd (omega arith)
 
   -- where no range has a mark, or a higher one, those with lower marks are all
-  pub none-marked : (most : ℕ) → (SomeMarked b most → ⊥) → All most (λ m. (x : ℕ) → Found m x → ⊥) → 1 ≤ count → (x : ℕ) → Found 1 x → ⊥
-  none-marked zero n none one x c =
+  pub none_marked : (most : ℕ) → (SomeMarked b most → ⊥) → All most (λ m. (x : ℕ) → Found m x → ⊥) → 1 ≤ count → (x : ℕ) → Found 1 x → ⊥
+  none_marked zero n none one x c =
       let p = c.counted x (record { from = omega arith; below = omega arith }) in n (record { range = p.range; listed = p.listed; marked = omega arith })
-  none-marked (suc most) n none one x c =
+  none_marked (suc most) n none one x c =
       none most (omega arith) x
       (record {
         free = c.free;
@@ -167,9 +167,9 @@ module _ (b : List ℕ) (Bar : ℕ → Type 0) (count step : ℕ) where
         counted = λ p w. let k = c.counted p w in record { range = k.range; listed = k.listed; mark = lower k.range k.listed; has = k.has };
       })
     where
-      lower : (i : ℕ) → i < rangesIn b → reserveMark b i ≤ most
-      lower i l = within_or_not (dec_lt most (reserveMark b i))
+      lower : (i : ℕ) → i < ranges_in b → reserve_mark b i ≤ most
+      lower i l = within_or_not (dec_lt most (reserve_mark b i))
         where
-          within_or_not : Dec (most < reserveMark b i) → reserveMark b i ≤ most
+          within_or_not : Dec (most < reserve_mark b i) → reserve_mark b i ≤ most
           within_or_not (yes h) = absurd (n (record { range = i; listed = l; marked = omega arith }))
           within_or_not (no h) = omega arith

@@ -1,11 +1,11 @@
 -- The smallest power of two not below a number. Assumes nothing.
 use Rattle.facts.proofs.Words.{◌≡◌, ℕ, ◌^◌, ◌≤◌, ◌<◌, pow-le-pow_right, dec_le, dec_lt, arith, pow-lt}
-use Rattle.facts.specs.{SmallestPower, allPorts, mostLines}
+use Rattle.facts.specs.{SmallestPower, all_ports, most_lines}
 use Rattle.io_obstacles.specs.{Power}
 
 -- a power that is not below n is the smallest where every smaller exponent gives one that is
-pub smallest-power : (n k r : ℕ) → r ≡ 2 ^ k → n ≤ r → ((j : ℕ) → j < k → n ≤ 2 ^ j → ⊥) → SmallestPower n r
-smallest-power n k r e h below = record { power = k; is = e; not-below = h; smallest = λ j l. below_or_not j l (dec_lt j k) }
+pub smallest_power : (n k r : ℕ) → r ≡ 2 ^ k → n ≤ r → ((j : ℕ) → j < k → n ≤ 2 ^ j → ⊥) → SmallestPower n r
+smallest_power n k r e h below = record { power = k; is = e; not_below = h; smallest = λ j l. below_or_not j l (dec_lt j k) }
   where
     below_or_not : (j : ℕ) → n ≤ 2 ^ j → Dec (j < k) → r ≤ 2 ^ j
     below_or_not j l (yes m) = absurd (below j m l)
@@ -15,11 +15,11 @@ smallest-power n k r e h below = record { power = k; is = e; not-below = h; smal
         omega (arith, e, pow-le-pow_right two h)
 
 -- for so many ports as there are, it is two to so many lines
-pub smallest-power-lines : (n a : ℕ) → SmallestPower n a → n ≤ allPorts → Power a
-smallest-power-lines n a s h = record { lines = s.power; most = within_or_not (dec_le s.power mostLines); is = s.is }
+pub smallest_power_lines : (n a : ℕ) → SmallestPower n a → n ≤ all_ports → Power a
+smallest_power_lines n a s h = record { lines = s.power; most = within_or_not (dec_le s.power most_lines); is = s.is }
   where
-    within_or_not : Dec (s.power ≤ mostLines) → s.power ≤ mostLines
+    within_or_not : Dec (s.power ≤ most_lines) → s.power ≤ most_lines
     within_or_not (yes l) = l
     within_or_not (no l) =
-        let more : mostLines < s.power = omega arith in
-        absurd (omega (arith, s.is, s.smallest mostLines h, pow-lt more))
+        let more : most_lines < s.power = omega arith in
+        absurd (omega (arith, s.is, s.smallest most_lines h, pow-lt more))

@@ -6,9 +6,9 @@ use Rattle.facts.specs.Choice.{Lowest}
 use Rattle.facts.specs.Packets.{byte}
 use Rattle.facts.specs.Ports.{Within}
 use Rattle.facts.specs.Io.{SmallestPower, CandidateTaken, NoCandidate}
-use Rattle.layout.specs.Reading.{rangesIn, rangePlace}
-use Rattle.layout.specs.Sound.{Accepted, rangeBase, rangeCount}
-use Rattle.layout.specs.Layout.{rangeReservedAt}
+use Rattle.layout.specs.Reading.{ranges_in, range_place}
+use Rattle.layout.specs.Sound.{Accepted, range_base, range_count}
+use Rattle.layout.specs.Layout.{range_reserved_at}
 use Rattle.io_obstacles.specs.declared.Wanted.{Wanted}
 use Rattle.io_obstacles.specs.Bars.{Multiple, Barring}
 use Rattle.io_obstacles.specs.Search.{GapsFor, WantedFits}
@@ -18,35 +18,35 @@ use Rattle.io_candidates.specs.declared.TakenBase.TheVariants.{Base, Nothing}
 use Rattle.io_candidates.specs.declared.Found.{Found}
 
 -- the reserve mark of the range i
-abbrev pub reserveMark : List ℕ → ℕ → ℕ
-reserveMark b i = byte b (rangePlace i + rangeReservedAt)
+abbrev pub reserve_mark : List ℕ → ℕ → ℕ
+reserve_mark b i = byte b (range_place i + range_reserved_at)
 
 -- a port counts where some range has it whose reserve mark is at most `most`: 0 for unreserved ranges alone, 1 for all
 pub record Counts (b : List ℕ) (most p : ℕ) : Type 0 where
   pub range : ℕ
-  pub listed : range < rangesIn b
-  pub mark : reserveMark b range ≤ most
-  pub has : Within p (rangeBase b range) (rangeCount b range)
+  pub listed : range < ranges_in b
+  pub mark : reserve_mark b range ≤ most
+  pub has : Within p (range_base b range) (range_count b range)
 
 -- the range j starts where others end, and its ports count
 pub record FollowsOn (b : List ℕ) (j end most : ℕ) : Type 0 where
-  pub listed : j < rangesIn b
-  pub starts : rangeBase b j ≡ end
-  pub mark : reserveMark b j ≤ most
+  pub listed : j < ranges_in b
+  pub starts : range_base b j ≡ end
+  pub mark : reserve_mark b j ≤ most
 
 -- from the base of the range i on, the ports before r count; r itself does not, unless it is as far as is wanted
 pub record ReachIs (b : List ℕ) (i most want r : ℕ) : Type 0 where
-  pub from : rangeBase b i ≤ r
+  pub from : range_base b i ≤ r
   pub wanted : r ≤ want
-  pub within : r ≤ Table.allPorts
-  pub counts : (p : ℕ) → rangeBase b i ≤ p → p < r → Counts b most p
+  pub within : r ≤ Table.all_ports
+  pub counts : (p : ℕ) → range_base b i ≤ p → p < r → Counts b most p
   pub ends : r < want → Counts b most r → ⊥
 
 -- some range has this reserve mark, or a higher one
 pub record SomeMarked (b : List ℕ) (mark : ℕ) : Type 0 where
   pub range : ℕ
-  pub listed : range < rangesIn b
-  pub marked : mark ≤ reserveMark b range
+  pub listed : range < ranges_in b
+  pub marked : mark ≤ reserve_mark b range
 
 -- x is a multiple of the step that isn't barred
 pub record Free (Bar : ℕ → Type 0) (step x : ℕ) : Type 0 where
@@ -68,7 +68,7 @@ pub record CandidateIn (b : List ℕ) (Bar : ℕ → Type 0) (most count step x 
 -- a candidate whose first port the range i has
 pub record StartsIn (b : List ℕ) (Bar : ℕ → Type 0) (i most count step x : ℕ) : Type 0 where
   pub candidate : CandidateIn b Bar most count step x
-  pub has : Within x (rangeBase b i) (rangeCount b i)
+  pub has : Within x (range_base b i) (range_count b i)
 
 -- the lowest of those that fit, or none does
 abbrev pub LowestIs : (ℕ → Type 0) → TakenBase → Type 0
@@ -89,12 +89,12 @@ FirstIs b Bar count step Nothing = (y : ℕ) → CandidateIn b Bar 1 count step 
 
 -- a search for what is asked, by the bars of the live grants
 pub record Wants (b : List ℕ) (q : IoAsked) (grants : List ℕ) (w : Wanted) : Type 0 where
-  pub count-is : w.count ≡ q.count
+  pub count_is : w.count ≡ q.count
   pub limit_is : w.limit + 1 ≡ 2 ^ q.lines
   pub align : SmallestPower q.count w.step
-  pub gaps-count : GapsFor q.lines w.gaps
-  pub grant-bars : GrantBarsOf b q.count q.lines grants
-  pub lines : q.lines ≤ Table.mostLines
+  pub gaps_count : GapsFor q.lines w.gaps
+  pub grant_bars : GrantBarsOf b q.count q.lines grants
+  pub lines : q.lines ≤ Table.most_lines
   pub numbers : WantedFits w
 
 -- the candidate that is taken, or there is none

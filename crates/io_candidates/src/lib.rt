@@ -3,8 +3,8 @@ ghost use Rattle.std.specs.Prelude.{◌≡◌, ◌≤◌, ◌<◌};
 ghost use Rattle.facts.specs.Table;
 ghost use Rattle.facts.specs.Says.{Says};
 ghost use Rattle.facts.specs.Io.{SmallestPower};
-ghost use Rattle.layout.specs.Reading.{rangesIn};
-ghost use Rattle.layout.specs.Sound.{Accepted, rangeBase};
+ghost use Rattle.layout.specs.Reading.{ranges_in};
+ghost use Rattle.layout.specs.Sound.{Accepted, range_base};
 ghost use Rattle.io_obstacles.specs.Bars.{Barring};
 ghost use Rattle.io_obstacles.specs.Search.{BarredFor, SearchFits};
 ghost use Rattle.io_candidates.specs.Candidates.{FollowsOn, ReachIs, SomeMarked, CandidateIn, StartsIn, Searched, FirstIs, Wants, TakenIs};
@@ -23,7 +23,7 @@ const ALL: usize = MARKED;
 
 // "the smallest power of two not below the count".
 fn align(count: usize) -> usize
-    requires { count ≤ Table.allPorts }
+    requires { count ≤ Table.all_ports }
     ensures { SmallestPower count result }
 {
     for k in 0..MOST_LINES {
@@ -52,7 +52,7 @@ fn follows(t: &[u8], j: usize, end: usize, most: usize) -> bool
 
 // How far the ports that count go on from the base of the range `i`, over the ranges that follow without a gap: no further than is wanted.
 fn reach(t: &[u8], i: usize, most: usize, want: usize) -> usize
-    requires { Accepted t.now × (i < rangesIn t.now) × (rangeBase t.now i ≤ want) }
+    requires { Accepted t.now × (i < ranges_in t.now) × (range_base t.now i ≤ want) }
     ensures { ReachIs t.now i most want result }
 {
     let mut end = table_read::word(t, RANGES_AT + i * RANGE_SIZE);
@@ -91,7 +91,7 @@ fn first_in(
     wanted: Wanted,
     known: Stretch,
 ) -> Found
-    requires accepted { Accepted t.now × (i < rangesIn t.now) × SearchFits grants.now gaps.now wanted }
+    requires accepted { Accepted t.now × (i < ranges_in t.now) × SearchFits grants.now gaps.now wanted }
     requires barring { Barring (BarredFor grants.now gaps.now wanted) wanted.step known }
     ensures { Searched (BarredFor grants.now gaps.now wanted) wanted.step
         (StartsIn t.now (BarredFor grants.now gaps.now wanted) i most wanted.count wanted.step) result }
@@ -208,7 +208,7 @@ fn past_bars(t: &[u8], asked: IoAsked, grants: &[u16], wanted: Wanted) -> TakenB
 
 // The base that is taken, of those that a request without a base can have.
 pub fn choose(t: &[u8], asked: IoAsked) -> TakenBase
-    requires { Accepted t.now × (1 ≤ asked.count) × (asked.count < 256) × (asked.lines ≤ Table.mostLines) }
+    requires { Accepted t.now × (1 ≤ asked.count) × (asked.count < 256) × (asked.lines ≤ Table.most_lines) }
     ensures { TakenIs t.now asked result }
 {
     let count = asked.count;

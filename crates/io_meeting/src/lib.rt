@@ -3,7 +3,7 @@ ghost use Rattle.std.specs.Prelude.{◌<◌, ◌≤◌};
 ghost use Rattle.facts.specs.Table;
 ghost use Rattle.facts.specs.Says.{Says};
 ghost use Rattle.facts.specs.Ports.{MeetsHeld};
-ghost use Rattle.layout.specs.Reading.{factsIn};
+ghost use Rattle.layout.specs.Reading.{facts_in};
 ghost use Rattle.layout.specs.Sound.{Accepted};
 ghost use Rattle.io_meeting.specs.Meeting.{MeetsAt};
 
@@ -13,9 +13,9 @@ use seats::IoSeat;
 
 // Whether the ports meet those that are held at the seat.
 fn at(t: &[u8], base: usize, count: usize, lines: usize, s: Seat) -> bool
-    requires accepted { Accepted t.now × (s.0 < Table.mostSeats) }
-    requires base_bound { (base < Table.allPorts) × (count ≤ Table.allPorts) × (lines ≤ Table.mostLines) }
-    ensures { Says result (MeetsAt (factsIn t.now) (record { base = base; count = count; lines = lines }) s.0) }
+    requires accepted { Accepted t.now × (s.0 < Table.most_seats) }
+    requires base_bound { (base < Table.all_ports) × (count ≤ Table.all_ports) × (lines ≤ Table.most_lines) }
+    ensures { Says result (MeetsAt (facts_in t.now) (record { base = base; count = count; lines = lines }) s.0) }
 {
     let IoSeat::Held(held) = seats::held(t, s) else {
         return false;
@@ -26,8 +26,8 @@ fn at(t: &[u8], base: usize, count: usize, lines: usize, s: Seat) -> bool
 // Whether the ports meet some that are held.
 pub fn some(t: &[u8], base: usize, count: usize, lines: usize) -> bool
     requires accepted { Accepted t.now }
-    requires base_bound { (base < Table.allPorts) × (count ≤ Table.allPorts) × (lines ≤ Table.mostLines) }
-    ensures { Says result (MeetsHeld (factsIn t.now) (record { base = base; count = count; lines = lines })) }
+    requires base_bound { (base < Table.all_ports) × (count ≤ Table.all_ports) × (lines ≤ Table.most_lines) }
+    ensures { Says result (MeetsHeld (facts_in t.now) (record { base = base; count = count; lines = lines })) }
 {
     for s in 0..MOST_SEATS {
         if at(t, base, count, lines, Seat(s)) {

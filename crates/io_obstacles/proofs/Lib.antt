@@ -3,7 +3,7 @@ pub mod Leaping
 pub mod Steps
 pub mod Searching
 pub mod Repeating
-pub use Leaping.{masked, leap-over, leap-none, leap-some, wrapped-behind, leap-start, leap-more}
-pub use Steps.{power-positive, power-most, rounded}
-pub use Searching.{AllBarred, leap-barred, Gone, gone-start, gone-on, gone-along, gone-free, gone-past, gone-as, leap-grants, leap-gaps}
-pub use Repeating.{power-lines, period-is, stretch-repeats, rows-repeat, bars-repeat, rows_more, learnt-barring, nowhere-barring, barring-as}
+pub use Leaping.{masked, leap_over, leap_none, leap_some, wrapped_behind, leap_start, leap_more}
+pub use Steps.{power_positive, power_most, rounded}
+pub use Searching.{AllBarred, leap_barred, Gone, gone_start, gone_on, gone_along, gone_free, gone_past, gone_as, leap_grants, leap_gaps}
+pub use Repeating.{power_lines, period_is, stretch_repeats, rows_repeat, bars_repeat, rows_more, learnt_barring, nowhere_barring, barring_as}

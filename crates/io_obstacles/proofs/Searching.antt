@@ -1,14 +1,14 @@
 -- A search from one multiple of the step to the next that may be free, whatever bars a base. Assumes nothing.
 use Rattle.facts.proofs.Words.{◌≡◌, subst, inl, inr, ⊎_elim, List, ℕ, ◌+◌, ◌-◌, ◌≤◌, ◌<◌, dec_lt, arith}
-use Rattle.io_obstacles.specs.{around, Multiple, FirstMultiple, Leaps, LiesInRows, Opened, grantPlaces, Gaps, BarredByGap, BarredBy}
+use Rattle.io_obstacles.specs.{around, Multiple, FirstMultiple, Leaps, LiesInRows, Opened, grant_places, Gaps, BarredByGap, BarredBy}
 
 -- every multiple from one base on and before another is barred
 abbrev pub AllBarred : (ℕ → Type 0) → ℕ → ℕ → ℕ → Type 0
 AllBarred Bar step from to = (y : ℕ) → Multiple step y → from ≤ y → y < to → Bar y
 
 -- up to as far as a leap goes
-pub leap-barred : {Bar : ℕ → Type 0} (step x r : ℕ) → Leaps Bar x r → AllBarred Bar step x (x + r)
-leap-barred {Bar} step x r l y m f h =
+pub leap_barred : {Bar : ℕ → Type 0} (step x r : ℕ) → Leaps Bar x r → AllBarred Bar step x (x + r)
+leap_barred {Bar} step x r l y m f h =
     let here : x + (y - x) ≡ y = omega arith in subst Bar here (l.each (y - x) (omega arith))
 
 module _ (Bar : ℕ → Type 0) (step from : ℕ) where
@@ -19,13 +19,13 @@ module _ (Bar : ℕ → Type 0) (step from : ℕ) where
     pub near : base ≤ around + around
     pub barred : AllBarred Bar step from base
 
-  pub gone-start : Multiple step from → from ≤ around + around → Gone from
-  gone-start m l = record { multiple = m; past = omega arith; near = l; barred = λ y n f h. absurd (omega arith) }
+  pub gone_start : Multiple step from → from ≤ around + around → Gone from
+  gone_start m l = record { multiple = m; past = omega arith; near = l; barred = λ y n f h. absurd (omega arith) }
 
   module _ (base : ℕ) (g : Gone base) where
     -- from one that is barred, it leaps to the first past the end
-    pub gone-on : (far next : ℕ) → base ≤ far → AllBarred Bar step base far → FirstMultiple far step next → next ≤ around + around → Gone next
-    gone-on far next on all up l =
+    pub gone_on : (far next : ℕ) → base ≤ far → AllBarred Bar step base far → FirstMultiple far step next → next ≤ around + around → Gone next
+    gone_on far next on all up l =
         record {
           multiple = up.multiple;
           past = omega (arith, g.past, up.past);
@@ -39,8 +39,8 @@ module _ (Bar : ℕ → Type 0) (step from : ℕ) where
         below_or_not y m f h (no k) (no n) = absurd (omega (arith, up.first y m (omega arith)))
 
     -- or along to another one
-    pub gone-along : (next : ℕ) → base ≤ next → AllBarred Bar step base next → Multiple step next → next ≤ around + around → Gone next
-    gone-along next on all m l =
+    pub gone_along : (next : ℕ) → base ≤ next → AllBarred Bar step base next → Multiple step next → next ≤ around + around → Gone next
+    gone_along next on all m l =
         record {
           multiple = m;
           past = omega (arith, g.past);
@@ -52,20 +52,20 @@ module _ (Bar : ℕ → Type 0) (step from : ℕ) where
         below_or_not y n f h (yes k) = g.barred y n f k
         below_or_not y n f h (no k) = all y n (omega arith) h
 
-    pub gone-free : (count end : ℕ) → (Bar base → ⊥) → Opened Bar step count from end base
-    gone-free count end n = record { multiple = g.multiple; past = g.past; near = g.near; barred = g.barred; free = λ _. n }
+    pub gone_free : (count end : ℕ) → (Bar base → ⊥) → Opened Bar step count from end base
+    gone_free count end n = record { multiple = g.multiple; past = g.past; near = g.near; barred = g.barred; free = λ _. n }
 
-    pub gone-past : (count end : ℕ) → end < base + count → Opened Bar step count from end base
-    gone-past count end h = record { multiple = g.multiple; past = g.past; near = g.near; barred = g.barred; free = λ l. absurd (omega arith) }
+    pub gone_past : (count end : ℕ) → end < base + count → Opened Bar step count from end base
+    gone_past count end h = record { multiple = g.multiple; past = g.past; near = g.near; barred = g.barred; free = λ l. absurd (omega arith) }
 
 -- what one predicate bars, another that says less bars too
-pub gone-as : {Bar Bar' : ℕ → Type 0} (step from base : ℕ) → ((x : ℕ) → Bar x → Bar' x) → Gone Bar step from base → Gone Bar' step from base
-gone-as step from base so g = record { multiple = g.multiple; past = g.past; near = g.near; barred = λ y m f l. so y (g.barred y m f l) }
+pub gone_as : {Bar Bar' : ℕ → Type 0} (step from base : ℕ) → ((x : ℕ) → Bar x → Bar' x) → Gone Bar step from base → Gone Bar' step from base
+gone_as step from base so g = record { multiple = g.multiple; past = g.past; near = g.near; barred = λ y m f l. so y (g.barred y m f l) }
 
 -- the farthest of the grants' bars, or else of the gaps'
-module _ {grants : List ℕ} (gaps : List ℕ) (counted : Gaps) {limit x d : ℕ} (l : Leaps (LiesInRows grants grantPlaces limit) x d) where
-  pub leap-grants : (d ≡ 0 → ⊥) → Leaps (BarredBy grants gaps counted limit) x d
-  leap-grants n = record { none = λ z. absurd (n z); each = λ e h. inl (l.each e h); most = l.most }
+module _ {grants : List ℕ} (gaps : List ℕ) (counted : Gaps) {limit x d : ℕ} (l : Leaps (LiesInRows grants grant_places limit) x d) where
+  pub leap_grants : (d ≡ 0 → ⊥) → Leaps (BarredBy grants gaps counted limit) x d
+  leap_grants n = record { none = λ z. absurd (n z); each = λ e h. inl (l.each e h); most = l.most }
 
-  pub leap-gaps : {r : ℕ} → d ≡ 0 → Leaps (BarredByGap counted gaps limit) x r → Leaps (BarredBy grants gaps counted limit) x r
-  leap-gaps z m = record { none = λ q. ⊎_elim (l.none z) (m.none q); each = λ e h. inr (m.each e h); most = m.most }
+  pub leap_gaps : {r : ℕ} → d ≡ 0 → Leaps (BarredByGap counted gaps limit) x r → Leaps (BarredBy grants gaps counted limit) x r
+  leap_gaps z m = record { none = λ q. ⊎_elim (l.none z) (m.none q); each = λ e h. inr (m.each e h); most = m.most }

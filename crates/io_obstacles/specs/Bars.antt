@@ -6,12 +6,12 @@ use Rattle.io_obstacles.specs.declared.Stretch.{Stretch}
 
 -- twice all ports: a multiple of every period
 abbrev pub around : ℕ
-around = Table.allPorts + Table.allPorts
+around = Table.all_ports + Table.all_ports
 
 -- n is two to so many lines
 pub record Power (n : ℕ) : Type 0 where
   pub lines : ℕ
-  pub most : lines ≤ Table.mostLines
+  pub most : lines ≤ Table.most_lines
   pub is : n ≡ 2 ^ lines
 
 -- x is a multiple of the step
@@ -37,20 +37,20 @@ pub record StretchFits (s : Stretch) : Type 0 where
   pub width : s.width ≤ around
 
 -- the bar in the place i of rows with so many places: all starts, then all periods less one, then all widths
-abbrev pub barAt : List ℕ → ℕ → ℕ → Stretch
-barAt rows places i = record { start = slice_index rows i; ones = slice_index rows (places + i); width = slice_index rows (places + places + i) }
+abbrev pub bar_at : List ℕ → ℕ → ℕ → Stretch
+bar_at rows places i = record { start = slice_index rows i; ones = slice_index rows (places + i); width = slice_index rows (places + places + i) }
 
 -- rows of bars that fit
 pub record RowsFit (rows : List ℕ) (places : ℕ) : Type 0 where
   pub size : places + places + places ≤ length rows
-  pub each : (i : ℕ) → i < places → StretchFits (barAt rows places i)
+  pub each : (i : ℕ) → i < places → StretchFits (bar_at rows places i)
 
 -- x lies in one of the first n bars, of those whose period is at most limit + 1
 pub record LiesInFirst (rows : List ℕ) (places limit n x : ℕ) : Type 0 where
   pub place : ℕ
   pub below : place < n
-  pub short : (barAt rows places place).ones ≤ limit
-  pub lies : Lies (barAt rows places place) x
+  pub short : (bar_at rows places place).ones ≤ limit
+  pub lies : Lies (bar_at rows places place) x
 
 abbrev pub LiesInRows : List ℕ → ℕ → ℕ → ℕ → Type 0
 LiesInRows rows places limit = LiesInFirst rows places limit places
@@ -86,16 +86,16 @@ Repeats Bar period = (x y : ℕ) → x % period ≡ y % period → Bar x → Bar
 pub record Period (limit step period : ℕ) : Type 0 where
   pub power : Power period
   pub short : Power (limit + 1)
-  pub step-power : Power step
+  pub step_power : Power step
   pub decides : short.lines ≤ power.lines
-  pub steps : step-power.lines ≤ power.lines
+  pub steps : step_power.lines ≤ power.lines
 
 -- what is learnt of a search that went from one base to another and found none free: the stretch between them, or what was known before
 pub record StretchBetween (from to period : ℕ) (r : Stretch) : Type 0 where
   pub start : r.start ≡ from
   pub ones : r.ones + 1 ≡ period
   pub ends : from + r.width ≤ to
-  pub within : from + r.width ≤ Table.allPorts
+  pub within : from + r.width ≤ Table.all_ports
 
 abbrev pub LearntIs : Stretch → ℕ → ℕ → ℕ → Stretch → Type 0
 LearntIs known from to period r = (r ≡ known) ⊎ StretchBetween from to period r

@@ -3,8 +3,8 @@ pub mod Bars
 pub mod Search
 pub use declared.Stretch.{Stretch}
 pub use declared.Wanted.{Wanted}
-pub use Bars.{around, Power, Multiple, FirstMultiple, Lies, StretchFits, barAt, RowsFit, LiesInFirst, LiesInRows, Leaps, LiesShort, Opened, Barring}
+pub use Bars.{around, Power, Multiple, FirstMultiple, Lies, StretchFits, bar_at, RowsFit, LiesInFirst, LiesInRows, Leaps, LiesShort, Opened, Barring}
 pub use Bars.{Repeats, Period, StretchBetween, LearntIs, Everywhere}
 pub use declared.Gaps.{Gaps}
 pub use declared.Gaps.TheVariants.{Counted, Ignored}
-pub use Search.{grantPlaces, gapPlaces, grantRows, gapRows, GapsFor, BarredByGap, BarredBy, BarredFor, WantedFits, SearchFits, OpenedIs}
+pub use Search.{grant_places, gap_places, grant_rows, gap_rows_lem, GapsFor, BarredByGap, BarredBy, BarredFor, WantedFits, SearchFits, OpenedIs}

@@ -4,7 +4,7 @@ ghost use Rattle.std.specs.Prelude.{◌≡◌, ◌+◌, ◌^◌, ◌<◌, ◌≤
 ghost use Rattle.facts.specs.Table;
 ghost use Rattle.io_obstacles.specs.Bars.{around, Power, Multiple, FirstMultiple, StretchFits, RowsFit, LiesShort, LiesInRows, Leaps, Opened};
 ghost use Rattle.io_obstacles.specs.Bars.{Barring, Period, LearntIs, Everywhere};
-ghost use Rattle.io_obstacles.specs.Search.{grantPlaces, gapPlaces, GapsFor, WantedFits, BarredFor, SearchFits, OpenedIs};
+ghost use Rattle.io_obstacles.specs.Search.{grant_places, gap_places, GapsFor, WantedFits, BarredFor, SearchFits, OpenedIs};
 
 use layout::{ALL_PORTS, MOST_LINES, MOST_RANGES, MOST_SEATS};
 
@@ -33,7 +33,7 @@ fn nowhere() -> Stretch
 // How far the end of the stretch lies ahead of a base in it; 0 where the base isn't. Of 10 bases from 2FD on, again after each 400H, the base 700H lies 3
 // past the start: 700H + 20000H - 2FDH is 20403H, and its low ten bits are 3. So the end lies 10 - 3 bases ahead, at 707H.
 fn ahead(s: Stretch, base: usize) -> usize
-    requires { StretchFits s × (base ≤ Table.allPorts) }
+    requires { StretchFits s × (base ≤ Table.all_ports) }
     ensures { Leaps (LiesShort s.ones s) base result }
 {
     let behind = (base as u32 + AROUND - s.start) & s.ones;
@@ -76,7 +76,7 @@ const UNUSED: usize = 1;
 // How far the farthest end lies ahead, of the bars that have the base and whose periods are no longer than the limit and one. For a base in two bars, one
 // that ends 5 bases ahead and one that ends 9 ahead, it is 9: every base up to there is barred.
 fn leap(rows: &[u16], places: usize, limit: u16, base: usize) -> usize
-    requires { RowsFit rows.now places × (places ≤ gapPlaces) × (base < Table.allPorts) }
+    requires { RowsFit rows.now places × (places ≤ gap_places) × (base < Table.all_ports) }
     ensures { Leaps (LiesInRows rows.now places limit) base result }
 {
     let from = base as u16;
@@ -153,7 +153,7 @@ pub enum Gaps {
 }
 
 pub fn gaps_for(lines: usize) -> Gaps
-    requires { lines ≤ Table.mostLines }
+    requires { lines ≤ Table.most_lines }
     ensures { GapsFor lines result }
 {
     if lines < MOST_LINES {
@@ -177,9 +177,9 @@ pub struct Wanted {
 // The lowest multiple of the step from one on that lies in no grant's bar with a period of the limit and one, or less; or the first whose ports don't
 // end at or before a number.
 fn run_end(grants: &[u16], limit: u16, count: usize, step: usize, from: usize, end: usize) -> usize
-    requires rows_fit { RowsFit grants.now grantPlaces × Power step × (1 ≤ count) × (count < 256) }
-    requires multiple { Multiple step from × (from ≤ around + around) × (end < Table.allPorts + count) }
-    ensures { Opened (LiesInRows grants.now grantPlaces limit) step count from end result }
+    requires rows_fit { RowsFit grants.now grant_places × Power step × (1 ≤ count) × (count < 256) }
+    requires multiple { Multiple step from × (from ≤ around + around) × (end < Table.all_ports + count) }
+    ensures { Opened (LiesInRows grants.now grant_places limit) step count from end result }
 {
     let mut base = from;
     while base + count <= end {
@@ -194,7 +194,7 @@ fn run_end(grants: &[u16], limit: u16, count: usize, step: usize, from: usize, e
 
 // How far a search can leap from a base: to the farthest end of the grants' bars that have it, or else of the gaps'.
 fn leap_all(grants: &[u16], gaps: &[u16], wanted: Wanted, base: usize) -> usize
-    requires { RowsFit grants.now grantPlaces × RowsFit gaps.now gapPlaces × (base < Table.allPorts) }
+    requires { RowsFit grants.now grant_places × RowsFit gaps.now gap_places × (base < Table.all_ports) }
     ensures { Leaps (BarredFor grants.now gaps.now wanted) base result }
 {
     let limit = wanted.limit;
@@ -228,7 +228,7 @@ pub fn lowest(
     end: usize,
 ) -> Search
     requires search_fits { SearchFits grants.now gaps.now wanted × Multiple wanted.step from × (from ≤ around + around) }
-    requires barring { Barring (BarredFor grants.now gaps.now wanted) wanted.step known × (end < Table.allPorts + wanted.count) }
+    requires barring { Barring (BarredFor grants.now gaps.now wanted) wanted.step known × (end < Table.all_ports + wanted.count) }
     ensures { OpenedIs grants.now gaps.now wanted from end result }
 {
     let count = wanted.count;
@@ -268,7 +268,7 @@ pub fn lowest(
 
 // Two to so many lines, less one: no bar that so many lines decide has a longer period, less one.
 pub fn limit_of(lines: usize) -> u16
-    requires { lines ≤ Table.mostLines }
+    requires { lines ≤ Table.most_lines }
     ensures { result + 1 ≡ 2 ^ lines }
 {
     (io_ranges::power(lines) - 1) as u16
@@ -277,7 +277,7 @@ pub fn limit_of(lines: usize) -> u16
 // The periods of the grants' bars, a bit for each: two to so many lines. A place that isn't used has a period of one. With bars of 10 and of 16 lines it is
 // 1 + 2^10 + 2^16.
 pub fn periods(grants: &[u16]) -> usize
-    requires { RowsFit grants.now grantPlaces }
+    requires { RowsFit grants.now grant_places }
 {
     let mut some: usize = 0;
     for i in 0..GRANT_PLACES {
@@ -304,8 +304,8 @@ pub fn shortest(periods: usize, limit: u16) -> u16
 // lines it goes along the bars of the first one, up to 100H at most, and then along the bars of both, up to 400H at most. Where it gets to such an end,
 // every base is barred. Where no bar has a shorter period than all ports, nothing comes again, and there is nothing to learn.
 pub fn passed(grants: &[u16], wanted: Wanted) -> Stretch
-    requires { RowsFit grants.now grantPlaces × WantedFits wanted }
-    ensures { Barring (LiesInRows grants.now grantPlaces wanted.limit) wanted.step result }
+    requires { RowsFit grants.now grant_places × WantedFits wanted }
+    ensures { Barring (LiesInRows grants.now grant_places wanted.limit) wanted.step result }
 {
     let count = wanted.count;
     let step = wanted.step;

@@ -1,3 +1,3 @@
 -- The clauses of the checks. Assumes nothing.
 pub mod Clauses
-pub use Clauses.{attributes-good, sizes-good}
+pub use Clauses.{attributes_good, sizes_good}

@@ -27,7 +27,7 @@ SecondIs p second.Asked = second_count p ≢ 0
 
 -- what is asked keeps the bounds of a packet whose attributes and sizes are good
 pub record AskedFits (q : IoAsked) : Type 0 where
-  pub base : q.base < Table.allPorts
+  pub base : q.base < Table.all_ports
   pub port : 1 ≤ q.count
   pub ports : q.count < 256
-  pub lines : q.lines ≤ Table.mostLines
+  pub lines : q.lines ≤ Table.most_lines

@@ -3,7 +3,7 @@ ghost use Rattle.std.specs.Prelude.{◌≡◌, ◌<◌, ◌≤◌, length};
 ghost use Rattle.facts.specs.Table;
 ghost use Rattle.facts.specs.Says.{Says};
 ghost use Rattle.facts.specs.Packets.{bit};
-ghost use Rattle.facts.specs.Io.{requestIoLength, baseAsked, countAsked, ioAttributes, linesAsked, ioAsked, IoShared, IoFirstShared};
+ghost use Rattle.facts.specs.Io.{request_io_length, base_asked_lem, count_asked_lem, io_attributes, lines_asked_lem, io_asked, IoShared, IoFirstShared};
 ghost use Rattle.io_packets.specs.Asking.{AttributesAre, SizesAre, SecondIs};
 
 use facts::IoAsked;
@@ -31,42 +31,42 @@ const ALL_ATTRIBUTES: usize = 16;
 
 // The numbers that a packet gives.
 pub fn base_asked(p: &[u8]) -> usize
-    requires { length p.now ≡ requestIoLength }
-    ensures { (result ≡ baseAsked p.now) × (result < 65536) }
+    requires { length p.now ≡ request_io_length }
+    ensures { (result ≡ base_asked_lem p.now) × (result < 65536) }
 {
     table_read::word(p, BASE_AT)
 }
 
 pub fn count_asked(p: &[u8]) -> usize
-    requires { length p.now ≡ requestIoLength }
-    ensures { (result ≡ countAsked p.now) × (result < 256) }
+    requires { length p.now ≡ request_io_length }
+    ensures { (result ≡ count_asked_lem p.now) × (result < 256) }
 {
     table_read::byte(p, COUNT_AT)
 }
 
 pub fn lines_asked(p: &[u8]) -> usize
-    requires { length p.now ≡ requestIoLength }
-    ensures { (result ≡ linesAsked p.now) × (result < 256) }
+    requires { length p.now ≡ request_io_length }
+    ensures { (result ≡ lines_asked_lem p.now) × (result < 256) }
 {
     table_read::byte(p, LINES_AT)
 }
 
 fn attribute_set(p: &[u8], place: usize) -> bool
-    requires { (length p.now ≡ requestIoLength) × (place < 16) }
-    ensures { Says result (bit (ioAttributes p.now) place ≡ 1) }
+    requires { (length p.now ≡ request_io_length) × (place < 16) }
+    ensures { Says result (bit (io_attributes p.now) place ≡ 1) }
 {
     table_read::is_set(table_read::byte(p, ATTRIBUTES_AT), place)
 }
 
 fn shared(p: &[u8]) -> bool
-    requires { length p.now ≡ requestIoLength }
+    requires { length p.now ≡ request_io_length }
     ensures { Says result (IoShared p.now) }
 {
     attribute_set(p, SHARED)
 }
 
 fn first_shared(p: &[u8]) -> bool
-    requires { length p.now ≡ requestIoLength }
+    requires { length p.now ≡ request_io_length }
     ensures { Says result (IoFirstShared p.now) }
 {
     attribute_set(p, FIRST_SHARED)
@@ -74,7 +74,7 @@ fn first_shared(p: &[u8]) -> bool
 
 // "First Shared without Shared"
 fn first_alone(p: &[u8]) -> bool
-    requires { length p.now ≡ requestIoLength }
+    requires { length p.now ≡ request_io_length }
     ensures { Says result (IoFirstShared p.now × (IoShared p.now → ⊥)) }
 {
     if !first_shared(p) {
@@ -92,7 +92,7 @@ pub enum Attributes {
 }
 
 pub fn attributes_asked(p: &[u8]) -> Attributes
-    requires { length p.now ≡ requestIoLength }
+    requires { length p.now ≡ request_io_length }
     ensures { AttributesAre p.now result }
 {
     if ALL_ATTRIBUTES <= table_read::byte(p, ATTRIBUTES_AT) {
@@ -119,7 +119,7 @@ pub enum Second {
 }
 
 pub fn second_asked(p: &[u8]) -> Second
-    requires { length p.now ≡ requestIoLength }
+    requires { length p.now ≡ request_io_length }
     ensures { SecondIs p.now result }
 {
     if table_read::byte(p, SECOND_COUNT_AT) == 0 {
@@ -137,7 +137,7 @@ pub enum Sizes {
 }
 
 pub fn sizes_asked(p: &[u8]) -> Sizes
-    requires { (length p.now ≡ requestIoLength) × (linesAsked p.now ≤ Table.mostLines) }
+    requires { (length p.now ≡ request_io_length) × (lines_asked_lem p.now ≤ Table.most_lines) }
     ensures { SizesAre p.now result }
 {
     let count = count_asked(p);
@@ -155,8 +155,8 @@ pub fn sizes_asked(p: &[u8]) -> Sizes
 
 // What a packet of RequestIO asks for.
 pub fn asked(p: &[u8]) -> IoAsked
-    requires { length p.now ≡ requestIoLength }
-    ensures { (result ≡ ioAsked p.now) × (result.base < 65536) × (result.count < 256) }
+    requires { length p.now ≡ request_io_length }
+    ensures { (result ≡ io_asked p.now) × (result.base < 65536) × (result.count < 256) }
 {
     let base = base_asked(p);
     let count = count_asked(p);

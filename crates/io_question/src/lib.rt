@@ -2,7 +2,7 @@
 ghost use Rattle.std.specs.Prelude.{◌≡◌, ◌<◌, ◌≤◌};
 ghost use Rattle.facts.specs.Table;
 ghost use Rattle.facts.specs.Codes.{packed};
-ghost use Rattle.facts.specs.Way.{socketNumber};
+ghost use Rattle.facts.specs.Way.{socket_number};
 ghost use Rattle.layout.specs.Sound.{Accepted};
 ghost use Rattle.io_packets.specs.Asking.{AskedFits};
 ghost use Rattle.io_way.specs.Ways.{way_of};
@@ -22,7 +22,7 @@ pub enum Told {
 
 // "for a named base"; own grants count "after BAD_BASE". "For base 0 .. it answers none".
 fn of_ports(t: &[u8], seat: Seat, asked: IoAsked) -> Told
-    requires { Accepted t.now × (seat.0 < Table.mostSeats) × AskedFits asked }
+    requires { Accepted t.now × (seat.0 < Table.most_seats) × AskedFits asked }
     ensures { ToldOfPorts t.now seat.0 asked result }
 {
     if asked.base == 0 {
@@ -48,8 +48,8 @@ pub fn ask(t: &[u8], h: Handle, p: &[u8]) -> Told
 
 // 0 for nobody, else the socket + 1.
 fn way_number(way: Way) -> u32
-    requires { socketNumber (way_of way) ≤ Table.mostSockets }
-    ensures { result ≡ socketNumber (way_of way) }
+    requires { socket_number (way_of way) ≤ Table.most_sockets }
+    ensures { result ≡ socket_number (way_of way) }
 {
     match way {
         Way::Clear => 0,
@@ -59,8 +59,8 @@ fn way_number(way: Way) -> u32
 
 // code + 65536 * that number.
 pub fn pack(x: Told) -> u32
-    requires { socketNumber (answer_of x).socket ≤ Table.mostSockets }
-    ensures { result ≡ packed (answer_of x).code (socketNumber (answer_of x).socket) }
+    requires { socket_number (answer_of x).socket ≤ Table.most_sockets }
+    ensures { result ≡ packed (answer_of x).code (socket_number (answer_of x).socket) }
 {
     match x {
         Told::Answered(way) => 65536 * way_number(way),

@@ -2,5 +2,5 @@
 pub mod Answering
 pub mod Meeting
 pub mod Remainders
-pub use Answering.{answers-meet, meet-answers, answers-own}
-pub use Remainders.{all-ports-mod, meet-near, near-meet, meet-says, mod_fewer, meet-repeats}
+pub use Answering.{answers_meet, meet_answers, answers_own}
+pub use Remainders.{all_ports_mod, meet_near, near_meet, meet_says, mod_fewer, meet_repeats}

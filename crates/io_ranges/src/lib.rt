@@ -1,14 +1,14 @@
 // Ports: when two ranges meet, and when they overlap.
 ghost use Rattle.std.specs.Prelude.{◌≡◌, ◌+◌, ◌^◌, ◌<◌, ◌≤◌, min, max};
 ghost use Rattle.facts.specs.Says.{Says};
-ghost use Rattle.facts.specs.Table.{allPorts, mostLines};
+ghost use Rattle.facts.specs.Table.{all_ports, most_lines};
 ghost use Rattle.facts.specs.Ports.{Meet, Overlap};
 
 use layout::ALL_PORTS;
 
 // Two to the power of `k`.
 pub fn power(k: usize) -> usize
-    requires { k ≤ mostLines }
+    requires { k ≤ most_lines }
     ensures { result ≡ 2 ^ k }
 {
     1 << k
@@ -76,7 +76,7 @@ pub fn meets(
     count2: usize,
     lines2: usize,
 ) -> bool
-    requires { (base < allPorts) × (count ≤ allPorts) × (lines ≤ mostLines) × (base2 < allPorts) × (lines2 ≤ mostLines) × (count2 ≤ allPorts) }
+    requires { (base < all_ports) × (count ≤ all_ports) × (lines ≤ most_lines) × (base2 < all_ports) × (lines2 ≤ most_lines) × (count2 ≤ all_ports) }
     ensures { Says result (Meet (record { base = base; count = count; lines = lines }) (record { base = base2; count = count2; lines = lines2 })) }
 {
     if smaller(count, count2) == 0 {

@@ -1,3 +1,3 @@
 -- Each end of RequestIO and ReleaseIO. Assumes nothing.
 pub mod Ends
-pub use Ends.{base-fits, request-ahead, request-held, settled, releasing, release-second, release-unheld, release-done}
+pub use Ends.{base_fits, request_ahead, request_held, settled, releasing, release_second, release_unheld, release_done}

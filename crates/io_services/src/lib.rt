@@ -1,12 +1,12 @@
 // RequestIO and ReleaseIO, on a table that is the image of a well-formed set.
 ghost use Rattle.std.specs.Prelude.{◌≡◌, ◌<◌, length};
 ghost use Rattle.facts.specs.Table;
-ghost use Rattle.facts.specs.Packets.{withWord};
-ghost use Rattle.facts.specs.Io.{requestIoLength};
-ghost use Rattle.layout.specs.Layout.{tableSize, mark};
+ghost use Rattle.facts.specs.Packets.{with_word};
+ghost use Rattle.facts.specs.Io.{request_io_length};
+ghost use Rattle.layout.specs.Layout.{table_size, mark};
 ghost use Rattle.layout.specs.Sound.{Accepted};
 ghost use Rattle.io_packets.specs.Asking.{AskedFits};
-ghost use Rattle.io_services.specs.Granting.{askedEntered, BaseFits, Granted, RequestServed, ReleaseServed};
+ghost use Rattle.io_services.specs.Granting.{asked_entered, BaseFits, Granted, RequestServed, ReleaseServed};
 
 use facts::{Code, Handle, IoAsked, Seat};
 use grants::Ports;
@@ -27,9 +27,9 @@ fn mark_of(shared: bool) -> usize
 
 // The grant that is asked for is entered at a base; "Success writes BasePort1."
 fn enter_asked(t: &mut [u8], seat: Seat, h: Handle, base: usize, asked: IoAsked, p: &mut [u8])
-    requires { (length t.old ≡ tableSize) × (seat.0 < Table.mostSeats) × (base < 65536) × AskedFits asked × (length p.old ≡ requestIoLength) }
-    ensures t_after { t.new ≡ askedEntered t.old seat.0 h.0 base asked }
-    ensures p_after { p.new ≡ withWord p.old 2 base }
+    requires { (length t.old ≡ table_size) × (seat.0 < Table.most_seats) × (base < 65536) × AskedFits asked × (length p.old ≡ request_io_length) }
+    ensures t_after { t.new ≡ asked_entered t.old seat.0 h.0 base asked }
+    ensures p_after { p.new ≡ with_word p.old 2 base }
 {
     grants::enter_ports(
         t,
@@ -45,7 +45,7 @@ fn enter_asked(t: &mut [u8], seat: Seat, h: Handle, base: usize, asked: IoAsked,
 
 // The grant at the base that is taken, or the refusal.
 fn settle(t: &mut [u8], seat: Seat, h: Handle, asked: IoAsked, taken: Base, p: &mut [u8]) -> Answer
-    requires { (length t.old ≡ tableSize) × (seat.0 < Table.mostSeats) × BaseFits taken × AskedFits asked × (length p.old ≡ requestIoLength) }
+    requires { (length t.old ≡ table_size) × (seat.0 < Table.most_seats) × BaseFits taken × AskedFits asked × (length p.old ≡ request_io_length) }
     ensures { Granted seat.0 h.0 asked taken p.old p.new t.old t.new result }
 {
     match taken {

@@ -1,3 +1,3 @@
 -- What the bytes say of the grants in the way. Assumes nothing.
 pub mod Said
-pub use Said.{none-stands, meets-stands, unshared-stands, shared_says, seat-free, seat-held, lowest-found, none_found, way-is, own-free, lower-first, own_first}
+pub use Said.{none_stands, meets_stands, unshared_stands, shared_says, seat_free, seat_held, lowest_found, none_found, way_is, own_free, lower_first, own_first}

@@ -2,7 +2,7 @@
 use Rattle.std.specs.Prelude.{◌≡◌, ◌⊎◌, ◌≢◌, List, ℕ, ◌<◌}
 use Rattle.std.proofs.Math.Option.{Option, none, some}
 use Rattle.facts.specs.declared.IoAsked.{IoAsked}
-use Rattle.facts.specs.Table.{Facts, Seat, socketAt}
+use Rattle.facts.specs.Table.{Facts, Seat, socket_at}
 use Rattle.facts.specs.Choice.{LowestOrNone}
 use Rattle.facts.specs.Way.{GrantInTheWay}
 use Rattle.layout.specs.Sound.{Accepted}
@@ -23,7 +23,7 @@ LowestBelow b q n r = (a : Accepted b) → LowestOrNone (λ s. (s < n) × GrantI
 
 -- a grant at the asking seat counts as well
 abbrev pub Counted : Facts → IoAsked → Seat → ℕ → Type 0
-Counted F q own s = GrantInTheWay F q s ⊎ ((s ≡ socketAt own) × (F.io own ≢ none))
+Counted F q own s = GrantInTheWay F q s ⊎ ((s ≡ socket_at own) × (F.io own ≢ none))
 
 abbrev pub WayCounted : List ℕ → IoAsked → Seat → Way → Type 0
 WayCounted b q own r = (a : Accepted b) → LowestOrNone (Counted a.facts q own) (way_of r)

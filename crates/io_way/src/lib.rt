@@ -3,7 +3,7 @@ ghost use Rattle.std.specs.Prelude.{◌<◌, ◌≤◌};
 ghost use Rattle.facts.specs.Table;
 ghost use Rattle.facts.specs.Says.{Says};
 ghost use Rattle.facts.specs.Io.{InTheWayAt};
-ghost use Rattle.layout.specs.Reading.{factsIn};
+ghost use Rattle.layout.specs.Reading.{facts_in};
 ghost use Rattle.layout.specs.Sound.{Accepted};
 ghost use Rattle.io_packets.specs.Asking.{AskedFits};
 ghost use Rattle.io_way.specs.Ways.{LowestBelow, WayIs, WayCounted};
@@ -14,8 +14,8 @@ use seats::IoSeat;
 
 // Whether what is held at the seat is in the way: the ports meet, and First Shared is set or the two don't both share.
 fn stands(t: &[u8], asked: IoAsked, s: Seat) -> bool
-    requires { Accepted t.now × (s.0 < Table.mostSeats) × AskedFits asked }
-    ensures { Says result (InTheWayAt (factsIn t.now) asked s.0) }
+    requires { Accepted t.now × (s.0 < Table.most_seats) × AskedFits asked }
+    ensures { Says result (InTheWayAt (facts_in t.now) asked s.0) }
 {
     let IoSeat::Held(x) = seats::held(t, s) else {
         return false;
@@ -48,7 +48,7 @@ pub enum Way {
 
 // Of the sockets below the end alone.
 fn lowest(t: &[u8], asked: IoAsked, end: usize) -> Way
-    requires { Accepted t.now × AskedFits asked × (end ≤ Table.mostSeats) }
+    requires { Accepted t.now × AskedFits asked × (end ≤ Table.most_seats) }
     ensures { LowestBelow t.now asked end result }
 {
     for s in 0..end {
@@ -69,7 +69,7 @@ pub fn in_the_way(t: &[u8], asked: IoAsked) -> Way
 
 // K5: "an I/O grant on the asking socket itself counts as in the way". No socket past it is looked at then.
 pub fn own_counted(t: &[u8], asked: IoAsked, own: Seat) -> Way
-    requires { Accepted t.now × AskedFits asked × (own.0 < Table.mostSeats) }
+    requires { Accepted t.now × AskedFits asked × (own.0 < Table.most_seats) }
     ensures { WayCounted t.now asked own.0 result }
 {
     let IoSeat::Held(_) = seats::held(t, own) else {

@@ -2,7 +2,7 @@
 use Rattle.facts.proofs.Words.{◌≡◌, refl, sym, ◌∙◌, ◌≢◌, ℕ, zero, suc, ◌/◌, ◌%◌, ◌^◌, ◌≤◌, ◌<◌, two-pow-succ, arith, count_trailing_zeros, under}
 use Rattle.facts.specs.{bit, Lowest}
 use Rattle.table_read.specs.{HasJust}
-use Rattle.table_read.proofs.{lowest-bit, higher-bit}
+use Rattle.table_read.proofs.{lowest_bit, higher_bit}
 use Rattle.irq_fitting.specs.{LowestIn}
 
 -- the bit at the end of the trailing zeros is set, and none below it
@@ -14,26 +14,26 @@ trailing : (d m : ℕ) → m ≢ 0 → m < 2 ^ d → LowestBit m (count_trailing
 unfolding count_trailing_zeros
 trailing zero m n l = absurd (n (omega arith))
 trailing (suc d) m n l =
-    of-each (m % 2) refl (λ e. trailing d (m / 2) (λ z. n (omega (arith, e, z))) (omega (arith, two-pow-succ d)))
+    of_each (m % 2) refl (λ e. trailing d (m / 2) (λ z. n (omega (arith, e, z))) (omega (arith, two-pow-succ d)))
   where
-    of-each : (r : ℕ) → m % 2 ≡ r → (m % 2 ≡ 0 → LowestBit (m / 2) (count_trailing_zeros d (m / 2)))
+    of_each : (r : ℕ) → m % 2 ≡ r → (m % 2 ≡ 0 → LowestBit (m / 2) (count_trailing_zeros d (m / 2)))
         → LowestBit m (under r (count_trailing_zeros d (m / 2)))
-    of-each zero e f = record { set = higher-bit m (count_trailing_zeros d (m / 2)) ∙ (f e).set; clear = below }
+    of_each zero e f = record { set = higher_bit m (count_trailing_zeros d (m / 2)) ∙ (f e).set; clear = below }
       where
         below : (j : ℕ) → j < suc (count_trailing_zeros d (m / 2)) → bit m j ≢ 1
-        below zero h x = omega (arith, x, lowest-bit m, e)
-        below (suc j) h x = (f e).clear j (omega arith) (sym (higher-bit m j) ∙ x)
-    of-each (suc r) e f = record { set = lowest-bit m ∙ omega (arith, e); clear = λ j h. absurd (omega arith) }
+        below zero h x = omega (arith, x, lowest_bit m, e)
+        below (suc j) h x = (f e).clear j (omega arith) (sym (higher_bit m j) ∙ x)
+    of_each (suc r) e f = record { set = lowest_bit m ∙ omega (arith, e); clear = λ j h. absurd (omega arith) }
 
-pub trailing-lowest : (d set : ℕ) → set ≢ 0 → set < 2 ^ d → LowestIn set (count_trailing_zeros d set)
-trailing-lowest d set n l = record { fits = low.set; least = λ y e. not-below y (λ h. low.clear y h e) }
+pub trailing_lowest : (d set : ℕ) → set ≢ 0 → set < 2 ^ d → LowestIn set (count_trailing_zeros d set)
+trailing_lowest d set n l = record { fits = low.set; least = λ y e. not_below y (λ h. low.clear y h e) }
   where
     low : LowestBit set (count_trailing_zeros d set)
     low = trailing d set n l
 
-    not-below : (j : ℕ) → (j < count_trailing_zeros d set → ⊥) → count_trailing_zeros d set ≤ j
-    not-below j h = omega (arith, h)
+    not_below : (j : ℕ) → (j < count_trailing_zeros d set → ⊥) → count_trailing_zeros d set ≤ j
+    not_below j h = omega (arith, h)
 
 -- of a set of just what P says it is the lowest of that
-pub lowest-said : {P : ℕ → Type 0} {set l : ℕ} → HasJust set P → LowestIn set l → Lowest P l
-lowest-said is low = record { fits = is.only _ low.fits; least = λ y p. low.least y (is.has y p) }
+pub lowest_said : {P : ℕ → Type 0} {set l : ℕ} → HasJust set P → LowestIn set l → Lowest P l
+lowest_said is low = record { fits = is.only _ low.fits; least = λ y p. low.least y (is.has y p) }

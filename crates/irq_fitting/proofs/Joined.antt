@@ -2,18 +2,18 @@
 use Rattle.facts.proofs.Words.{◌≡◌, sym, ◌∙◌, subst, inl, inr, List, true, ℕ, bit_and, WellFormed}
 use Rattle.layout.proofs.Of
 use Rattle.facts.specs.{Facts, IrqAsked, Named, Joins, Together}
-use Rattle.layout.specs.{factsIn}
+use Rattle.layout.specs.{facts_in}
 use Rattle.table_read.specs.{HasJust}
-use Rattle.table_read.proofs.{exactly-empty, exactly-both, exactly-as}
+use Rattle.table_read.proofs.{exactly_empty, exactly_both, exactly_as}
 use Rattle.irq_fitting.specs.declared.TakenLevel.{TakenLevel}
 use Rattle.irq_fitting.specs.declared.TakenLevel.TheVariants.{Level, Nothing}
 use Rattle.irq_fitting.specs.{InCompany, LowestIn, FirstIs, TakenIs}
-use Rattle.irq_fitting.proofs.Bits.{lowest-said}
-use Rattle.irq_fitting.proofs.Fit.{seat-below}
+use Rattle.irq_fitting.proofs.Bits.{lowest_said}
+use Rattle.irq_fitting.proofs.Fit.{seat_below}
 
 module _ (F : Facts) (formed : WellFormed F) (q : IrqAsked) where
-  company-joins : (l : ℕ) → InCompany F q l × Named q l → Joins F q l
-  company-joins l ((s, h, (g, holds, goes)), named) =
+  company_joins : (l : ℕ) → InCompany F q l × Named q l → Joins F q l
+  company_joins l ((s, h, (g, holds, goes)), named) =
       let together = goes.together in
       record {
         joining = record { shares = λ e. together.shares (together.equal ∙ e); not_first = goes.not_first };
@@ -25,20 +25,20 @@ module _ (F : Facts) (formed : WellFormed F) (q : IrqAsked) where
         manner = together.equal;
       }
 
-  joins-company : (l : ℕ) → Joins F q l → InCompany F q l × Named q l
-  joins-company l j =
+  joins_company : (l : ℕ) → Joins F q l → InCompany F q l × Named q l
+  joins_company l j =
       let together : Together j.grant.manner q.manner = record { equal = j.manner; shares = λ e. j.joining.shares (sym j.manner ∙ e) } in
-      ((j.seat, seat-below F formed j.seat j.grant j.holds.live, (j.grant, j.holds, record { not_first = j.joining.not_first; together = together })), j.named)
+      ((j.seat, seat_below F formed j.seat j.grant j.holds.live, (j.grant, j.holds, record { not_first = j.joining.not_first; together = together })), j.named)
 
-  pub joined-said : (set : ℕ) → HasJust set (InCompany F q) → HasJust (bit_and set q.named) (Joins F q)
-  joined-said set is =
-      exactly-as (exactly-both set q.named is (record { has = λ k n. n; only = λ k n. n })) company-joins joins-company
+  pub joined_said : (set : ℕ) → HasJust set (InCompany F q) → HasJust (bit_and set q.named) (Joins F q)
+  joined_said set is =
+      exactly_as (exactly_both set q.named is (record { has = λ k n. n; only = λ k n. n })) company_joins joins_company
 
 -- the lowest is taken; or there is none, and the first that fits is
-module _ (b : List ℕ) (q : IrqAsked) (set : ℕ) (is : HasJust set (Joins (factsIn b) q)) where
-  pub lowest-taken : (l : ℕ) → LowestIn set l → TakenIs b q (Level l)
-  lowest-taken l low a = rw (Of.facts-in b a) (inl (lowest-said is low))
+module _ (b : List ℕ) (q : IrqAsked) (set : ℕ) (is : HasJust set (Joins (facts_in b) q)) where
+  pub lowest_taken : (l : ℕ) → LowestIn set l → TakenIs b q (Level l)
+  lowest_taken l low a = rw (Of.facts_in_lem b a) (inl (lowest_said is low))
 
-  pub first-is-taken : set ≡ 0 → (r : TakenLevel) → FirstIs (factsIn b) q r → TakenIs b q r
-  first-is-taken e (Level l) first = λ a. rw (Of.facts-in b a) (inr (exactly-empty is e, first))
-  first-is-taken e Nothing none = λ a. rw (Of.facts-in b a) none
+  pub first_is_taken : set ≡ 0 → (r : TakenLevel) → FirstIs (facts_in b) q r → TakenIs b q r
+  first_is_taken e (Level l) first = λ a. rw (Of.facts_in_lem b a) (inr (exactly_empty is e, first))
+  first_is_taken e Nothing none = λ a. rw (Of.facts_in_lem b a) none

@@ -4,8 +4,8 @@ pub mod Marks
 pub mod Fit
 pub mod Joined
 pub mod Held
-pub use Bits.{trailing-lowest}
-pub use Marks.{managed-read, reserved-read}
-pub use Fit.{level-below, fits_said, said-free, all-barred, all-fitting, unreserved-taken, reserved-taken, none-fits, none_here, unreserved-here, reserved-here}
-pub use Joined.{joined-said, lowest-taken, first-is-taken}
-pub use Held.{none-at, goes_at, stands_at}
+pub use Bits.{trailing_lowest}
+pub use Marks.{managed_read, reserved_read}
+pub use Fit.{level_below, fits_said, said_free, all_barred, all_fitting, unreserved_taken, reserved_taken, none_fits, none_here, unreserved_here, reserved_here}
+pub use Joined.{joined_said, lowest_taken, first_is_taken}
+pub use Held.{none_at, goes_at, stands_at}

@@ -1,19 +1,19 @@
 -- What the bytes of a table say of its levels. Assumes nothing.
 use Rattle.facts.proofs.Words.{◌≡◌, ap, List, false, ℕ, ◌+◌, ◌<◌}
-use Rattle.facts.specs.{Level, byte, allLevels}
-use Rattle.layout.specs.{factsIn, levelIn, levelPlace, levelReservedAt, marked}
+use Rattle.facts.specs.{Level, byte, all_levels}
+use Rattle.layout.specs.{facts_in, level_in, level_place, level_reserved_at, marked}
 use Rattle.layout.proofs.{below_in}
 
 -- a level is managed, and reserved, as its marks say
-module _ (b : List ℕ) (l : ℕ) (h : l < allLevels) where
-  level-read : (factsIn b).level l ≡ levelIn b l
-  unfolding factsIn
-  level-read = below_in allLevels (record { managed = false; reserved = false }) (levelIn b) l h
+module _ (b : List ℕ) (l : ℕ) (h : l < all_levels) where
+  level_read : (facts_in b).level l ≡ level_in b l
+  unfolding facts_in
+  level_read = below_in all_levels (record { managed = false; reserved = false }) (level_in b) l h
 
-  pub managed-read : ((factsIn b).level l).managed ≡ marked (byte b (levelPlace l))
-  unfolding levelIn
-  managed-read = ap (λ (v : Level). v.managed) level-read
+  pub managed_read : ((facts_in b).level l).managed ≡ marked (byte b (level_place l))
+  unfolding level_in
+  managed_read = ap (λ (v : Level). v.managed) level_read
 
-  pub reserved-read : ((factsIn b).level l).reserved ≡ marked (byte b (levelPlace l + levelReservedAt))
-  unfolding levelIn
-  reserved-read = ap (λ (v : Level). v.reserved) level-read
+  pub reserved_read : ((facts_in b).level l).reserved ≡ marked (byte b (level_place l + level_reserved_at))
+  unfolding level_in
+  reserved_read = ap (λ (v : Level). v.reserved) level_read

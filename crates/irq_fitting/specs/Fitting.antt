@@ -38,10 +38,10 @@ pub record LevelsAt (F : Facts) (q : IrqAsked) (s : Seat) (r : Levels) : Type 0 
 
 -- the levels on which some seat's grant does the one or the other
 abbrev pub LevelBarred : Facts → IrqAsked → ℕ → Type 0
-LevelBarred F q = SomeBelow Table.mostSeats (StandsAt F q)
+LevelBarred F q = SomeBelow Table.most_seats (StandsAt F q)
 
 abbrev pub InCompany : Facts → IrqAsked → ℕ → Type 0
-InCompany F q = SomeBelow Table.mostSeats (GoesAt F q)
+InCompany F q = SomeBelow Table.most_seats (GoesAt F q)
 
 pub record LevelsHeld (F : Facts) (q : IrqAsked) (r : Levels) : Type 0 where
   pub way : HasJust r.way (LevelBarred F q)

@@ -3,7 +3,7 @@ ghost use Rattle.std.specs.Prelude.{◌≢◌, ◌<◌};
 ghost use Rattle.facts.specs.Table;
 ghost use Rattle.facts.specs.Says.{Says};
 ghost use Rattle.facts.specs.Irq.{Fits};
-ghost use Rattle.layout.specs.Reading.{factsIn};
+ghost use Rattle.layout.specs.Reading.{facts_in};
 ghost use Rattle.layout.specs.Sound.{Accepted};
 ghost use Rattle.table_read.specs.Sets.{HasJust};
 ghost use Rattle.irq_fitting.specs.Fitting.{Goes, LevelsAt, LevelsHeld, LevelBarred, FittingAt, LevelsFitting, LowestIn, FirstIs, TakenIs};
@@ -33,8 +33,8 @@ pub struct Levels {
 
 // The level that is held at the seat.
 fn levels_at(t: &[u8], asked: IrqAsked, s: Seat) -> Levels
-    requires { Accepted t.now × (s.0 < Table.mostSeats) }
-    ensures { LevelsAt (factsIn t.now) asked s.0 result }
+    requires { Accepted t.now × (s.0 < Table.most_seats) }
+    ensures { LevelsAt (facts_in t.now) asked s.0 result }
 {
     let IrqSeat::Held(held) = seats::level_held(t, s) else {
         return Levels {
@@ -59,7 +59,7 @@ fn levels_at(t: &[u8], asked: IrqAsked, s: Seat) -> Levels
 // The levels that are held: one pass over the seats.
 fn levels_held(t: &[u8], asked: IrqAsked) -> Levels
     requires { Accepted t.now }
-    ensures { LevelsHeld (factsIn t.now) asked result }
+    ensures { LevelsHeld (facts_in t.now) asked result }
 {
     let mut way = 0;
     let mut together = 0;
@@ -73,8 +73,8 @@ fn levels_held(t: &[u8], asked: IrqAsked) -> Levels
 
 // "A level fits if it is named, managed, and either has no grant or", without First Shared, none in the way.
 fn level_fits(t: &[u8], asked: IrqAsked, way: usize, l: usize) -> bool
-    requires { Accepted t.now × HasJust way (LevelBarred (factsIn t.now) asked) × (l < Table.allLevels) }
-    ensures { Says result (Fits (factsIn t.now) asked l) }
+    requires { Accepted t.now × HasJust way (LevelBarred (facts_in t.now) asked) × (l < Table.all_levels) }
+    ensures { Says result (Fits (facts_in t.now) asked l) }
 {
     if table_read::byte(t, LEVELS_AT + l * LEVEL_SIZE) != MARKED {
         return false;
@@ -94,8 +94,8 @@ pub struct Fitting {
 
 // The level itself, if it fits.
 fn fitting_at(t: &[u8], asked: IrqAsked, way: usize, l: usize) -> Fitting
-    requires { Accepted t.now × HasJust way (LevelBarred (factsIn t.now) asked) × (l < Table.allLevels) }
-    ensures { FittingAt (factsIn t.now) asked l result }
+    requires { Accepted t.now × HasJust way (LevelBarred (facts_in t.now) asked) × (l < Table.all_levels) }
+    ensures { FittingAt (facts_in t.now) asked l result }
 {
     if !level_fits(t, asked, way, l) {
         return Fitting {
@@ -118,8 +118,8 @@ fn fitting_at(t: &[u8], asked: IrqAsked, way: usize, l: usize) -> Fitting
 
 // All levels that fit.
 fn levels_fitting(t: &[u8], asked: IrqAsked, way: usize) -> Fitting
-    requires { Accepted t.now × HasJust way (LevelBarred (factsIn t.now) asked) }
-    ensures { LevelsFitting (factsIn t.now) asked result }
+    requires { Accepted t.now × HasJust way (LevelBarred (facts_in t.now) asked) }
+    ensures { LevelsFitting (facts_in t.now) asked result }
 {
     let mut unreserved = 0;
     let mut reserved = 0;
@@ -152,8 +152,8 @@ pub enum TakenLevel {
 // "An unreserved level comes before a reserved one, then the lowest." Where each level that is named has a grant in the way, none fits, and no level is looked
 // at: of the levels 3 and 5, 28H, the set of those in the way has all, as 2BH has.
 fn first_fitting(t: &[u8], asked: IrqAsked, way: usize) -> TakenLevel
-    requires { Accepted t.now × HasJust way (LevelBarred (factsIn t.now) asked) }
-    ensures { FirstIs (factsIn t.now) asked result }
+    requires { Accepted t.now × HasJust way (LevelBarred (facts_in t.now) asked) }
+    ensures { FirstIs (facts_in t.now) asked result }
 {
     if asked.named & way == asked.named {
         return TakenLevel::Nothing;

@@ -1,4 +1,4 @@
 -- The table of the sharing rule: one test over its entries, and its law. Assumes nothing.
 pub mod Table
 pub mod Rule
-pub use Rule.{byte-lt, rule-says, marks-apart}
+pub use Rule.{byte_lt, rule_says, marks_apart}

@@ -6,5 +6,5 @@ use Rattle.irq_levels.specs.declared.LevelNumber.TheVariants.{Below, Over}
 
 -- the number is that of one of a table's levels, or it is over them
 abbrev pub LevelIs : ℕ → LevelNumber → Type 0
-LevelIs n (Below l) = (l ≡ n) × (n < Table.allLevels)
-LevelIs n Over = Table.allLevels ≤ n
+LevelIs n (Below l) = (l ≡ n) × (n < Table.all_levels)
+LevelIs n Over = Table.all_levels ≤ n

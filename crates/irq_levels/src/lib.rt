@@ -2,7 +2,7 @@
 ghost use Rattle.std.specs.Prelude.{◌≡◌, ◌≤◌};
 ghost use Rattle.facts.specs.Says.{Says};
 ghost use Rattle.facts.specs.Levels.{Together, type_of};
-ghost use Rattle.layout.specs.Layout.{mannerByte};
+ghost use Rattle.layout.specs.Layout.{manner_byte_lem};
 ghost use Rattle.irq_levels.specs.Levels.{LevelIs};
 ghost use Rattle.irq_levels.specs.Apart.{MarksApart, MannersApart};
 
@@ -39,7 +39,7 @@ const TOGETHER: [[bool; 4]; 4] = [
 
 // A manner's number: its byte in a grant's record, its row and column in the table.
 pub fn manner_byte(m: Manner) -> usize
-    ensures { result ≡ mannerByte m }
+    ensures { result ≡ manner_byte_lem m }
 {
     match m {
         Manner::Exclusive => 0,

@@ -3,10 +3,10 @@ ghost use Rattle.std.specs.Prelude.{◌≡◌, ◌≢◌, ◌<◌, length};
 ghost use Rattle.facts.specs.Table;
 ghost use Rattle.facts.specs.Says.{Says};
 ghost use Rattle.facts.specs.Packets.{bit};
-ghost use Rattle.facts.specs.Levels.{exclusiveType, dynamicType};
+ghost use Rattle.facts.specs.Levels.{exclusive_type, dynamic_type};
 ghost use Rattle.facts.specs.declared.Manner.TheVariants.{DynamicPulse};
-ghost use Rattle.facts.specs.Irq.{requestIrqLength, attributesOf, info1, info2, typeAsked, levelAsked, mannerAsked, dynamicOf};
-ghost use Rattle.facts.specs.Irq.{levelsNamed, irqAsked, withPulse, assigning};
+ghost use Rattle.facts.specs.Irq.{request_irq_length, attributes_of, info1, info2, type_asked_lem, level_asked_lem, manner_asked_lem, dynamic_of};
+ghost use Rattle.facts.specs.Irq.{levels_named_lem, irq_asked, with_pulse, assigning};
 ghost use Rattle.facts.specs.Irq.{ForcePulse, IrqFirstShared, Mask, LevelBit, PulseBit, ShareBit};
 ghost use Rattle.irq_packets.specs.Asking;
 ghost use Rattle.irq_packets.specs.Asking.{AttributesAre, InfoIs};
@@ -55,13 +55,13 @@ fn both(a: bool, b: bool) -> bool
 
 fn attribute_set(p: &[u8], place: usize) -> bool
     requires { (3 < length p.now) × (place < 16) }
-    ensures { Says result (bit (attributesOf p.now) place ≡ 1) }
+    ensures { Says result (bit (attributes_of p.now) place ≡ 1) }
 {
     table_read::is_set(table_read::word(p, ATTRIBUTES_AT), place)
 }
 
 fn info_set(p: &[u8], place: usize) -> bool
-    requires { (length p.now ≡ requestIrqLength) × (place < 16) }
+    requires { (length p.now ≡ request_irq_length) × (place < 16) }
     ensures { Says result (bit (info1 p.now) place ≡ 1) }
 {
     table_read::is_set(table_read::byte(p, INFO_1_AT), place)
@@ -69,13 +69,13 @@ fn info_set(p: &[u8], place: usize) -> bool
 
 pub fn type_asked(p: &[u8]) -> u8
     requires { 3 < length p.now }
-    ensures { result ≡ typeAsked p.now }
+    ensures { result ≡ type_asked_lem p.now }
 {
     (table_read::word(p, ATTRIBUTES_AT) % ALL_TYPES) as u8
 }
 
 fn first_shared(p: &[u8]) -> bool
-    requires { length p.now ≡ requestIrqLength }
+    requires { length p.now ≡ request_irq_length }
     ensures { Says result (IrqFirstShared p.now) }
 {
     attribute_set(p, FIRST_SHARED)
@@ -83,15 +83,15 @@ fn first_shared(p: &[u8]) -> bool
 
 // "First Shared with Exclusive"
 fn first_exclusive(p: &[u8]) -> bool
-    requires { length p.now ≡ requestIrqLength }
-    ensures { Says result (IrqFirstShared p.now × (typeAsked p.now ≡ exclusiveType)) }
+    requires { length p.now ≡ request_irq_length }
+    ensures { Says result (IrqFirstShared p.now × (type_asked_lem p.now ≡ exclusive_type)) }
 {
     both(first_shared(p), type_asked(p) == EXCLUSIVE_TYPE)
 }
 
 // "Force Pulse without the card's Pulse bit"
 fn forced_unable(p: &[u8]) -> bool
-    requires { length p.now ≡ requestIrqLength }
+    requires { length p.now ≡ request_irq_length }
     ensures { Says result (ForcePulse p.now × (PulseBit p.now → ⊥)) }
 {
     both(attribute_set(p, FORCE_PULSE), !info_set(p, PULSE))
@@ -99,8 +99,8 @@ fn forced_unable(p: &[u8]) -> bool
 
 // "dynamic sharing without its Share bit"
 fn dynamic_unable(p: &[u8]) -> bool
-    requires { length p.now ≡ requestIrqLength }
-    ensures { Says result ((typeAsked p.now ≡ dynamicType) × (ShareBit p.now → ⊥)) }
+    requires { length p.now ≡ request_irq_length }
+    ensures { Says result ((type_asked_lem p.now ≡ dynamic_type) × (ShareBit p.now → ⊥)) }
 {
     both(type_asked(p) == DYNAMIC_TYPE, !info_set(p, SHARE))
 }
@@ -113,7 +113,7 @@ pub enum Attributes {
 }
 
 pub fn attributes_asked(p: &[u8]) -> Attributes
-    requires { length p.now ≡ requestIrqLength }
+    requires { length p.now ≡ request_irq_length }
     ensures { AttributesAre p.now result }
 {
     if type_asked(p) == RESERVED_TYPE {
@@ -136,30 +136,30 @@ pub fn attributes_asked(p: &[u8]) -> Attributes
 
 // "neither Level nor Pulse"
 fn neither(p: &[u8]) -> bool
-    requires { length p.now ≡ requestIrqLength }
+    requires { length p.now ≡ request_irq_length }
     ensures { Says result ((LevelBit p.now → ⊥) × (PulseBit p.now → ⊥)) }
 {
     both(!info_set(p, LEVEL), !info_set(p, PULSE))
 }
 
 fn level_asked(p: &[u8]) -> usize
-    requires { length p.now ≡ requestIrqLength }
-    ensures { result ≡ levelAsked p.now }
+    requires { length p.now ≡ request_irq_length }
+    ensures { result ≡ level_asked_lem p.now }
 {
     table_read::byte(p, INFO_1_AT) % ALL_LEVELS
 }
 
 // "Mask set with any of IRQInfo1's bits 0 to 3"
 fn mask_and_level(p: &[u8]) -> bool
-    requires { length p.now ≡ requestIrqLength }
-    ensures { Says result (Mask p.now × (levelAsked p.now ≢ 0)) }
+    requires { length p.now ≡ request_irq_length }
+    ensures { Says result (Mask p.now × (level_asked_lem p.now ≢ 0)) }
 {
     both(info_set(p, MASK), level_asked(p) != 0)
 }
 
 // "or with IRQInfo2 0"
 fn mask_of_none(p: &[u8]) -> bool
-    requires { length p.now ≡ requestIrqLength }
+    requires { length p.now ≡ request_irq_length }
     ensures { Says result (Mask p.now × (info2 p.now ≡ 0)) }
 {
     both(info_set(p, MASK), table_read::word(p, INFO_2_AT) == 0)
@@ -173,7 +173,7 @@ pub enum Info {
 }
 
 pub fn info_asked(p: &[u8]) -> Info
-    requires { length p.now ≡ requestIrqLength }
+    requires { length p.now ≡ request_irq_length }
     ensures { InfoIs p.now result }
 {
     if neither(p) {
@@ -190,8 +190,8 @@ pub fn info_asked(p: &[u8]) -> Info
 
 // "Dynamic is pulse if Force Pulse is set or the card lacks Level."
 fn dynamic(p: &[u8]) -> Manner
-    requires { length p.now ≡ requestIrqLength }
-    ensures { result ≡ dynamicOf (bit (attributesOf p.now) 2) (bit (info1 p.now) 5) }
+    requires { length p.now ≡ request_irq_length }
+    ensures { result ≡ dynamic_of (bit (attributes_of p.now) 2) (bit (info1 p.now) 5) }
 {
     if attribute_set(p, FORCE_PULSE) {
         return Manner::DynamicPulse;
@@ -204,8 +204,8 @@ fn dynamic(p: &[u8]) -> Manner
 
 // The manner that a request asks for.
 fn manner_asked(p: &[u8]) -> Manner
-    requires { length p.now ≡ requestIrqLength }
-    ensures { result ≡ mannerAsked p.now }
+    requires { length p.now ≡ request_irq_length }
+    ensures { result ≡ manner_asked_lem p.now }
 {
     let kind = type_asked(p);
     match kind {
@@ -217,8 +217,8 @@ fn manner_asked(p: &[u8]) -> Manner
 
 // "With Mask clear, the low four bits name one level and IRQInfo2 is ignored.": a bit for each level that is named.
 fn levels_named(p: &[u8]) -> usize
-    requires { length p.now ≡ requestIrqLength }
-    ensures { result ≡ levelsNamed p.now }
+    requires { length p.now ≡ request_irq_length }
+    ensures { result ≡ levels_named_lem p.now }
 {
     if info_set(p, MASK) {
         return table_read::word(p, INFO_2_AT);
@@ -228,8 +228,8 @@ fn levels_named(p: &[u8]) -> usize
 
 // What a request asks for: its packet, read once.
 pub fn asked(p: &[u8]) -> IrqAsked
-    requires { length p.now ≡ requestIrqLength }
-    ensures { result ≡ irqAsked p.now }
+    requires { length p.now ≡ request_irq_length }
+    ensures { result ≡ irq_asked p.now }
 {
     let manner = manner_asked(p);
     let named = levels_named(p);
@@ -254,8 +254,8 @@ fn is_pulse(m: Manner) -> bool
 }
 
 fn show_pulse(p: &mut [u8], m: Manner)
-    requires { length p.old ≡ requestIrqLength }
-    ensures { p.new ≡ withPulse m p.old }
+    requires { length p.old ≡ request_irq_length }
+    ensures { p.new ≡ with_pulse m p.old }
 {
     if !is_pulse(m) {
         return;
@@ -266,7 +266,7 @@ fn show_pulse(p: &mut [u8], m: Manner)
 
 // "Success writes AssignedIRQ and, for dynamic pulse only, attribute bit 8."
 pub fn assign(p: &mut [u8], m: Manner, l: usize)
-    requires { (length p.old ≡ requestIrqLength) × (l < Table.allLevels) × (m ≡ mannerAsked p.old) }
+    requires { (length p.old ≡ request_irq_length) × (l < Table.all_levels) × (m ≡ manner_asked_lem p.old) }
     ensures { p.new ≡ assigning p.old l }
 {
     show_pulse(p, m);

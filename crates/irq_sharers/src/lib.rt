@@ -3,8 +3,8 @@ ghost use Rattle.std.specs.Prelude.{◌≡◌, ◌≤◌, ◌<◌, length};
 ghost use Rattle.facts.specs.Table;
 ghost use Rattle.facts.specs.Irq;
 ghost use Rattle.facts.specs.Codes.{packed};
-ghost use Rattle.layout.specs.Layout.{tableSize};
-ghost use Rattle.layout.specs.Reading.{socketsIn, factsIn};
+ghost use Rattle.layout.specs.Layout.{table_size};
+ghost use Rattle.layout.specs.Reading.{sockets_in, facts_in};
 ghost use Rattle.layout.specs.Sound.{Accepted};
 ghost use Rattle.irq_sharers.specs.Sharing.{CountsSharers, count_of};
 
@@ -15,8 +15,8 @@ use seats::IrqSeat;
 
 // One for a grant of the level at the seat, else none.
 fn sharer(t: &[u8], level: usize, s: Seat) -> usize
-    requires { (length t.now ≡ tableSize) × (s.0 < Table.mostSeats) }
-    ensures { (result ≡ Irq.sharer level ((factsIn t.now).irq s.0)) × (result ≤ 1) }
+    requires { (length t.now ≡ table_size) × (s.0 < Table.most_seats) }
+    ensures { (result ≡ Irq.sharer level ((facts_in t.now).irq s.0)) × (result ≤ 1) }
 {
     let IrqSeat::Held(held) = seats::level_held(t, s) else {
         return 0;
@@ -29,8 +29,8 @@ fn sharer(t: &[u8], level: usize, s: Seat) -> usize
 
 // The number of grants of the level at the seats below the count of sockets.
 fn count(t: &[u8], level: usize) -> usize
-    requires { (length t.now ≡ tableSize) × (socketsIn t.now ≤ Table.mostSockets) }
-    ensures { (result ≡ Irq.sharersBelow (factsIn t.now) level (socketsIn t.now)) × (result ≤ Table.mostSockets) }
+    requires { (length t.now ≡ table_size) × (sockets_in t.now ≤ Table.most_sockets) }
+    ensures { (result ≡ Irq.sharers_below (facts_in t.now) level (sockets_in t.now)) × (result ≤ Table.most_sockets) }
 {
     let sockets = table_read::byte(t, SOCKETS_IN);
     let mut n = 0;

@@ -1,12 +1,12 @@
 -- A table for so many clients, with zeros put after it, is the table for more clients that says the same. Assumes nothing.
 use Rattle.facts.proofs.Words.{◌≡◌, ap, sym, ◌∙◌, by_cases, List, [], ◌∷◌, ◌++◌, Option, ℕ, ◌+◌, ◌*◌, ◌≤◌, dec_lt, arith, length, get_or, get_elem?}
-use Rattle.facts.proofs.Words.{replicate, length-append, length-replicate, List·getD-eq-default}
+use Rattle.facts.proofs.Words.{replicate, length-append, length-replicate, get_or-eq_default}
 use Rattle.facts.specs.{Facts, Client, byte}
-use Rattle.layout.specs.{image_of, masksBytes, cardsAt, masks_at, masksSize, rest_at}
-use Rattle.layout.proofs.Parts.{zeros, zeros-after}
-use Rattle.layout.proofs.Lists.{at-past}
-use Rattle.layout.proofs.Image.{Part, part, firstParts, maskPart, end, ends, Stands, Shown}
-use Rattle.layout.proofs.Shows.{Shows, image-shows, shows-image, masks-are, rest-is}
+use Rattle.layout.specs.{image_of, masks_bytes, cards_at, masks_at, masks_size, rest_at}
+use Rattle.layout.proofs.Parts.{zeros, zeros_after}
+use Rattle.layout.proofs.Lists.{at_past}
+use Rattle.layout.proofs.Image.{Part, part, first_parts, mask_part, end, ends, Stands, Shown}
+use Rattle.layout.proofs.Shows.{Shows, image_shows, shows_image, masks_are, rest_is}
 
 module _ (F : Facts) (n m size more : ℕ) (few : length F.clients ≤ n) (up : n ≤ m) (room : rest_at n ≤ size) (fits : rest_at m ≤ size + more) where
   abbrev small : List ℕ
@@ -16,13 +16,13 @@ module _ (F : Facts) (n m size more : ℕ) (few : length F.clients ≤ n) (up : 
   large = small ++ replicate more 0
 
   w : Shows n size F small
-  w = image-shows n size F room
+  w = image_shows n size F room
 
   same : (q : ℕ) → byte large q ≡ byte small q
-  same = zeros-after small more
+  same = zeros_after small more
 
   past : (q : ℕ) → rest_at n ≤ q → byte small q ≡ 0
-  past q l = by_cases (dec_lt q size) (rest-is w q l) (λ h. List·getD-eq-default small 0 (omega (arith, w.size)))
+  past q l = by_cases (dec_lt q size) (rest_is w q l) (λ h. get_or-eq_default small 0 (omega (arith, w.size)))
 
   -- parts before the last one stand there as they stood
   firsts : (at : ℕ) (ps : List Part) (p p' : Part) → Shown size small at (ps ++ (p ∷ [])) → Shown (size + more) large (ends at ps) (p' ∷ [])
@@ -31,19 +31,19 @@ module _ (F : Facts) (n m size more : ℕ) (few : length F.clients ≤ n) (up : 
   firsts at (q ∷ ps) p p' s t = ((λ i l j h. same (at + i * q.size + j) ∙ s.0 i l j h), firsts (end at q) ps p p' s.1 t)
 
   -- the places of further clients say none
-  masks : Stands large masks_at (part m masksSize (λ i. masksBytes (get_elem? F.clients i)))
+  masks : Stands large masks_at (part m masks_size (λ i. masks_bytes (get_elem? F.clients i)))
   masks i l j h =
-      let q = masks_at + i * masksSize + j in
+      let q = masks_at + i * masks_size + j in
       same q
-      ∙ by_cases (dec_lt i n) (λ x. masks-are w i x j h)
+      ∙ by_cases (dec_lt i n) (λ x. masks_are w i x j h)
       (λ x. past q (omega arith)
-      ∙ sym (ap (λ (o : Option Client). get_or (masksBytes o) j 0) (at-past F.clients i (omega arith)) ∙ zeros masksSize j))
+      ∙ sym (ap (λ (o : Option Client). get_or (masks_bytes o) j 0) (at_past F.clients i (omega arith)) ∙ zeros masks_size j))
 
-  pub image-grows : image_of m (size + more) F ≡ image_of n size F ++ replicate more 0
-  image-grows =
-      shows-image F large fits
+  pub image_grows : image_of m (size + more) F ≡ image_of n size F ++ replicate more 0
+  image_grows =
+      shows_image F large fits
       (record {
         size = length-append small (replicate more 0) ∙ omega (arith, w.size, length-replicate {A = ℕ} more 0);
         heads = λ j l. same j ∙ w.heads j l;
-        shown = firsts cardsAt (firstParts F) (maskPart n F) (maskPart m F) w.shown (masks, λ q l h. same q ∙ past q (omega arith));
+        shown = firsts cards_at (first_parts F) (mask_part n F) (mask_part m F) w.shown (masks, λ q l h. same q ∙ past q (omega arith));
       })

@@ -22,20 +22,20 @@ pub mod Irqs
 pub mod Ios
 pub mod Serve
 pub use Parts.{below_at}
-pub use Lists.{below_in, below-past}
-pub use Written.{byte-same, byte-other, word-length, word_low, word-high, word-other, long-length, long-other}
-pub use Entered.{long-bytes}
-pub use Shows.{shows-image}
-pub use Grants.{zero_test, positive-test, used_sound}
-pub use RoundTrip.{manner-back, live-positive}
-pub use Sounds.{manner-most}
-pub use Of.{size_in, sockets-in, clients-in, sound-in}
-pub use Grows.{image-grows}
-pub use Accepts.{sound-accepted, accepted-sound, one_set, image-size}
-pub use Changes.{card-written, fresh-shown}
-pub use Clients.{entered-image, withdrawn-image}
-pub use Managed.{rangeEnd, end_before, end-next, ends-before, bases-rise, HasPort, same-range, range-placed, range-taken-out, range-put-in}
-pub use Managed.{level-written}
-pub use Masks.{mask-socket, mask-said, said-mask, mask-written}
-pub use Ios.{granted-image, released-image, ports-are}
-pub use Serve.{kept, left, stays, becomes, refused-by, done-by}
+pub use Lists.{below_in, below_past}
+pub use Written.{byte_same, byte_other, word_length, word_low, word_high, word_other, long_length, long_other}
+pub use Entered.{long_bytes}
+pub use Shows.{shows_image}
+pub use Grants.{zero_test, positive_test, used_sound}
+pub use RoundTrip.{manner_back, live_positive}
+pub use Sounds.{manner_most}
+pub use Of.{size_in, sockets_in_lem, clients_in_lem, sound_in}
+pub use Grows.{image_grows}
+pub use Accepts.{sound_accepted, accepted_sound, one_set, image_size}
+pub use Changes.{card_written, fresh_shown}
+pub use Clients.{entered_image, withdrawn_image}
+pub use Managed.{range_end, end_before, end_next, ends_before, bases_rise, HasPort, same_range, range_placed, range_taken_out, range_put_in}
+pub use Managed.{level_written}
+pub use Masks.{mask_socket, mask_said, said_mask, mask_written}
+pub use Ios.{granted_image, released_image, ports_are}
+pub use Serve.{kept, left, stays, becomes, refused_by, done_by}

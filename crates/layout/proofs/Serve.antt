@@ -20,15 +20,15 @@ becomes R b b' a G r e = record { accepted = a; after = G; rule = r; table = e }
 
 -- a service, by its checks and what is done where none applies: refused by the first that does, and done
 module _ (checks : Facts → List Check) (done : Facts → Outcome → Type 0) (b p : List ℕ) (a : Accepted b) where
-  pub refused-by : (k : Code) → FirstGiven (checks a.facts) k → ServedBy (λ (F : Facts). Ruled (checks F) (done F) F p) b b p k 0
-  refused-by k g =
+  pub refused_by : (k : Code) → FirstGiven (checks a.facts) k → ServedBy (λ (F : Facts). Ruled (checks F) (done F) F p) b b p k 0
+  refused_by k g =
       stays (λ (F G : Facts). Ruled (checks F) (done F) F p (record { code = k; handle = 0; packet = p; facts = G })) b a
       (inl (g, kept a.facts p k))
 
-  pub done-by : (b' p' : List ℕ) (h : ℕ) (G : Facts) → Passed (checks a.facts)
+  pub done_by : (b' p' : List ℕ) (h : ℕ) (G : Facts) → Passed (checks a.facts)
       → done a.facts (record { code = Success; handle = h; packet = p'; facts = G })
       → image G ≡ b'
       → ServedBy (λ (F : Facts). Ruled (checks F) (done F) F p) b b' p' Success h
-  done-by b' p' h G passed d e =
+  done_by b' p' h G passed d e =
       becomes (λ (F H : Facts). Ruled (checks F) (done F) F p (record { code = Success; handle = h; packet = p'; facts = H })) b b' a G
       (inr (passed, (refl, d))) e

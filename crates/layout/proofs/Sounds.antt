@@ -1,187 +1,187 @@
 -- Bytes that show the facts read off them are sound where these are well formed. Assumes nothing.
 use Rattle.facts.proofs.Words.{◌≡◌, refl, ap, sym, ◌∙◌, subst, inl, inr, by_cases, List, Bool, true, false, Option, none, some, ℕ, zero, suc, ◌+◌}
-use Rattle.facts.proofs.Words.{◌-◌, ◌≤◌, ◌<◌, dec_lt, ℕ_discrete, arith, length, get_or, get_elem?, WellFormed, ◌*◌, needs}
+use Rattle.facts.proofs.Words.{◌-◌, ◌≤◌, ◌<◌, dec_lt, ℕ_discrete, arith, length, get_or, get_elem?, WellFormed, ◌*◌, rules}
 use Rattle.layout.proofs.Image
-use Rattle.facts.specs.{Manner, Exclusive, TimeMultiplexed, DynamicLevel, DynamicPulse, Client, Range, IoGrant, IrqGrant, byte, word, allLevels}
-use Rattle.facts.specs.{mostRanges, mostSockets}
-use Rattle.facts.proofs.{rising-over, apart-port}
-use Rattle.layout.specs.{mark, handleBytes, attributesBytes, eventsBytes, masksBytes, rangeBytes, levelBytes, ioBytes, irqBytes, mannerByte}
-use Rattle.layout.specs.{clientsIn, rangesIn, masksPlace, maskPlace, rangePlace, levelPlace, ioPlace, handleIn, clientIn, rangeIn, ioIn, irqIn}
-use Rattle.layout.specs.{ioHere, irqHere, factsIn, mask_of, Zero, CardSound, LevelSound, ClientSound, ClientsEnd, RangeSound, MaskSound, IoUsed}
-use Rattle.layout.specs.{IrqUsed, IoSound, IrqSound, handleBefore, endBefore, rangeBase, clientRoom, handleRoom, seatRoom, rangesAt, rangeSize}
-use Rattle.layout.specs.{handlesAt, handleSize, attributesAt, attributesSize, eventsAt, eventsSize, iosAt, ioSize, ioSpareAt, irqsAt, irqSize}
-use Rattle.layout.specs.{levelSize, masks_at, masksSize, rest_at, ioSharedAt, irqMannerAt, irqPlace}
+use Rattle.facts.specs.{Manner, Exclusive, TimeMultiplexed, DynamicLevel, DynamicPulse, Client, Range, IoGrant, IrqGrant, byte, word, all_levels}
+use Rattle.facts.specs.{most_ranges, most_sockets}
+use Rattle.facts.proofs.{rising_over, apart_port}
+use Rattle.layout.specs.{mark, handle_bytes, attributes_bytes, events_bytes, masks_bytes, range_bytes, level_bytes, io_bytes, irq_bytes, manner_byte_lem}
+use Rattle.layout.specs.{clients_in, ranges_in, masks_place, mask_place, range_place, level_place, io_place_lem, handle_in, client_in, range_in, io_in, irq_in}
+use Rattle.layout.specs.{io_here, irq_here, facts_in, mask_of, Zero, CardSound, LevelSound, ClientSound, ClientsEnd, RangeSound, MaskSound, IoUsed}
+use Rattle.layout.specs.{IrqUsed, IoSound, IrqSound, handle_before, end_before_lem, range_base, client_room, handle_room, seat_room, ranges_at, range_size}
+use Rattle.layout.specs.{handles_at, handle_size, attributes_at, attributes_size, events_at, events_size, ios_at, io_size, io_spare_at, irqs_at, irq_size}
+use Rattle.layout.specs.{level_size, masks_at, masks_size, rest_at, io_shared_at, irq_manner_at, irq_place_lem}
 use Rattle.layout.specs.Sound.{SoundOf}
 use Rattle.layout.proofs.Parts.{below_at, zeros}
-use Rattle.layout.proofs.Lists.{below_in, upTo-in, at-upTo, upTo-length, rising-before, apart_next}
+use Rattle.layout.proofs.Lists.{below_in, up_to-in, at-up_to, up_to-length, rising_before, apart_next}
 use Rattle.layout.proofs.Records.{unused}
-use Rattle.layout.proofs.Grants.{positive-test, grants-placed}
-use Rattle.layout.proofs.Said.{live_in, managed-in, io-here, irq-here}
-use Rattle.layout.proofs.Shows.{Shows, card-at, levels-are, ranges-are, handles-are, attributes-are, events-are, ios-are, irqs-are, spare-is}
-use Rattle.layout.proofs.Shows.{masks-are, rest-is}
+use Rattle.layout.proofs.Grants.{positive_test, grants_placed}
+use Rattle.layout.proofs.Said.{live_in, managed_in_lem, io_here_lem, irq_here_lem}
+use Rattle.layout.proofs.Shows.{Shows, card_at, levels_are, ranges_are, handles_are, attributes_are, events_are, ios_are, irqs_are, spare_is}
+use Rattle.layout.proofs.Shows.{masks_are, rest_is}
 
-mark-most : (t : Bool) → mark t ≤ 1
-mark-most true = omega arith
-mark-most false = omega arith
+mark_most : (t : Bool) → mark t ≤ 1
+mark_most true = omega arith
+mark_most false = omega arith
 
-mark-true : (t : Bool) → mark t ≡ 1 → t ≡ true
-mark-true true e = refl
-mark-true false e = absurd (omega (arith, e))
+mark_true : (t : Bool) → mark t ≡ 1 → t ≡ true
+mark_true true e = refl
+mark_true false e = absurd (omega (arith, e))
 
-mark-below : (t u : Bool) → (t ≡ true → u ≡ true) → mark t ≤ mark u
-mark-below true u h = subst (λ (v : Bool). 1 ≤ mark v) (sym (h refl)) (omega arith)
-mark-below false u h = omega arith
+mark_below : (t u : Bool) → (t ≡ true → u ≡ true) → mark t ≤ mark u
+mark_below true u h = subst (λ (v : Bool). 1 ≤ mark v) (sym (h refl)) (omega arith)
+mark_below false u h = omega arith
 
-pub manner-most : (m : Manner) → mannerByte m ≤ 3
-manner-most Exclusive = omega arith
-manner-most TimeMultiplexed = omega arith
-manner-most DynamicLevel = omega arith
-manner-most DynamicPulse = omega arith
+pub manner_most : (m : Manner) → manner_byte_lem m ≤ 3
+manner_most Exclusive = omega arith
+manner_most TimeMultiplexed = omega arith
+manner_most DynamicLevel = omega arith
+manner_most DynamicPulse = omega arith
 
-module _ {n size : ℕ} (room : n ≤ clientRoom) {b : List ℕ} (few : length (factsIn b).clients ≤ n) (w : WellFormed (factsIn b))
-    (v : Shows n size (factsIn b) b) where
-  card-sound : (t : ℕ) → t < mostSockets → CardSound b t
-  unfolding factsIn
-  card-sound t l =
-      let e = card-at v t l in
-      record { mark = omega (arith, e, mark-most ((factsIn b).card t)); socket = λ h. w.cards t (mark-true ((factsIn b).card t) (sym e ∙ h)) }
+module _ {n size : ℕ} (room : n ≤ client_room) {b : List ℕ} (few : length (facts_in b).clients ≤ n) (w : WellFormed (facts_in b))
+    (v : Shows n size (facts_in b) b) where
+  card_sound : (t : ℕ) → t < most_sockets → CardSound b t
+  unfolding facts_in
+  card_sound t l =
+      let e = card_at v t l in
+      record { mark = omega (arith, e, mark_most ((facts_in b).card t)); socket = λ h. w.cards t (mark_true ((facts_in b).card t) (sym e ∙ h)) }
 
-  managed-byte : (l : ℕ) → l < allLevels → byte b (levelPlace l) ≡ mark ((factsIn b).level l).managed
-  managed-byte l h = Image.first_byte b (levelPlace l) levelSize (levelBytes ((factsIn b).level l)) (levels-are v l h) (omega arith)
+  managed_byte : (l : ℕ) → l < all_levels → byte b (level_place l) ≡ mark ((facts_in b).level l).managed
+  managed_byte l h = Image.first_byte b (level_place l) level_size (level_bytes ((facts_in b).level l)) (levels_are v l h) (omega arith)
 
-  level-sound : (l : ℕ) → l < allLevels → LevelSound b l
-  level-sound l h =
-      let level = (factsIn b).level l in
-      let reserved = mark-below level.reserved level.managed (w.reserved l) in
-      omega (arith, managed-byte l h, mark-most level.managed, levels-are v l h 1 (omega arith), reserved)
+  level_sound : (l : ℕ) → l < all_levels → LevelSound b l
+  level_sound l h =
+      let level = (facts_in b).level l in
+      let reserved = mark_below level.reserved level.managed (w.reserved l) in
+      omega (arith, managed_byte l h, mark_most level.managed, levels_are v l h 1 (omega arith), reserved)
 
   -- the ith client
-  listed-few : clientsIn b ≤ n
-  unfolding factsIn
-  listed-few = omega (arith, few, upTo-length (clientsIn b) (clientIn b))
+  listed_few : clients_in b ≤ n
+  unfolding facts_in
+  listed_few = omega (arith, few, up_to-length (clients_in b) (client_in b))
 
-  mask-sound : (i : ℕ) → i < clientsIn b → (t : ℕ) → t < seatRoom → MaskSound b i t
-  unfolding factsIn clientIn
-  mask-sound i l t h =
-      let word-is = word b (maskPlace i t) in
+  mask_sound : (i : ℕ) → i < clients_in b → (t : ℕ) → t < seat_room → MaskSound b i t
+  unfolding facts_in client_in
+  mask_sound i l t h =
+      let word-is = word b (mask_place i t) in
       by_cases (ℕ_discrete word-is 0) inl
-      (λ u. let used = positive-test word-is none (some (word-is - 1)) (omega (arith, u)) in
-      let is = below_in seatRoom none (λ t. mask_of (word b (maskPlace i t))) t h ∙ used in
-      let fits = (w.clients (clientIn b i) (upTo-in (clientsIn b) (clientIn b) i l)).mask t (word-is - 1) is in
+      (λ u. let used = positive_test word-is none (some (word-is - 1)) (omega (arith, u)) in
+      let is = below_in seat_room none (λ t. mask_of (word b (mask_place i t))) t h ∙ used in
+      let fits = (w.clients (client_in b i) (up_to-in (clients_in b) (client_in b) i l)).mask t (word-is - 1) is in
       inr (omega (arith, fits.1, u), fits.0))
 
-  over : (i : ℕ) → i < clientsIn b → handleBefore b i < handleIn b i
-  unfolding factsIn clientIn
-  over zero l = rising-over 0 (factsIn b).clients w.handles (clientIn b 0) (upTo-in (clientsIn b) (clientIn b) 0 l)
+  over : (i : ℕ) → i < clients_in b → handle_before b i < handle_in b i
+  unfolding facts_in client_in
+  over zero l = rising_over 0 (facts_in b).clients w.handles (client_in b 0) (up_to-in (clients_in b) (client_in b) 0 l)
   over (suc i) l =
-      rising-before 0 (factsIn b).clients i (suc i) (clientIn b i) (clientIn b (suc i)) w.handles (omega arith)
-      (at-upTo (clientsIn b) (clientIn b) i (omega arith)) (at-upTo (clientsIn b) (clientIn b) (suc i) l)
+      rising_before 0 (facts_in b).clients i (suc i) (client_in b i) (client_in b (suc i)) w.handles (omega arith)
+      (at-up_to (clients_in b) (client_in b) i (omega arith)) (at-up_to (clients_in b) (client_in b) (suc i) l)
 
-  client-sound : (i : ℕ) → i < clientsIn b → ClientSound b (handleBefore b i) i
-  unfolding factsIn clientIn
-  client-sound i l =
-      let fits = w.clients (clientIn b i) (upTo-in (clientsIn b) (clientIn b) i l) in
+  client_sound : (i : ℕ) → i < clients_in b → ClientSound b (handle_before b i) i
+  unfolding facts_in client_in
+  client_sound i l =
+      let fits = w.clients (client_in b i) (up_to-in (clients_in b) (client_in b) i l) in
       record { over = over i l; issued = fits.issued; attributes = fits.attributes; events = fits.events }
 
   -- past the last of them
-  row-end : (bytes : Option Client → List ℕ) (at k count : ℕ) → ((j : ℕ) → get_or (bytes none) j 0 ≡ 0)
-      → Image.Stands b at (Image.part count k (λ i. bytes (get_elem? (factsIn b).clients i)))
-      → Zero b (at + clientsIn b * k) (at + count * k)
-  unfolding factsIn
-  row-end bytes at k count empty stands =
-      subst (λ (m : ℕ). Zero b (at + m * k) (at + count * k)) (upTo-length (clientsIn b) (clientIn b))
-      (unused bytes at k count empty (factsIn b).clients b stands)
+  row_end : (bytes : Option Client → List ℕ) (at k count : ℕ) → ((j : ℕ) → get_or (bytes none) j 0 ≡ 0)
+      → Image.Stands b at (Image.part count k (λ i. bytes (get_elem? (facts_in b).clients i)))
+      → Zero b (at + clients_in b * k) (at + count * k)
+  unfolding facts_in
+  row_end bytes at k count empty stands =
+      subst (λ (m : ℕ). Zero b (at + m * k) (at + count * k)) (up_to-length (clients_in b) (client_in b))
+      (unused bytes at k count empty (facts_in b).clients b stands)
 
-  clients-end : ClientsEnd b
-  clients-end =
+  clients_end : ClientsEnd b
+  clients_end =
       record {
-        handles = row-end handleBytes handlesAt handleSize handleRoom (zeros handleSize) (handles-are v);
-        attributes = row-end attributesBytes attributesAt attributesSize clientRoom (zeros attributesSize) (attributes-are v);
-        events = row-end eventsBytes eventsAt eventsSize clientRoom (zeros eventsSize) (events-are v);
+        handles = row_end handle_bytes handles_at handle_size handle_room (zeros handle_size) (handles_are v);
+        attributes = row_end attributes_bytes attributes_at attributes_size client_room (zeros attributes_size) (attributes_are v);
+        events = row_end events_bytes events_at events_size client_room (zeros events_size) (events_are v);
       }
 
-  masks-end : Zero b (masksPlace (clientsIn b)) size
-  masks-end q l m =
-      by_cases (dec_lt q (rest_at n)) (row-end masksBytes masks_at masksSize n (zeros masksSize) (masks-are v) q l) (λ h. rest-is v q (omega arith) m)
+  masks_end : Zero b (masks_place (clients_in b)) size
+  masks_end q l m =
+      by_cases (dec_lt q (rest_at n)) (row_end masks_bytes masks_at masks_size n (zeros masks_size) (masks_are v) q l) (λ h. rest_is v q (omega arith) m)
 
   -- the ith range
-  from : (i : ℕ) → i < rangesIn b → endBefore b i ≤ rangeBase b i
-  unfolding factsIn rangeIn
+  from : (i : ℕ) → i < ranges_in b → end_before_lem b i ≤ range_base b i
+  unfolding facts_in range_in
   from zero l = omega arith
   from (suc i) l =
-      apart_next 0 (factsIn b).ranges i (rangeIn b i) (rangeIn b (suc i)) w.apart (at-upTo (rangesIn b) (rangeIn b) i (omega arith))
-      (at-upTo (rangesIn b) (rangeIn b) (suc i) l)
+      apart_next 0 (facts_in b).ranges i (range_in b i) (range_in b (suc i)) w.apart (at-up_to (ranges_in b) (range_in b) i (omega arith))
+      (at-up_to (ranges_in b) (range_in b) (suc i) l)
 
-  range-sound : (i : ℕ) → i < rangesIn b → RangeSound b (endBefore b i) i
-  unfolding factsIn rangeIn
-  range-sound i l =
-      let listed = upTo-in (rangesIn b) (rangeIn b) i l in
-      let row = ranges-are v i (omega (arith, w.ranges-most, upTo-length (rangesIn b) (rangeIn b))) 6 (omega arith)
-      ∙ ap (λ (o : Option Range). get_or (rangeBytes o) 6 0) (at-upTo (rangesIn b) (rangeIn b) i l) in
+  range_sound : (i : ℕ) → i < ranges_in b → RangeSound b (end_before_lem b i) i
+  unfolding facts_in range_in
+  range_sound i l =
+      let listed = up_to-in (ranges_in b) (range_in b) i l in
+      let row = ranges_are v i (omega (arith, w.ranges_most, up_to-length (ranges_in b) (range_in b))) 6 (omega arith)
+      ∙ ap (λ (o : Option Range). get_or (range_bytes o) 6 0) (at-up_to (ranges_in b) (range_in b) i l) in
       record {
         from = from i l;
-        port = apart-port 0 (factsIn b).ranges w.apart (rangeIn b i) listed;
-        within = w.ranges (rangeIn b i) listed;
-        mark = omega (arith, row, mark-most (rangeIn b i).reserved);
+        port = apart_port 0 (facts_in b).ranges w.apart (range_in b i) listed;
+        within = w.ranges (range_in b i) listed;
+        mark = omega (arith, row, mark_most (range_in b i).reserved);
       }
 
-  ranges-end : Zero b (rangePlace (rangesIn b)) handlesAt
-  unfolding factsIn
-  ranges-end q l =
-      unused rangeBytes rangesAt rangeSize mostRanges (zeros rangeSize) (factsIn b).ranges b (ranges-are v) q
-      (omega (arith, upTo-length (rangesIn b) (rangeIn b)))
+  ranges_end : Zero b (range_place (ranges_in b)) handles_at
+  unfolding facts_in
+  ranges_end q l =
+      unused range_bytes ranges_at range_size most_ranges (zeros range_size) (facts_in b).ranges b (ranges_are v) q
+      (omega (arith, up_to-length (ranges_in b) (range_in b)))
 
   -- the grant at a seat
-  io-row : (t : ℕ) → t < seatRoom → IoUsed b t → (j : ℕ) → j < ioSize → byte b (ioPlace t + j) ≡ get_or (ioBytes (some (ioIn b t))) j 0
-  io-row t l u j h = ios-are v t l j h ∙ ap (λ (o : Option IoGrant). get_or (ioBytes o) j 0) (io-here b t l u)
+  io_row : (t : ℕ) → t < seat_room → IoUsed b t → (j : ℕ) → j < io_size → byte b (io_place_lem t + j) ≡ get_or (io_bytes (some (io_in b t))) j 0
+  io_row t l u j h = ios_are v t l j h ∙ ap (λ (o : Option IoGrant). get_or (io_bytes o) j 0) (io_here_lem b t l u)
 
-  io-spare : (t : ℕ) → t < seatRoom → IoUsed b t → Zero b (ioPlace t + ioSpareAt) (ioPlace t + ioSize)
-  io-spare t l u q h m =
-      let j = q - ioPlace t - 7 in
-      let place : q ≡ ioPlace t + (7 + j) = omega arith in
-      ap (byte b) place ∙ io-row t l u (7 + j) (omega arith)
-      ∙ below_at 4 (λ j. get_or (ioBytes (some (ioIn b t))) (7 + j) 0 ≡ 0) ((((tt, refl), refl), refl), refl) j (omega arith)
+  io_spare : (t : ℕ) → t < seat_room → IoUsed b t → Zero b (io_place_lem t + io_spare_at) (io_place_lem t + io_size)
+  io_spare t l u q h m =
+      let j = q - io_place_lem t - 7 in
+      let place : q ≡ io_place_lem t + (7 + j) = omega arith in
+      ap (byte b) place ∙ io_row t l u (7 + j) (omega arith)
+      ∙ below_at 4 (λ j. get_or (io_bytes (some (io_in b t))) (7 + j) 0 ≡ 0) ((((tt, refl), refl), refl), refl) j (omega arith)
 
-  io-sound : (t : ℕ) → t < seatRoom → IoUsed b t → IoSound b t
-  unfolding factsIn ioIn
-  io-sound t l u =
-      let fits = w.ios t (ioIn b t) (io-here b t l u) in
-      let mark : byte b (ioPlace t + ioSharedAt) ≤ 1 = omega (arith, io-row t l u 6 (omega arith), mark-most (ioIn b t).shared) in
-      let spare = io-spare t l u in
-      search (needs, live_in, managed-in, fits.managed, fits.answers)
+  io_sound : (t : ℕ) → t < seat_room → IoUsed b t → IoSound b t
+  unfolding facts_in io_in
+  io_sound t l u =
+      let fits = w.ios t (io_in b t) (io_here_lem b t l u) in
+      let mark : byte b (io_place_lem t + io_shared_at) ≤ 1 = omega (arith, io_row t l u 6 (omega arith), mark_most (io_in b t).shared) in
+      let spare = io_spare t l u in
+      search (rules, live_in, managed_in_lem, fits.managed, fits.answers)
 
-  irq-sound : (t : ℕ) → t < seatRoom → IrqUsed b t → IrqSound b t
-  unfolding factsIn irqIn
-  irq-sound t l u =
-      let fits = w.irqs t (irqIn b t) (irq-here b t l u) in
-      let level = w.levels (irqIn b t).level fits.managed in
-      let row = irqs-are v t l 3 (omega arith) ∙ ap (λ (o : Option IrqGrant). get_or (irqBytes o) 3 0) (irq-here b t l u) in
-      let managed = managed-byte (irqIn b t).level level ∙ ap mark fits.managed in
-      let manner : byte b (irqPlace t + irqMannerAt) ≤ 3 = omega (arith, row, manner-most (irqIn b t).manner) in
-      search (needs, live_in)
+  irq_sound : (t : ℕ) → t < seat_room → IrqUsed b t → IrqSound b t
+  unfolding facts_in irq_in
+  irq_sound t l u =
+      let fits = w.irqs t (irq_in b t) (irq_here_lem b t l u) in
+      let level = w.levels (irq_in b t).level fits.managed in
+      let row = irqs_are v t l 3 (omega arith) ∙ ap (λ (o : Option IrqGrant). get_or (irq_bytes o) 3 0) (irq_here_lem b t l u) in
+      let managed = managed_byte (irq_in b t).level level ∙ ap mark fits.managed in
+      let manner : byte b (irq_place_lem t + irq_manner_at) ≤ 3 = omega (arith, row, manner_most (irq_in b t).manner) in
+      search (rules, live_in)
 
   pub sound : SoundOf n size b
-  unfolding factsIn ioHere irqHere
+  unfolding facts_in io_here irq_here
   sound =
       record {
         size = v.size;
         marked = v.heads 0 (omega arith);
-        sockets-least = w.sockets-least;
-        sockets-most = w.sockets-most;
-        cards = card-sound;
-        levels = level-sound;
-        ranges-most = omega (arith, upTo-length (rangesIn b) (rangeIn b), w.ranges-most);
-        ranges = range-sound;
-        ranges-end = ranges-end;
-        clients-most = listed-few;
-        clients = client-sound;
-        clients-end = clients-end;
-        masks = mask-sound;
-        masks-end = masks-end;
-        spare = spare-is v;
-        ios = grants-placed ioBytes iosAt ioSize (omega arith) refl b (ioIn b) (IoSound b) (ios-are v) io-sound;
-        irqs = grants-placed irqBytes irqsAt irqSize (omega arith) refl b (irqIn b) (IrqSound b) (irqs-are v) irq-sound;
-        io-company = λ s t l h x y. w.io-company s t (ioIn b s) (ioIn b t) (λ e. omega (arith, e)) (io-here b s l x) (io-here b t (omega arith) y);
-        irq-company =
-            λ s t l h x y. w.irq-company s t (irqIn b s) (irqIn b t) (λ e. omega (arith, e)) (irq-here b s l x) (irq-here b t (omega arith) y);
+        sockets_least = w.sockets_least;
+        sockets_most = w.sockets_most;
+        cards = card_sound;
+        levels = level_sound;
+        ranges_most = omega (arith, up_to-length (ranges_in b) (range_in b), w.ranges_most);
+        ranges = range_sound;
+        ranges_end = ranges_end;
+        clients_most = listed_few;
+        clients = client_sound;
+        clients_end = clients_end;
+        masks = mask_sound;
+        masks_end = masks_end;
+        spare = spare_is v;
+        ios = grants_placed io_bytes ios_at io_size (omega arith) refl b (io_in b) (IoSound b) (ios_are v) io_sound;
+        irqs = grants_placed irq_bytes irqs_at irq_size (omega arith) refl b (irq_in b) (IrqSound b) (irqs_are v) irq_sound;
+        io_company = λ s t l h x y. w.io_company s t (io_in b s) (io_in b t) (λ e. omega (arith, e)) (io_here_lem b s l x) (io_here_lem b t (omega arith) y);
+        irq_company =
+            λ s t l h x y. w.irq_company s t (irq_in b s) (irq_in b t) (λ e. omega (arith, e)) (irq_here_lem b s l x) (irq_here_lem b t (omega arith) y);
       }

@@ -1,24 +1,24 @@
 -- The table's bytes after a change. Assumes nothing.
 use Rattle.std.specs.Prelude.{◌≡◌, ◌⊎◌, ◌≢◌, List, ℕ, ◌+◌, ◌-◌, ◌≤◌, ◌<◌, length, get_or, set}
 use Rattle.facts.specs.Table.{Seat}
-use Rattle.facts.specs.Packets.{byte, withWord}
-use Rattle.layout.specs.Reading.{clientsIn, handlePlace, attributesPlace, eventsPlace, masksPlace, ioPlace, irqPlace}
-use Rattle.layout.specs.Layout.{headClients, headIssued, ioBaseAt, ioCountAt, ioLinesAt, ioSharedAt, irqLevelAt, irqMannerAt, handleSize}
-use Rattle.layout.specs.Layout.{attributesSize, eventsSize, masksSize}
+use Rattle.facts.specs.Packets.{byte, with_word}
+use Rattle.layout.specs.Reading.{clients_in, handle_place, attributes_place, events_place, masks_place, io_place_lem, irq_place_lem}
+use Rattle.layout.specs.Layout.{head_clients, head_issued, io_base_at, io_count_at, io_lines_at, io_shared_at, irq_level_at, irq_manner_at, handle_size}
+use Rattle.layout.specs.Layout.{attributes_size, events_size, masks_size}
 
 -- a new client in the place n: what it is said by, the handles issued, the number of clients
 unfoldable pub entered : List ℕ → ℕ → ℕ → ℕ → ℕ → List ℕ
 entered b n h attributes events =
-    set (set (withWord (withWord (withWord b (handlePlace n) h) (eventsPlace n) events) headIssued h) (attributesPlace n) attributes) headClients (n + 1)
+    set (set (with_word (with_word (with_word b (handle_place n) h) (events_place n) events) head_issued h) (attributes_place n) attributes) head_clients (n + 1)
 
 -- the record of the I/O grant at the seat s: client, base, count, lines and shared mark
-unfoldable pub ioEntered : List ℕ → Seat → ℕ → ℕ → ℕ → ℕ → ℕ → List ℕ
-ioEntered b s client base count lines shared =
-    set (set (set (withWord (withWord b (ioPlace s) client) (ioPlace s + ioBaseAt) base) (ioPlace s + ioCountAt) count) (ioPlace s + ioLinesAt) lines) (ioPlace s + ioSharedAt) shared
+unfoldable pub io_entered : List ℕ → Seat → ℕ → ℕ → ℕ → ℕ → ℕ → List ℕ
+io_entered b s client base count lines shared =
+    set (set (set (with_word (with_word b (io_place_lem s) client) (io_place_lem s + io_base_at) base) (io_place_lem s + io_count_at) count) (io_place_lem s + io_lines_at) lines) (io_place_lem s + io_shared_at) shared
 
 -- the record of the IRQ grant at the seat s: client, level and manner
-unfoldable pub irqEntered : List ℕ → Seat → ℕ → ℕ → ℕ → List ℕ
-irqEntered b s client level manner = set (set (withWord b (irqPlace s) client) (irqPlace s + irqLevelAt) level) (irqPlace s + irqMannerAt) manner
+unfoldable pub irq_entered : List ℕ → Seat → ℕ → ℕ → ℕ → List ℕ
+irq_entered b s client level manner = set (set (with_word b (irq_place_lem s) client) (irq_place_lem s + irq_level_at) level) (irq_place_lem s + irq_manner_at) manner
 
 -- the record of so many bytes at a place is taken out of those up to the end: those after it stand one place lower, and the last one is zero
 pub record ClosedUp (b b' : List ℕ) (at bytes end : ℕ) : Type 0 where
@@ -33,11 +33,11 @@ pub record Withdrawn (b b' : List ℕ) (i : ℕ) : Type 0 where
   pub b₂ : List ℕ
   pub b₃ : List ℕ
   pub b₄ : List ℕ
-  pub handles : ClosedUp b b₁ (handlePlace i) handleSize (handlePlace (clientsIn b))
-  pub attributes : ClosedUp b₁ b₂ (attributesPlace i) attributesSize (attributesPlace (clientsIn b))
-  pub events : ClosedUp b₂ b₃ (eventsPlace i) eventsSize (eventsPlace (clientsIn b))
-  pub masks : ClosedUp b₃ b₄ (masksPlace i) masksSize (masksPlace (clientsIn b))
-  pub number : b' ≡ set b₄ headClients (clientsIn b - 1)
+  pub handles : ClosedUp b b₁ (handle_place i) handle_size (handle_place (clients_in b))
+  pub attributes : ClosedUp b₁ b₂ (attributes_place i) attributes_size (attributes_place (clients_in b))
+  pub events : ClosedUp b₂ b₃ (events_place i) events_size (events_place (clients_in b))
+  pub masks : ClosedUp b₃ b₄ (masks_place i) masks_size (masks_place (clients_in b))
+  pub number : b' ≡ set b₄ head_clients (clients_in b - 1)
 
 -- the record of so many bytes at a place, in a part that ends at the end, is taken out: those after it stand one place lower, the last one is
 -- zero, and the number of records, which stands at count, is one less

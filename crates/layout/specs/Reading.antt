@@ -21,97 +21,97 @@ below n other f i = cond (ltb i n) (f i) other
 abbrev pub marked : ℕ → Bool
 marked x = eqb x 1
 
-abbrev pub socketsIn : List ℕ → ℕ
-socketsIn b = byte b Layout.headSockets
+abbrev pub sockets_in : List ℕ → ℕ
+sockets_in b = byte b Layout.head_sockets
 
-abbrev pub clientsIn : List ℕ → ℕ
-clientsIn b = byte b Layout.headClients
+abbrev pub clients_in : List ℕ → ℕ
+clients_in b = byte b Layout.head_clients
 
-abbrev pub rangesIn : List ℕ → ℕ
-rangesIn b = byte b Layout.headRanges
+abbrev pub ranges_in : List ℕ → ℕ
+ranges_in b = byte b Layout.head_ranges
 
-abbrev pub issuedIn : List ℕ → ℕ
-issuedIn b = word b Layout.headIssued
+abbrev pub issued_in : List ℕ → ℕ
+issued_in b = word b Layout.head_issued
 
 -- where a record begins
-abbrev pub levelPlace : ℕ → ℕ
-levelPlace l = Layout.levelsAt + l * Layout.levelSize
+abbrev pub level_place : ℕ → ℕ
+level_place l = Layout.levels_at + l * Layout.level_size
 
-abbrev pub rangePlace : ℕ → ℕ
-rangePlace i = Layout.rangesAt + i * Layout.rangeSize
+abbrev pub range_place : ℕ → ℕ
+range_place i = Layout.ranges_at + i * Layout.range_size
 
-abbrev pub handlePlace : ℕ → ℕ
-handlePlace i = Layout.handlesAt + i * Layout.handleSize
+abbrev pub handle_place : ℕ → ℕ
+handle_place i = Layout.handles_at + i * Layout.handle_size
 
-abbrev pub attributesPlace : ℕ → ℕ
-attributesPlace i = Layout.attributesAt + i * Layout.attributesSize
+abbrev pub attributes_place : ℕ → ℕ
+attributes_place i = Layout.attributes_at + i * Layout.attributes_size
 
-abbrev pub eventsPlace : ℕ → ℕ
-eventsPlace i = Layout.eventsAt + i * Layout.eventsSize
+abbrev pub events_place : ℕ → ℕ
+events_place i = Layout.events_at + i * Layout.events_size
 
-abbrev pub ioPlace : Seat → ℕ
-ioPlace s = Layout.iosAt + s * Layout.ioSize
+abbrev pub io_place_lem : Seat → ℕ
+io_place_lem s = Layout.ios_at + s * Layout.io_size
 
-abbrev pub irqPlace : Seat → ℕ
-irqPlace s = Layout.irqsAt + s * Layout.irqSize
+abbrev pub irq_place_lem : Seat → ℕ
+irq_place_lem s = Layout.irqs_at + s * Layout.irq_size
 
-abbrev pub masksPlace : ℕ → ℕ
-masksPlace i = Layout.masks_at + i * Layout.masksSize
+abbrev pub masks_place : ℕ → ℕ
+masks_place i = Layout.masks_at + i * Layout.masks_size
 
-abbrev pub maskPlace : ℕ → Seat → ℕ
-maskPlace i s = masksPlace i + s * Layout.maskSize
+abbrev pub mask_place : ℕ → Seat → ℕ
+mask_place i s = masks_place i + s * Layout.mask_size
 
-abbrev pub handleIn : List ℕ → ℕ → ℕ
-handleIn b i = word b (handlePlace i)
+abbrev pub handle_in : List ℕ → ℕ → ℕ
+handle_in b i = word b (handle_place i)
 
 abbrev pub mask_of : ℕ → Option ℕ
 mask_of w = cond (eqb w 0) none (some (w - 1))
 
-unfoldable pub clientIn : List ℕ → ℕ → Client
-clientIn b i =
+unfoldable pub client_in : List ℕ → ℕ → Client
+client_in b i =
     record {
-      handle = handleIn b i;
-      attributes = byte b (attributesPlace i);
-      events = word b (eventsPlace i);
-      mask = below Layout.seatRoom none (λ s. mask_of (word b (maskPlace i s)));
+      handle = handle_in b i;
+      attributes = byte b (attributes_place i);
+      events = word b (events_place i);
+      mask = below Layout.seat_room none (λ s. mask_of (word b (mask_place i s)));
     }
 
-unfoldable pub rangeIn : List ℕ → ℕ → Range
-rangeIn b i = record { base = word b (rangePlace i); count = long b (rangePlace i + Layout.rangeCountAt); reserved = marked (byte b (rangePlace i + Layout.rangeReservedAt)) }
+unfoldable pub range_in : List ℕ → ℕ → Range
+range_in b i = record { base = word b (range_place i); count = long b (range_place i + Layout.range_count_at); reserved = marked (byte b (range_place i + Layout.range_reserved_at)) }
 
-unfoldable pub levelIn : List ℕ → ℕ → Level
-levelIn b l = record { managed = marked (byte b (levelPlace l)); reserved = marked (byte b (levelPlace l + Layout.levelReservedAt)) }
+unfoldable pub level_in : List ℕ → ℕ → Level
+level_in b l = record { managed = marked (byte b (level_place l)); reserved = marked (byte b (level_place l + Layout.level_reserved_at)) }
 
 -- the ports that the record of an I/O grant says
-abbrev pub portsIn : List ℕ → ℕ → Ports
-portsIn b at = record { base = word b (at + Layout.ioBaseAt); count = byte b (at + Layout.ioCountAt); lines = byte b (at + Layout.ioLinesAt) }
+abbrev pub ports_in : List ℕ → ℕ → Ports
+ports_in b at = record { base = word b (at + Layout.io_base_at); count = byte b (at + Layout.io_count_at); lines = byte b (at + Layout.io_lines_at) }
 
-unfoldable pub ioIn : List ℕ → Seat → IoGrant
-ioIn b s =
-    record { client = word b (ioPlace s); ports = portsIn b (ioPlace s); shared = marked (byte b (ioPlace s + Layout.ioSharedAt)) }
+unfoldable pub io_in : List ℕ → Seat → IoGrant
+io_in b s =
+    record { client = word b (io_place_lem s); ports = ports_in b (io_place_lem s); shared = marked (byte b (io_place_lem s + Layout.io_shared_at)) }
 
-abbrev pub mannerOf : ℕ → Manner
-mannerOf n = cond (eqb n 0) Exclusive (cond (eqb n 1) TimeMultiplexed (cond (eqb n 2) DynamicLevel DynamicPulse))
+abbrev pub manner_of_lem : ℕ → Manner
+manner_of_lem n = cond (eqb n 0) Exclusive (cond (eqb n 1) TimeMultiplexed (cond (eqb n 2) DynamicLevel DynamicPulse))
 
-unfoldable pub irqIn : List ℕ → Seat → IrqGrant
-irqIn b s = record { client = word b (irqPlace s); level = byte b (irqPlace s + Layout.irqLevelAt); manner = mannerOf (byte b (irqPlace s + Layout.irqMannerAt)) }
+unfoldable pub irq_in : List ℕ → Seat → IrqGrant
+irq_in b s = record { client = word b (irq_place_lem s); level = byte b (irq_place_lem s + Layout.irq_level_at); manner = manner_of_lem (byte b (irq_place_lem s + Layout.irq_manner_at)) }
 
 -- a grant's record whose client is 0 is no grant
-unfoldable pub ioHere : List ℕ → Seat → Option IoGrant
-ioHere b s = cond (eqb (word b (ioPlace s)) 0) none (some (ioIn b s))
+unfoldable pub io_here : List ℕ → Seat → Option IoGrant
+io_here b s = cond (eqb (word b (io_place_lem s)) 0) none (some (io_in b s))
 
-unfoldable pub irqHere : List ℕ → Seat → Option IrqGrant
-irqHere b s = cond (eqb (word b (irqPlace s)) 0) none (some (irqIn b s))
+unfoldable pub irq_here : List ℕ → Seat → Option IrqGrant
+irq_here b s = cond (eqb (word b (irq_place_lem s)) 0) none (some (irq_in b s))
 
-unfoldable pub factsIn : List ℕ → Facts
-factsIn b =
+unfoldable pub facts_in : List ℕ → Facts
+facts_in b =
     record {
-      sockets = socketsIn b;
-      card = below Table.mostSockets false (λ s. marked (byte b (Layout.cardsAt + s)));
-      issued = issuedIn b;
-      clients = up_to (clientsIn b) (clientIn b);
-      level = below Table.allLevels (record { managed = false; reserved = false }) (levelIn b);
-      ranges = up_to (rangesIn b) (rangeIn b);
-      io = below Layout.seatRoom none (ioHere b);
-      irq = below Layout.seatRoom none (irqHere b);
+      sockets = sockets_in b;
+      card = below Table.most_sockets false (λ s. marked (byte b (Layout.cards_at + s)));
+      issued = issued_in b;
+      clients = up_to (clients_in b) (client_in b);
+      level = below Table.all_levels (record { managed = false; reserved = false }) (level_in b);
+      ranges = up_to (ranges_in b) (range_in b);
+      io = below Layout.seat_room none (io_here b);
+      irq = below Layout.seat_room none (irq_here b);
     }

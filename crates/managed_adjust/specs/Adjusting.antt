@@ -2,7 +2,7 @@
 use Rattle.std.specs.Prelude.{◌≡◌, List, ℕ, ◌≤◌}
 use Rattle.facts.specs.Table.{Facts}
 use Rattle.facts.specs.Checks.{Rule}
-use Rattle.facts.specs.Resources.{actionOf}
+use Rattle.facts.specs.Resources.{action_of}
 use Rattle.layout.specs.Served.{ServedBy}
 use Rattle.service_answers.specs.declared.Answer.{Answer}
 use Rattle.service_answers.specs.Answers.{code_of, handle_of}
@@ -19,6 +19,6 @@ pub record Reached (p : List ℕ) (action resource : ℕ) : Type 0 where
 
 -- the action is First or Next
 pub record Shows (p : List ℕ) (action : ℕ) : Type 0 where
-  pub action-is : action ≡ actionOf p
+  pub action_is : action ≡ action_of p
   pub least : 2 ≤ action
   pub most : action ≤ 3

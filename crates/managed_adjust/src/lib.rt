@@ -25,7 +25,7 @@ const LEVEL_ATTRIBUTES_AT: usize = 2;
 const LEVEL_AT: usize = 3;
 
 fn add_level(t: &mut [u8], h: Handle, p: &[u8]) -> Answer
-    requires { Accepted t.old × (length p.now ≡ Resources.irqAdjustLength) }
+    requires { Accepted t.old × (length p.now ≡ Resources.irq_adjust_length) }
     ensures { ServesBy AddLevel h.0 p.now p.now t.old t.new result }
 {
     let attributes = p[LEVEL_ATTRIBUTES_AT];
@@ -34,7 +34,7 @@ fn add_level(t: &mut [u8], h: Handle, p: &[u8]) -> Answer
 }
 
 fn remove_level(t: &mut [u8], h: Handle, p: &[u8]) -> Answer
-    requires { Accepted t.old × (length p.now ≡ Resources.irqAdjustLength) }
+    requires { Accepted t.old × (length p.now ≡ Resources.irq_adjust_length) }
     ensures { ServesBy RemoveLevel h.0 p.now p.now t.old t.new result }
 {
     let attributes = p[LEVEL_ATTRIBUTES_AT];
@@ -43,7 +43,7 @@ fn remove_level(t: &mut [u8], h: Handle, p: &[u8]) -> Answer
 }
 
 fn show_level(t: &[u8], p: &mut [u8], action: u8) -> Answer
-    requires { Accepted t.now × (length p.old ≡ Resources.irqAdjustLength) × Shows p.old action }
+    requires { Accepted t.now × (length p.old ≡ Resources.irq_adjust_length) × Shows p.old action }
     ensures { ServesBy ShowLevel 0 p.old p.new t.now t.now result }
 {
     let given = table_read::byte(p, LEVEL_AT) as u32;
@@ -57,21 +57,21 @@ fn show_level(t: &[u8], p: &mut [u8], action: u8) -> Answer
 }
 
 fn add_range(t: &mut [u8], h: Handle, p: &[u8], w: Width) -> Answer
-    requires { Accepted t.old × (length p.now ≡ Resources.ioAdjustLength w) }
+    requires { Accepted t.old × (length p.now ≡ Resources.io_adjust_length w) }
     ensures { ServesBy (AddRange w) h.0 p.now p.now t.old t.new result }
 {
     managed_packets::answer(managed_ranges::add(t, managed_packets::asked(p, w)), h)
 }
 
 fn remove_range(t: &mut [u8], h: Handle, p: &[u8], w: Width) -> Answer
-    requires { Accepted t.old × (length p.now ≡ Resources.ioAdjustLength w) }
+    requires { Accepted t.old × (length p.now ≡ Resources.io_adjust_length w) }
     ensures { ServesBy (RemoveRange w) h.0 p.now p.now t.old t.new result }
 {
     managed_packets::answer(managed_ranges::remove(t, managed_packets::asked(p, w)), h)
 }
 
 fn show_range(t: &[u8], p: &mut [u8], w: Width, action: u8) -> Answer
-    requires { Accepted t.now × (length p.old ≡ Resources.ioAdjustLength w) × Shows p.old action }
+    requires { Accepted t.now × (length p.old ≡ Resources.io_adjust_length w) × Shows p.old action }
     ensures { ServesBy (ShowRange w) 0 p.old p.new t.now t.now result }
 {
     let a = managed_packets::asked(p, w);
@@ -88,7 +88,7 @@ fn show_range(t: &[u8], p: &mut [u8], w: Width, action: u8) -> Answer
 }
 
 fn adjust_irq(t: &mut [u8], h: Handle, p: &mut [u8], action: u8) -> Answer
-    requires { Accepted t.old × Reached p.old action Resources.irqLevel }
+    requires { Accepted t.old × Reached p.old action Resources.irq_level }
     ensures { ServesBy AdjustResourceInfo h.0 p.old p.new t.old t.new result }
 {
     let Size::Right = service_checks::sized(p, LEVEL_LENGTH) else {
@@ -102,7 +102,7 @@ fn adjust_irq(t: &mut [u8], h: Handle, p: &mut [u8], action: u8) -> Answer
 }
 
 fn adjust_io(t: &mut [u8], h: Handle, p: &mut [u8], action: u8) -> Answer
-    requires { Accepted t.old × Reached p.old action Resources.ioRange }
+    requires { Accepted t.old × Reached p.old action Resources.io_range }
     ensures { ServesBy AdjustResourceInfo h.0 p.old p.new t.old t.new result }
 {
     let Form::Of(w) = managed_packets::width_of(p) else {

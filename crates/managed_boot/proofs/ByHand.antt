@@ -25,8 +25,8 @@ pub use denote.Triple.Statement.{Contract, Triple}
 pub use denote.Triple.Table.{cited, entered}
 pub use denote.Triple.Walked.{Stays, Walks, ends_at, gave_slice, Goes-dropped, Goes-gave_slice, Goes-none_slice, Goes-slice, says, stay_dropped}
 pub use denote.Triple.Walked.{stay_none_slice, stay_slice, walk_Meets, walk_of, walked}
-pub use lib.WfN.{lt-wf_rel as Nat·lt-wfRel}
-pub use mathlib.Core.WellFounded.InvImage.{wf as InvImage·wf}
+pub use lib.WfN.{lt-wf_rel as nat_lt_wf}
+pub use mathlib.Core.WellFounded.InvImage.{wf as inv_image_wf}
 pub use mathlib.Core.WellFounded.{WellFounded}
 pub use mir.Syntax.{Body, Ty, assign, copy, erased, mut, named, place, seq, ty_int, ty_ref, w64, w8}
 pub use mir.Val.{Val, WT, has_ty}

@@ -30,14 +30,14 @@ several i (suc n) js = i ∷ several (suc i) n js
 abbrev pub word : Ty
 word = ty_int w64
 
-abbrev pub tableTy : Ty
-tableTy = slice_ty (ty_ref (named 0) mut (ty_int w8))
+abbrev pub table_ty : Ty
+table_ty = slice_ty (ty_ref (named 0) mut (ty_int w8))
 
-abbrev pub byteTy : Ty
-byteTy = ty_ref erased mut (ty_int w8)
+abbrev pub byte_ty : Ty
+byte_ty = ty_ref erased mut (ty_int w8)
 
-abbrev pub lentTy : Ty
-lentTy = slice_ty byteTy
+abbrev pub lent_ty : Ty
+lent_ty = slice_ty byte_ty
 
 -- a local that is free, and one that holds a value, before the rest of what a walk has
 abbrev pub free : {M : Type 1} {𝓤 : Ura M} → Ty → ℕ → List (Item 𝓤) → List (Item 𝓤)

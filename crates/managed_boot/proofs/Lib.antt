@@ -3,7 +3,7 @@ mod ByHand
 pub mod Bytes
 pub mod Lending
 pub mod Walking
-pub use Bytes.{record-read, taken_more}
-pub use Lending.{several, word, tableTy, byteTy, lentTy, free, held, local, puts, bytes, Kept, lends, home, Front, Others, apart, together}
-pub use Walking.{range-adds, level-adds, Walked, walked_none, ends-length, walked-length, walked_through, walked_one}
-pub use Walking.{walked-refused, bytes-all, bytes-broken, bytes-more, bytes-stopped}
+pub use Bytes.{record_read, taken_more}
+pub use Lending.{several, word, table_ty, byte_ty, lent_ty, free, held, local, puts, bytes, Kept, lends, home, Front, Others, apart, together}
+pub use Walking.{range_adds, level_adds, Walked, walked_none, ends_length, walked_length, walked_through, walked_one}
+pub use Walking.{walked_refused, bytes_all, bytes_broken, bytes_more, bytes_stopped}

@@ -4,7 +4,7 @@ use Rattle.facts.specs.declared.Code.{Code}
 use Rattle.facts.specs.declared.Code.TheVariants.{Success}
 use Rattle.facts.specs.declared.Record.{Record}
 use Rattle.facts.specs.Table.{Facts}
-use Rattle.facts.specs.Boot.{BootRecords, BootBytes, stopped, recordChecks, recordAdded}
+use Rattle.facts.specs.Boot.{BootRecords, BootBytes, stopped, record_checks, record_added}
 use Rattle.facts.specs.Boot as rule
 use Rattle.layout.specs.Served.{Served}
 use Rattle.managed_changes.specs.declared.Change.{Change}
@@ -18,7 +18,7 @@ at_once = 8
 
 -- one record
 abbrev pub AddsRecord : Record → List ℕ → List ℕ → Change → Type 0
-AddsRecord r = Changes (λ (F : Facts). recordChecks F r) (λ (F : Facts). recordAdded F r)
+AddsRecord r = Changes (λ (F : Facts). record_checks F r) (λ (F : Facts). record_added F r)
 
 -- the place and the code that a list answers
 abbrev pub place_of : Booted → ℕ

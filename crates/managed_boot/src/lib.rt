@@ -1,7 +1,7 @@
 // The boot list: "a lent slice of resource records, added in order", on a table that is the image of a well-formed set. `walk` goes along the slice;
 // `boot` takes a list that is lent as bytes, some records at a time, out into an array and lends that to `walk`.
 ghost use Rattle.std.specs.Prelude.{◌≡◌, ◌+◌, ◌*◌, ◌/◌, ◌≤◌, min, length, take, drop};
-ghost use Rattle.facts.specs.Boot.{recordSize, recordOf, recordsIn};
+ghost use Rattle.facts.specs.Boot.{record_size, record_of, records_in};
 ghost use Rattle.facts.specs.Table;
 ghost use Rattle.layout.specs.Sound.{Accepted};
 ghost use Rattle.facts.specs.Codes.{placed};
@@ -22,8 +22,8 @@ const COUNT_AT: usize = 6;
 
 // The record that begins at a byte of the list.
 fn record_at(records: &[u8], at: usize) -> Record
-    requires { at + recordSize ≤ length records.now }
-    ensures { result ≡ recordOf (drop at records.now) }
+    requires { at + record_size ≤ length records.now }
+    ensures { result ≡ record_of (drop at records.now) }
 {
     let resource = records[at];
     let attributes = records[at + ATTRIBUTES_AT];
@@ -42,7 +42,7 @@ const AT_ONCE: usize = 8;
 
 // How many are taken next, out of so many bytes.
 fn next(left: usize) -> usize
-    ensures { result ≡ min at_once (left / recordSize) }
+    ensures { result ≡ min at_once (left / record_size) }
 {
     let whole = left / RECORD_SIZE;
     if AT_ONCE <= whole {
@@ -53,8 +53,8 @@ fn next(left: usize) -> usize
 
 // The n records that begin at a byte of the list.
 fn taken(records: &[u8], at: usize, n: usize) -> [Record; AT_ONCE]
-    requires { (n ≤ at_once) × (at + n * recordSize ≤ length records.now) }
-    ensures { take n result ≡ recordsIn n (drop at records.now) }
+    requires { (n ≤ at_once) × (at + n * record_size ≤ length records.now) }
+    ensures { take n result ≡ records_in n (drop at records.now) }
 {
     let none = Record {
         resource: 0,
@@ -124,8 +124,8 @@ pub fn walk(t: &mut [u8], records: &[Record]) -> Booted
 
 // The n records that begin at a byte of the list are taken out, and lent as a slice.
 fn lent(t: &mut [u8], records: &[u8], at: usize, n: usize) -> Booted
-    requires { Accepted t.old × (n ≤ at_once) × (at + n * recordSize ≤ length records.now) }
-    ensures { BootsRecords (recordsIn n (drop at records.now)) t.old t.new result }
+    requires { Accepted t.old × (n ≤ at_once) × (at + n * record_size ≤ length records.now) }
+    ensures { BootsRecords (records_in n (drop at records.now)) t.old t.new result }
 {
     let all = taken(records, at, n);
     walk(t, &all[..n])
@@ -161,7 +161,7 @@ pub fn boot(t: &mut [u8], records: &[u8]) -> Booted
 const ABOVE_CODE: u64 = 4294967296;
 
 pub fn pack(b: Booted) -> u64
-    requires { place_of b ≤ Table.allLevels + Table.mostRanges }
+    requires { place_of b ≤ Table.all_levels + Table.most_ranges }
     ensures { result ≡ placed (code_of b) (place_of b) }
 {
     match b {

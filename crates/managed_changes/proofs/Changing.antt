@@ -3,5 +3,5 @@ use Rattle.facts.proofs.Words.{List, ℕ}
 use Rattle.facts.specs.{Facts}
 use Rattle.layout.specs.Served.{Served}
 
-pub served-as : {R S : Facts → Facts → Type 0} {b b' : List ℕ} → ((F G : Facts) → R F G → S F G) → Served R b b' → Served S b b'
-served-as f s = record { accepted = s.accepted; after = s.after; rule = f s.accepted.facts s.after s.rule; table = s.table }
+pub served_as : {R S : Facts → Facts → Type 0} {b b' : List ℕ} → ((F G : Facts) → R F G → S F G) → Served R b b' → Served S b b'
+served_as f s = record { accepted = s.accepted; after = s.after; rule = f s.accepted.facts s.after s.rule; table = s.table }

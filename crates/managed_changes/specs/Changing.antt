@@ -2,7 +2,7 @@
 use Rattle.std.specs.Prelude.{◌≡◌, ◌≢◌, List, ℕ, eqb}
 use Rattle.facts.specs.Table.{Facts}
 use Rattle.facts.specs.Checks.{Check, FirstGiven, Passed}
-use Rattle.facts.specs.Resources.{AddBits, reserveBit}
+use Rattle.facts.specs.Resources.{AddBits, reserve_bit}
 use Rattle.layout.specs.Layout.{mark}
 use Rattle.layout.specs.Served.{Served}
 use Rattle.managed_changes.specs.declared.Change.{Change}
@@ -19,7 +19,7 @@ Changes checks after b b' (Refused k) = Served (λ (F G : Facts). FirstGiven (ch
 
 -- the bits of an Add and of a Remove
 abbrev pub ReserveIs : ℕ → Reserve → Type 0
-ReserveIs a (Mark m) = AddBits a × (m ≡ mark (eqb a reserveBit))
+ReserveIs a (Mark m) = AddBits a × (m ≡ mark (eqb a reserve_bit))
 ReserveIs a Other = AddBits a → ⊥
 
 abbrev pub BitsAre : ℕ → Bits → Type 0

@@ -2,6 +2,6 @@
 pub mod Here
 pub mod Least
 pub mod Shown
-pub use Here.{level-free, level-other, level-here, ports-free, ports-other, ports-here}
-pub use Least.{holders-more}
-pub use Shown.{level-shown, range-shown}
+pub use Here.{level_free, level_other, level_here, ports_free, ports_other, ports_here}
+pub use Least.{holders_more}
+pub use Shown.{level_shown, range_shown}

@@ -4,7 +4,7 @@ use Rattle.facts.specs.Choice
 use Rattle.facts.specs.Table.{Facts, Seat, Range, HeldPorts, IrqGrant, Held}
 use Rattle.facts.specs.Ports.{Overlap}
 use Rattle.facts.specs.Levels.{type_of, Holds}
-use Rattle.facts.specs.Resources.{LevelHeld, LevelShown, RangeHeld, RangeShown, heldBit, sharedBit}
+use Rattle.facts.specs.Resources.{LevelHeld, LevelShown, RangeHeld, RangeShown, held_bit, shared_bit}
 use Rattle.layout.specs.Sound.{Accepted}
 use Rattle.table_read.specs.Sets.{SomeBelow}
 use Rattle.managed_holders.specs.declared.Holders.{Holders}
@@ -12,12 +12,12 @@ use Rattle.managed_holders.specs.declared.Holders.TheVariants.{Lowest, Nobody}
 
 -- at the seat s a client with the handle h holds the level, and a is shown of it
 abbrev pub LevelHolds : Facts → ℕ → Seat → ℕ → ℕ → Type 0
-LevelHolds F l s h a = (g : IrqGrant) × Holds F l s g × (g.client ≡ h) × (heldBit + type_of g.manner ≡ a)
+LevelHolds F l s h a = (g : IrqGrant) × Holds F l s g × (g.client ≡ h) × (held_bit + type_of g.manner ≡ a)
 
 -- what is shown of a holder of ports, who shares them or not
 abbrev pub shown : Bool → ℕ
-shown true = heldBit + sharedBit
-shown false = heldBit
+shown true = held_bit + shared_bit
+shown false = held_bit
 
 -- it holds one of the ports
 abbrev pub PortsHold : Facts → ℕ → ℕ → Seat → ℕ → ℕ → Type 0

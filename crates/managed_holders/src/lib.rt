@@ -1,8 +1,8 @@
 // Who holds a managed level, or a port of a managed range, on a table that is the image of a well-formed set.
 ghost use Rattle.std.specs.Prelude.{◌≡◌, ◌<◌, min, length};
 ghost use Rattle.facts.specs.Table;
-ghost use Rattle.layout.specs.Layout.{tableSize};
-ghost use Rattle.layout.specs.Reading.{factsIn};
+ghost use Rattle.layout.specs.Layout.{table_size};
+ghost use Rattle.layout.specs.Reading.{facts_in};
 ghost use Rattle.layout.specs.Sound.{Accepted};
 ghost use Rattle.managed_holders.specs.Holders.{HereIs, LevelHolds, PortsHold, together, LevelHoldersAre, RangeHoldersAre};
 
@@ -24,8 +24,8 @@ const HELD_SHARED: u8 = HELD + 0x01;
 
 // Who holds the level at the seat, shown with the type of its grant.
 fn level_at(t: &[u8], l: usize, s: Seat) -> Holders
-    requires { (length t.now ≡ tableSize) × (s.0 < Table.mostSeats) }
-    ensures { HereIs (LevelHolds (factsIn t.now) l s.0) result }
+    requires { (length t.now ≡ table_size) × (s.0 < Table.most_seats) }
+    ensures { HereIs (LevelHolds (facts_in t.now) l s.0) result }
 {
     let IrqSeat::Held(held) = seats::level_held(t, s) else {
         return Holders::Nobody;
@@ -40,8 +40,8 @@ fn level_at(t: &[u8], l: usize, s: Seat) -> Holders
 
 // Who holds one of the ports at the seat, shown as sharing or not.
 fn ports_at(t: &[u8], base: usize, count: usize, s: Seat) -> Holders
-    requires { (length t.now ≡ tableSize) × (s.0 < Table.mostSeats) }
-    ensures { HereIs (PortsHold (factsIn t.now) base count s.0) result }
+    requires { (length t.now ≡ table_size) × (s.0 < Table.most_seats) }
+    ensures { HereIs (PortsHold (facts_in t.now) base count s.0) result }
 {
     let IoSeat::Held(held) = seats::held(t, s) else {
         return Holders::Nobody;

@@ -1,8 +1,8 @@
 // Managed IRQ levels, on a table that is the image of a well-formed set: added, removed, and which comes next.
 ghost use Rattle.std.specs.Prelude.{◌≡◌, ◌+◌, ◌<◌, length, set};
 ghost use Rattle.facts.specs.Table;
-ghost use Rattle.layout.specs.Layout.{tableSize};
-ghost use Rattle.layout.specs.Reading.{levelPlace};
+ghost use Rattle.layout.specs.Layout.{table_size};
+ghost use Rattle.layout.specs.Reading.{level_place};
 ghost use Rattle.layout.specs.Sound.{Accepted};
 ghost use Rattle.managed_levels.specs.Asked.{ManagingIs, NextLevelIs, AddsLevel, RemovesLevel};
 
@@ -20,7 +20,7 @@ pub enum Managing {
 }
 
 fn whether_managed(t: &[u8], l: usize) -> Managing
-    requires { (length t.now ≡ tableSize) × (l < Table.allLevels) }
+    requires { (length t.now ≡ table_size) × (l < Table.all_levels) }
     ensures { ManagingIs t.now l result }
 {
     if table_read::byte(t, LEVELS_AT + l * LEVEL_SIZE) == MARKED {
@@ -32,8 +32,8 @@ fn whether_managed(t: &[u8], l: usize) -> Managing
 
 // A level's two marks.
 fn mark(t: &mut [u8], l: usize, managed: u8, reserved: u8)
-    requires { (length t.old ≡ tableSize) × (l < Table.allLevels) }
-    ensures { t.new ≡ set (set t.old (levelPlace l) managed) (levelPlace l + 1) reserved }
+    requires { (length t.old ≡ table_size) × (l < Table.all_levels) }
+    ensures { t.new ≡ set (set t.old (level_place l) managed) (level_place l + 1) reserved }
 {
     let at = LEVELS_AT + l * LEVEL_SIZE;
     t[at] = managed;

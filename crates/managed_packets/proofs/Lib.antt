@@ -1,3 +1,3 @@
 -- Laws over the width. Assumes nothing.
 pub mod Widths
-pub use Widths.{asked-at, few-at}
+pub use Widths.{asked_at, few_at}

@@ -1,7 +1,7 @@
 // AdjustResourceInfo's packets: what they name and ask for, at either width, and what is written into them.
 ghost use Rattle.std.specs.Prelude.{◌≡◌, length};
 ghost use Rattle.facts.specs.Resources;
-ghost use Rattle.managed_packets.specs.Fields.{HeadIs, FormIs, AskedIs, FromIs, FitIs, Written, answer_of, attributesShown, handleShown};
+ghost use Rattle.managed_packets.specs.Fields.{HeadIs, FormIs, AskedIs, FromIs, FitIs, Written, answer_of, attributes_shown_lem, handle_shown_lem};
 
 use facts::{Handle, RangeAsked, Width};
 use layout::MOST_LINES;
@@ -79,7 +79,7 @@ pub fn width_of(p: &[u8]) -> Form
 
 // What a packet of a width asks for.
 pub fn asked(p: &[u8], w: Width) -> RangeAsked
-    requires { length p.now ≡ Resources.ioAdjustLength w }
+    requires { length p.now ≡ Resources.io_adjust_length w }
     ensures { AskedIs w p.now result }
 {
     match w {
@@ -144,7 +144,7 @@ pub fn can_show(w: Width, count: usize) -> Fit
 
 // What is shown of the holders: attributes and a handle.
 pub fn attributes_shown(x: Holders) -> u8
-    ensures { result ≡ attributesShown x }
+    ensures { result ≡ attributes_shown_lem x }
 {
     match x {
         Holders::Lowest(_, attributes) => attributes,
@@ -153,7 +153,7 @@ pub fn attributes_shown(x: Holders) -> u8
 }
 
 pub fn handle_shown(x: Holders) -> Handle
-    ensures { result.0 ≡ handleShown x }
+    ensures { result.0 ≡ handle_shown_lem x }
 {
     match x {
         Holders::Lowest(h, _) => h,
@@ -163,7 +163,7 @@ pub fn handle_shown(x: Holders) -> Handle
 
 // "Written: base and ports, or level; attributes; lines 16."
 pub fn write(p: &mut [u8], w: Width, base: usize, count: usize, attributes: u8)
-    requires { (length p.old ≡ Resources.ioAdjustLength w) × (Resources.TooMany w count → ⊥) }
+    requires { (length p.old ≡ Resources.io_adjust_length w) × (Resources.TooMany w count → ⊥) }
     ensures { Written w base count attributes p.old p.new }
 {
     match w {

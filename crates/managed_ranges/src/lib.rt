@@ -1,8 +1,8 @@
 // Managed ranges of I/O ports, on a table that is the image of a well-formed set.
 ghost use Rattle.std.specs.Prelude.{◌≡◌, ◌+◌, ◌<◌, ◌≤◌, length};
 ghost use Rattle.facts.specs.Table;
-ghost use Rattle.layout.specs.Layout.{tableSize};
-ghost use Rattle.layout.specs.Reading.{rangesIn};
+ghost use Rattle.layout.specs.Layout.{table_size};
+ghost use Rattle.layout.specs.Reading.{ranges_in};
 ghost use Rattle.layout.specs.Sound.{Accepted, RangesSound};
 ghost use Rattle.managed_ranges.specs.Asked.{LinesAre, CountIs, PortsReach, PortsNamedIs, PlaceOf, StartIs, FreeIs, FoundIs, RoomIs, Entered, CardsAre};
 ghost use Rattle.managed_ranges.specs.Asked.{NextRangeIs, PutsRange, TakesRange, AddsRange, RemovesRange};
@@ -91,7 +91,7 @@ fn ports_named(r: RangeAsked) -> PortsNamed
 
 // How many ranges have a base below a number: where such a base belongs. The last ones are looked at first.
 fn place(t: &[u8], from: usize) -> usize
-    requires { (length t.now ≡ tableSize) × (rangesIn t.now ≤ Table.mostRanges) × RangesSound t.now }
+    requires { (length t.now ≡ table_size) × (ranges_in t.now ≤ Table.most_ranges) × RangesSound t.now }
     ensures { PlaceOf t.now from result }
 {
     let mut i = table_read::byte(t, RANGES_IN);
@@ -106,7 +106,7 @@ fn place(t: &[u8], from: usize) -> usize
 
 // Where the range in the place i starts; past the last one, past FFFF.
 fn start(t: &[u8], i: usize) -> usize
-    requires { (length t.now ≡ tableSize) × (rangesIn t.now ≤ Table.mostRanges) }
+    requires { (length t.now ≡ table_size) × (ranges_in t.now ≤ Table.most_ranges) }
     ensures { StartIs t.now i result }
 {
     if i < table_read::byte(t, RANGES_IN) {
@@ -123,8 +123,8 @@ pub enum NewPorts {
 }
 
 fn free(t: &[u8], base: usize, count: usize) -> NewPorts
-    requires t_len { (length t.now ≡ tableSize) × (rangesIn t.now ≤ Table.mostRanges) × RangesSound t.now }
-    requires le_count { (1 ≤ count) × (base + count ≤ Table.allPorts) }
+    requires t_len { (length t.now ≡ table_size) × (ranges_in t.now ≤ Table.most_ranges) × RangesSound t.now }
+    requires le_count { (1 ≤ count) × (base + count ≤ Table.all_ports) }
     ensures { FreeIs t.now base count result }
 {
     let i = place(t, base);
@@ -145,7 +145,7 @@ pub enum Room {
 }
 
 fn has_room(t: &[u8]) -> Room
-    requires { length t.now ≡ tableSize }
+    requires { length t.now ≡ table_size }
     ensures { RoomIs t.now result }
 {
     if table_read::byte(t, RANGES_IN) < MOST_RANGES {
@@ -157,7 +157,7 @@ fn has_room(t: &[u8]) -> Room
 
 // The new range's record in the place i: those from there on move one place up.
 fn enter(t: &mut [u8], i: usize, base: usize, count: usize, reserved: u8)
-    requires t_len { (length t.old ≡ tableSize) × (i ≤ rangesIn t.old) × (rangesIn t.old < Table.mostRanges) }
+    requires t_len { (length t.old ≡ table_size) × (i ≤ ranges_in t.old) × (ranges_in t.old < Table.most_ranges) }
     requires base_bound { (base < 65536) × (count < 4294967296) }
     ensures { Entered t.old t.new i base count reserved }
 {
@@ -170,7 +170,7 @@ fn enter(t: &mut [u8], i: usize, base: usize, count: usize, reserved: u8)
 
 // The ports are put in, with their reserve mark: "a port already managed IN_USE; 32 ranges present OUT_OF_RESOURCE".
 fn put(t: &mut [u8], base: usize, count: usize, reserved: u8) -> Change
-    requires { Accepted t.old × (1 ≤ count) × (base + count ≤ Table.allPorts) }
+    requires { Accepted t.old × (1 ≤ count) × (base + count ≤ Table.all_ports) }
     ensures { PutsRange base count reserved t.old t.new result }
 {
     let NewPorts::Free(i) = free(t, base, count) else {
@@ -205,7 +205,7 @@ pub enum RangeFound {
 }
 
 fn find(t: &[u8], base: usize, count: usize) -> RangeFound
-    requires { (length t.now ≡ tableSize) × (rangesIn t.now ≤ Table.mostRanges) × RangesSound t.now }
+    requires { (length t.now ≡ table_size) × (ranges_in t.now ≤ Table.most_ranges) × RangesSound t.now }
     ensures { FoundIs t.now base count result }
 {
     let i = place(t, base);
@@ -230,7 +230,7 @@ pub enum Cards {
 }
 
 fn cards_at(t: &[u8], base: usize, count: usize) -> Cards
-    requires { Accepted t.now × (base < Table.allPorts) × (count ≤ Table.allPorts) }
+    requires { Accepted t.now × (base < Table.all_ports) × (count ≤ Table.all_ports) }
     ensures { CardsAre t.now base count result }
 {
     if io_meeting::some(t, base, count, MOST_LINES) {

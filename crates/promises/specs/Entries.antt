@@ -8,7 +8,7 @@ use Rattle.facts.specs.Table
 use Rattle.facts.specs.Table.{Facts, fresh}
 use Rattle.facts.specs.Packets.{Bytes}
 use Rattle.facts.specs.Irq.{Sharers}
-use Rattle.facts.specs.Way.{WhoIsInTheWay, socketNumber}
+use Rattle.facts.specs.Way.{WhoIsInTheWay, socket_number}
 use Rattle.facts.specs.Boot.{BootBytes, stopped}
 use Rattle.facts.specs.Services.{Call}
 use Rattle.facts.specs.Sockets.{CardTo}
@@ -64,14 +64,14 @@ WayPermitted handle b p code socket =
 pub record WayAnswers (handle : ℕ) (b p : List ℕ) (r : ℕ) : Type 0 where
   pub code : Code
   pub socket : Option ℕ
-  pub packs : r ≡ packed code (socketNumber socket)
+  pub packs : r ≡ packed code (socket_number socket)
   pub permitted : WayPermitted handle b p code socket
 
 -- "Fresh: a count of 1 to 8 and a buffer of 8,192 bytes, else GENERAL_FAILURE and no byte changed. .. The old bytes don't matter."
 pub record FreshAllowed (sockets : ℕ) (b : List ℕ) : Type 0 where
-  pub size : length b ≡ Layout.tableSize
+  pub size : length b ≡ Layout.table_size
   pub least : 1 ≤ sockets
-  pub most : sockets ≤ Table.mostSockets
+  pub most : sockets ≤ Table.most_sockets
 
 -- cs_fresh: a code
 abbrev pub FreshAnswers : ℕ → List ℕ → List ℕ → ℕ → Type 0

@@ -8,10 +8,10 @@ use Rattle.facts.specs.Table
 use Rattle.facts.specs.Table.{fresh}
 use Rattle.layout.specs.Layout.{image}
 use Rattle.layout.specs.Sound.{Accepted}
-use Rattle.facts.specs.Boot.{recordSize, recordsIn, recordsAdded}
-use Rattle.facts.specs.Io.{baseAsked}
-use Rattle.facts.specs.Way.{SocketInTheWay, socketNumber}
-use Rattle.facts.specs.Services.{requestIo, serviceNumber}
+use Rattle.facts.specs.Boot.{record_size, records_in, records_added}
+use Rattle.facts.specs.Io.{base_asked_lem}
+use Rattle.facts.specs.Way.{SocketInTheWay, socket_number}
+use Rattle.facts.specs.Services.{requestIo, service_number}
 use Rattle.promises.specs.Entries.{CallAnswers, CardAnswers, SharersAnswers, WayAnswers, FreshAnswers, BootAnswers}
 
 -- the number answered can be taken apart again: its low 16 bits are the code, the rest is the handle, the count or the socket + 1
@@ -29,7 +29,7 @@ pub record CallLaws (service handle : ℕ) (b p : List ℕ) : Type 0 where
   pub unformed : (b₁ p₁ : List ℕ) (r : ℕ) (x : CallAnswers service handle b b₁ p p₁ r) → (Accepted b → ⊥) → x.code ≡ GeneralFailure
   -- an accepted table stays accepted
   pub stays : (b₁ p₁ : List ℕ) (r : ℕ) → Accepted b → CallAnswers service handle b b₁ p p₁ r → Accepted b₁
-  pub taken-apart : (b₁ p₁ : List ℕ) (r : ℕ) (x : CallAnswers service handle b b₁ p p₁ r) → TakenApart r x.code x.answered
+  pub taken_apart : (b₁ p₁ : List ℕ) (r : ℕ) (x : CallAnswers service handle b b₁ p p₁ r) → TakenApart r x.code x.answered
 
 -- cs_card_in and cs_card_out
 pub record CardLaws (present : Bool) (socket : ℕ) (b : List ℕ) : Type 0 where
@@ -44,17 +44,17 @@ pub record SharersLaws (level : ℕ) (b : List ℕ) : Type 0 where
   -- "a refusal's count is 0"; "never over 8"
   pub refusal : (r : ℕ) (x : SharersAnswers level b r) → x.code ≢ Success → x.count ≡ 0
   pub unformed : (r : ℕ) (x : SharersAnswers level b r) → (Accepted b → ⊥) → x.code ≡ GeneralFailure
-  pub most : (r : ℕ) (x : SharersAnswers level b r) → x.count ≤ Table.mostSockets
-  pub taken-apart : (r : ℕ) (x : SharersAnswers level b r) → TakenApart r x.code x.count
+  pub most : (r : ℕ) (x : SharersAnswers level b r) → x.count ≤ Table.most_sockets
+  pub taken_apart : (r : ℕ) (x : SharersAnswers level b r) → TakenApart r x.code x.count
 
 -- cs_in_the_way
 pub record WayLaws (handle : ℕ) (b p : List ℕ) : Type 0 where
   pub one : (r₁ r₂ : ℕ) → WayAnswers handle b p r₁ → WayAnswers handle b p r₂ → r₁ ≡ r₂
   -- "For base 0, or refused, it answers none"
   pub refusal : (r : ℕ) (x : WayAnswers handle b p r) → x.code ≢ Success → x.socket ≡ none
-  pub chosen : (r : ℕ) (x : WayAnswers handle b p r) → baseAsked p ≡ 0 → x.socket ≡ none
+  pub chosen : (r : ℕ) (x : WayAnswers handle b p r) → base_asked_lem p ≡ 0 → x.socket ≡ none
   pub unformed : (r : ℕ) (x : WayAnswers handle b p r) → (Accepted b → ⊥) → x.code ≡ GeneralFailure
-  pub taken-apart : (r : ℕ) (x : WayAnswers handle b p r) → TakenApart r x.code (socketNumber x.socket)
+  pub taken_apart : (r : ℕ) (x : WayAnswers handle b p r) → TakenApart r x.code (socket_number x.socket)
   -- the socket answered is one of the table's and in the way, and no lower one is
   pub below : (r s : ℕ) (x : WayAnswers handle b p r) (a : Accepted b) → x.socket ≡ some s → s < a.facts.sockets
   pub stands : (r s : ℕ) (x : WayAnswers handle b p r) (a : Accepted b) → x.socket ≡ some s → SocketInTheWay a.facts p s
@@ -63,14 +63,14 @@ pub record WayLaws (handle : ℕ) (b p : List ℕ) : Type 0 where
 -- cs_in_the_way beside a cs_call of RequestIO with the same inputs
 pub record WayBesideLaws (handle : ℕ) (b p : List ℕ) : Type 0 where
   -- "its refusals are RequestIO's but for IN_USE"
-  pub code : (b₁ p₁ : List ℕ) (r r' : ℕ) (x : WayAnswers handle b p r) (y : CallAnswers (serviceNumber requestIo) handle b b₁ p p₁ r')
+  pub code : (b₁ p₁ : List ℕ) (r r' : ℕ) (x : WayAnswers handle b p r) (y : CallAnswers (service_number requestIo) handle b b₁ p p₁ r')
       → y.code ≢ InUse → x.code ≡ y.code
   -- where the question isn't refused and the base is named, RequestIO answers IN_USE exactly if the question answers a socket, and SUCCESS exactly if
   -- it answers none
-  pub in_use : (b₁ p₁ : List ℕ) (r r' : ℕ) (x : WayAnswers handle b p r) (y : CallAnswers (serviceNumber requestIo) handle b b₁ p p₁ r')
-      → x.code ≡ Success → baseAsked p ≢ 0 → (y.code ≡ InUse) ↔ (x.socket ≢ none)
-  pub success : (b₁ p₁ : List ℕ) (r r' : ℕ) (x : WayAnswers handle b p r) (y : CallAnswers (serviceNumber requestIo) handle b b₁ p p₁ r')
-      → x.code ≡ Success → baseAsked p ≢ 0 → (y.code ≡ Success) ↔ (x.socket ≡ none)
+  pub in_use : (b₁ p₁ : List ℕ) (r r' : ℕ) (x : WayAnswers handle b p r) (y : CallAnswers (service_number requestIo) handle b b₁ p p₁ r')
+      → x.code ≡ Success → base_asked_lem p ≢ 0 → (y.code ≡ InUse) ↔ (x.socket ≢ none)
+  pub success : (b₁ p₁ : List ℕ) (r r' : ℕ) (x : WayAnswers handle b p r) (y : CallAnswers (service_number requestIo) handle b b₁ p p₁ r')
+      → x.code ≡ Success → base_asked_lem p ≢ 0 → (y.code ≡ Success) ↔ (x.socket ≡ none)
 
 -- cs_fresh
 pub record FreshLaws (sockets : ℕ) (b : List ℕ) : Type 0 where
@@ -84,16 +84,16 @@ pub record BootLaws (records b : List ℕ) : Type 0 where
   pub one : (b₁ b₂ : List ℕ) (r₁ r₂ : ℕ) → BootAnswers records b b₁ r₁ → BootAnswers records b b₂ r₂ → (r₁ ≡ r₂) × (b₁ ≡ b₂)
   -- "earlier ones stay": the table left is that of the records before the place, added in order, and nothing else
   pub leaves : (b₁ : List ℕ) (r : ℕ) (x : BootAnswers records b b₁ r) (a : Accepted b)
-      → b₁ ≡ image (recordsAdded a.facts (recordsIn x.place records))
+      → b₁ ≡ image (records_added a.facts (records_in x.place records))
   pub unformed : (b₁ : List ℕ) (r : ℕ) (x : BootAnswers records b b₁ r) → (Accepted b → ⊥) → (x.code ≡ GeneralFailure) × (x.place ≡ 0) × (b₁ ≡ b)
   pub stays : (b₁ : List ℕ) (r : ℕ) → Accepted b → BootAnswers records b b₁ r → Accepted b₁
   -- "Success answers the list's length in records"
-  pub success : (b₁ : List ℕ) (r : ℕ) (x : BootAnswers records b b₁ r) → x.code ≡ Success → length records ≡ x.place * recordSize
+  pub success : (b₁ : List ℕ) (r : ℕ) (x : BootAnswers records b b₁ r) → x.code ≡ Success → length records ≡ x.place * record_size
   -- no place is past the list's end, nor past the levels and ranges that there can be
-  pub within : (b₁ : List ℕ) (r : ℕ) (x : BootAnswers records b b₁ r) → x.place * recordSize ≤ length records
-  pub most : (b₁ : List ℕ) (r : ℕ) (x : BootAnswers records b b₁ r) → x.place ≤ Table.allLevels + Table.mostRanges
+  pub within : (b₁ : List ℕ) (r : ℕ) (x : BootAnswers records b b₁ r) → x.place * record_size ≤ length records
+  pub most : (b₁ : List ℕ) (r : ℕ) (x : BootAnswers records b b₁ r) → x.place ≤ Table.all_levels + Table.most_ranges
   -- the low 32 bits of the number answered are the code, the rest is the place
-  pub taken-apart : (b₁ : List ℕ) (r : ℕ) (x : BootAnswers records b b₁ r) → (r % 2 ^ 32 ≡ number_of x.code) × (r / 2 ^ 32 ≡ x.place)
+  pub taken_apart : (b₁ : List ℕ) (r : ℕ) (x : BootAnswers records b b₁ r) → (r % 2 ^ 32 ≡ number_of x.code) × (r / 2 ^ 32 ≡ x.place)
 
 -- all of them, for every input
 pub record Laws : Type 0 where

@@ -3,7 +3,7 @@ use Rattle.std.specs.Prelude.{◌≡◌, List, ℕ}
 use Rattle.std.proofs.Math.Option.{Option, none, some}
 use Rattle.facts.specs.Table
 use Rattle.facts.specs.Table.{Seat, IrqGrant}
-use Rattle.layout.specs.Reading.{ioIn, irqIn, factsIn}
+use Rattle.layout.specs.Reading.{io_in, irq_in, facts_in}
 use Rattle.layout.specs.Sound.{IoUsed, IrqUsed}
 use Rattle.seats.specs.declared.HeldPorts.{HeldPorts}
 use Rattle.seats.specs.declared.HeldLevel.{HeldLevel}
@@ -21,21 +21,21 @@ grant x = record { client = x.client.0; level = x.level; manner = x.manner }
 
 -- what the bytes say is held at the seat, or nothing is
 abbrev pub HeldIs : List ℕ → Seat → IoSeat → Type 0
-HeldIs b s (io.Held x) = IoUsed b s × (range x ≡ ioIn b s)
+HeldIs b s (io.Held x) = IoUsed b s × (range x ≡ io_in b s)
 HeldIs b s io.Free = IoUsed b s → ⊥
 
 abbrev pub LevelHeldIs : List ℕ → Seat → IrqSeat → Type 0
-LevelHeldIs b s (irq.Held x) = IrqUsed b s × (grant x ≡ irqIn b s)
+LevelHeldIs b s (irq.Held x) = IrqUsed b s × (grant x ≡ irq_in b s)
 LevelHeldIs b s irq.Free = IrqUsed b s → ⊥
 
 -- the grant that an answer says
-abbrev pub ioAt : IoSeat → Option Table.IoGrant
-ioAt (io.Held x) = some (range x)
-ioAt io.Free = none
+abbrev pub io_at : IoSeat → Option Table.IoGrant
+io_at (io.Held x) = some (range x)
+io_at io.Free = none
 
-abbrev pub irqAt : IrqSeat → Option IrqGrant
-irqAt (irq.Held x) = some (grant x)
-irqAt irq.Free = none
+abbrev pub irq_at : IrqSeat → Option IrqGrant
+irq_at (irq.Held x) = some (grant x)
+irq_at irq.Free = none
 
 -- there is a grant, and its client is h
 abbrev pub HeldBy : {G : Type 0} → (G → ℕ) → ℕ → Option G → Type 0
@@ -44,7 +44,7 @@ HeldBy client h (some g) = client g ≡ h
 
 -- the bytes say that the client h holds the I/O grant at the seat, or its IRQ grant
 abbrev pub IoHeldBy : List ℕ → ℕ → Seat → Type 0
-IoHeldBy b h s = HeldBy (λ (g : Table.IoGrant). g.client) h ((factsIn b).io s)
+IoHeldBy b h s = HeldBy (λ (g : Table.IoGrant). g.client) h ((facts_in b).io s)
 
 abbrev pub IrqHeldBy : List ℕ → ℕ → Seat → Type 0
-IrqHeldBy b h s = HeldBy (λ (g : IrqGrant). g.client) h ((factsIn b).irq s)
+IrqHeldBy b h s = HeldBy (λ (g : IrqGrant). g.client) h ((facts_in b).irq s)

@@ -18,7 +18,7 @@ pub record SeatSound (Place : Seat → Type 0) (Pair : Seat → Seat → Type 0)
   pub company : CompanySound Pair s
 
 abbrev pub IosSound : List ℕ → Type 0
-IosSound b = (s : Seat) → s < Table.mostSeats → SeatSound (IoPlaceSound b) (IoPairSound b) s
+IosSound b = (s : Seat) → s < Table.most_seats → SeatSound (IoPlaceSound b) (IoPairSound b) s
 
 abbrev pub IrqsSound : List ℕ → Type 0
-IrqsSound b = (s : Seat) → s < Table.mostSeats → SeatSound (IrqPlaceSound b) (IrqPairSound b) s
+IrqsSound b = (s : Seat) → s < Table.most_seats → SeatSound (IrqPlaceSound b) (IrqPairSound b) s

@@ -2,8 +2,8 @@
 ghost use Rattle.std.specs.Prelude.{◌≡◌, ◌+◌, ◌<◌, ◌≤◌, length};
 ghost use Rattle.facts.specs.Table;
 ghost use Rattle.facts.specs.Says.{Says};
-ghost use Rattle.layout.specs.Layout.{tableSize, ioSize, irqSize};
-ghost use Rattle.layout.specs.Reading.{ioPlace, irqPlace};
+ghost use Rattle.layout.specs.Layout.{table_size, io_size, irq_size};
+ghost use Rattle.layout.specs.Reading.{io_place_lem, irq_place_lem};
 ghost use Rattle.seats.specs.Seats.{HeldIs, LevelHeldIs, IoHeldBy, IrqHeldBy};
 
 use facts::{Handle, Manner, Seat};
@@ -14,16 +14,16 @@ use layout::{
 
 // Where the record of a seat's I/O grant begins, and that of its IRQ grant.
 pub fn io_place(s: Seat) -> usize
-    requires { s.0 < Table.mostSeats }
-    ensures { (result ≡ ioPlace s.0) × (result + ioSize ≤ tableSize) }
+    requires { s.0 < Table.most_seats }
+    ensures { (result ≡ io_place_lem s.0) × (result + io_size ≤ table_size) }
 {
     let number = s.0;
     IOS_AT + number * IO_SIZE
 }
 
 pub fn irq_place(s: Seat) -> usize
-    requires { s.0 < Table.mostSeats }
-    ensures { (result ≡ irqPlace s.0) × (result + irqSize ≤ tableSize) }
+    requires { s.0 < Table.most_seats }
+    ensures { (result ≡ irq_place_lem s.0) × (result + irq_size ≤ table_size) }
 {
     let number = s.0;
     IRQS_AT + number * IRQ_SIZE
@@ -50,7 +50,7 @@ pub enum IoSeat {
 }
 
 pub fn held(t: &[u8], s: Seat) -> IoSeat
-    requires { (length t.now ≡ tableSize) × (s.0 < Table.mostSeats) }
+    requires { (length t.now ≡ table_size) × (s.0 < Table.most_seats) }
     ensures { HeldIs t.now s.0 result }
 {
     let at = io_place(s);
@@ -73,7 +73,7 @@ pub fn held(t: &[u8], s: Seat) -> IoSeat
 
 // Whether the client holds the seat's I/O grant. Nobody's handle holds none.
 pub fn io_held_by(t: &[u8], s: Seat, client: Handle) -> bool
-    requires { (length t.now ≡ tableSize) × (s.0 < Table.mostSeats) }
+    requires { (length t.now ≡ table_size) × (s.0 < Table.most_seats) }
     ensures { Says result (IoHeldBy t.now client.0 s.0) }
 {
     if client.0 == NOBODY {
@@ -99,7 +99,7 @@ pub enum IrqSeat {
 }
 
 pub fn level_held(t: &[u8], s: Seat) -> IrqSeat
-    requires { (length t.now ≡ tableSize) × (s.0 < Table.mostSeats) }
+    requires { (length t.now ≡ table_size) × (s.0 < Table.most_seats) }
     ensures { LevelHeldIs t.now s.0 result }
 {
     let at = irq_place(s);
@@ -118,7 +118,7 @@ pub fn level_held(t: &[u8], s: Seat) -> IrqSeat
 
 // Whether the client holds the seat's IRQ grant.
 pub fn irq_held_by(t: &[u8], s: Seat, client: Handle) -> bool
-    requires { (length t.now ≡ tableSize) × (s.0 < Table.mostSeats) }
+    requires { (length t.now ≡ table_size) × (s.0 < Table.most_seats) }
     ensures { Says result (IrqHeldBy t.now client.0 s.0) }
 {
     if client.0 == NOBODY {

@@ -1,3 +1,3 @@
 -- The number that packs an answer. Assumes nothing.
 pub mod Packing
-pub use Packing.{pack-done, pack-refused}
+pub use Packing.{pack_done, pack_refused}

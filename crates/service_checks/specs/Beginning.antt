@@ -1,8 +1,8 @@
 -- How a service on a socket begins. Assumes nothing.
 use Rattle.std.specs.Prelude.{◌≡◌, List, [], ℕ, length}
-use Rattle.facts.specs.Table.{Facts, Seat, seatOf, socketAt}
+use Rattle.facts.specs.Table.{Facts, Seat, seat_of, socket_at}
 use Rattle.facts.specs.Checks.{Check, FirstGiven}
-use Rattle.facts.specs.Sockets.{releaseChecks, requestChecks}
+use Rattle.facts.specs.Sockets.{release_checks, request_checks}
 use Rattle.layout.specs.Sound.{Accepted}
 use Rattle.client_record.specs.Finding.{ListedAt}
 use Rattle.service_checks.specs.Checking.{NamesSocket, CardEnough}
@@ -12,20 +12,20 @@ use Rattle.service_checks.specs.declared.CardNeed.{CardNeed}
 use Rattle.service_checks.specs.declared.CardNeed.TheVariants.{Needed, Ignored}
 
 -- the checks that stand before a service's own: "length, handle, socket, card"
-abbrev pub checksAhead : CardNeed → ℕ → Facts → ℕ → List ℕ → List Check
-checksAhead Needed n F h p = requestChecks n F h p []
-checksAhead Ignored n F h p = releaseChecks n F h p []
+abbrev pub checks_ahead : CardNeed → ℕ → Facts → ℕ → List ℕ → List Check
+checks_ahead Needed n F h p = request_checks n F h p []
+checks_ahead Ignored n F h p = release_checks n F h p []
 
 -- none of them applies: the packet p has n bytes, the client h is listed in the place i, s is the seat of the socket that is named, and a card that
 -- is needed is in
 pub record BegunAt (b p : List ℕ) (n h : ℕ) (need : CardNeed) (i : ℕ) (s : Seat) : Type 0 where
   pub size : length p ≡ n
   pub client : ListedAt b h i
-  pub socket : NamesSocket b p (socketAt s)
-  pub seat : s ≡ seatOf (socketAt s)
-  pub card : CardEnough b (socketAt s) need
+  pub socket : NamesSocket b p (socket_at s)
+  pub seat : s ≡ seat_of (socket_at s)
+  pub card : CardEnough b (socket_at s) need
 
 -- so it is, or k is the code of the first that applies
 abbrev pub BegunIs : List ℕ → ℕ → List ℕ → ℕ → CardNeed → Begun → Type 0
 BegunIs b h p n need (At i s) = BegunAt b p n h need i s.0
-BegunIs b h p n need (Refused k) = (a : Accepted b) → FirstGiven (checksAhead need n a.facts h p) k
+BegunIs b h p n need (Refused k) = (a : Accepted b) → FirstGiven (checks_ahead need n a.facts h p) k

@@ -1,9 +1,9 @@
 -- What the shared checks tell. Assumes nothing.
 use Rattle.std.specs.Prelude.{◌≡◌, ◌⊎◌, ◌≢◌, List, ℕ, ◌+◌, ◌≤◌, ◌<◌, length}
 use Rattle.facts.specs.Packets.{byte}
-use Rattle.facts.specs.Sockets.{socketOf}
+use Rattle.facts.specs.Sockets.{socket_of}
 use Rattle.layout.specs.Layout
-use Rattle.layout.specs.Reading.{socketsIn}
+use Rattle.layout.specs.Reading.{sockets_in}
 use Rattle.service_checks.specs.declared.Size.{Size}
 use Rattle.service_checks.specs.declared.Size.TheVariants.{Right, Wrong}
 use Rattle.service_checks.specs.declared.Counted.{Counted}
@@ -22,22 +22,22 @@ SizeIs p n Wrong = length p ≢ n
 
 -- the number is that of a socket below the count, or not
 abbrev pub CountedIs : List ℕ → ℕ → Counted → Type 0
-CountedIs b n (Below s) = (s.0 ≡ n) × (n < socketsIn b)
-CountedIs b n Past = socketsIn b ≤ n
+CountedIs b n (Below s) = (s.0 ≡ n) × (n < sockets_in b)
+CountedIs b n Past = sockets_in b ≤ n
 
 -- the packet names a socket below the count and the function 0, or not
 pub record NamesSocket (b p : List ℕ) (s : ℕ) : Type 0 where
-  pub number : s ≡ socketOf p
-  pub counted : socketOf p < socketsIn b
+  pub number : s ≡ socket_of p
+  pub counted : socket_of p < sockets_in b
   pub function : byte p 1 ≡ 0
 
 abbrev pub SocketNamedIs : List ℕ → List ℕ → SocketNamed → Type 0
 SocketNamedIs b p (At s) = NamesSocket b p s.0
-SocketNamedIs b p Bad = (socketsIn b ≤ socketOf p) ⊎ (byte p 1 ≢ 0)
+SocketNamedIs b p Bad = (sockets_in b ≤ socket_of p) ⊎ (byte p 1 ≢ 0)
 
 -- the card that a service needs is in: the socket's byte says a card; or none is needed
 abbrev pub CardEnough : List ℕ → ℕ → CardNeed → Type 0
-CardEnough b s Needed = byte b (Layout.cardsAt + s) ≡ 1
+CardEnough b s Needed = byte b (Layout.cards_at + s) ≡ 1
 CardEnough b s Ignored = Unit {0}
 
 -- or it is missing

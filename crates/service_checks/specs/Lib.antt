@@ -2,4 +2,4 @@
 pub mod Checking
 pub mod Beginning
 pub use Checking.{SizeIs, CountedIs, NamesSocket, SocketNamedIs, CardEnough, CardIs}
-pub use Beginning.{checksAhead, BegunAt, BegunIs}
+pub use Beginning.{checks_ahead, BegunAt, BegunIs}

@@ -1,7 +1,7 @@
 // The checks that more than one service makes: the length of a packet, the client, the socket that is named and its card.
 ghost use Rattle.std.specs.Prelude.{◌≡◌, ◌<◌, length};
 ghost use Rattle.facts.specs.Table;
-ghost use Rattle.layout.specs.Layout.{tableSize};
+ghost use Rattle.layout.specs.Layout.{table_size};
 ghost use Rattle.layout.specs.Sound.{Accepted};
 ghost use Rattle.service_checks.specs.Checking.{SizeIs, CountedIs, SocketNamedIs, CardIs};
 ghost use Rattle.service_checks.specs.Beginning.{BegunIs};
@@ -35,7 +35,7 @@ pub enum Counted {
 }
 
 pub fn below_count(t: &[u8], socket: Socket) -> Counted
-    requires { length t.now ≡ tableSize }
+    requires { length t.now ≡ table_size }
     ensures { CountedIs t.now socket.0 result }
 {
     let number = socket.0;
@@ -58,7 +58,7 @@ pub enum SocketNamed {
 }
 
 pub fn socket_named(t: &[u8], p: &[u8]) -> SocketNamed
-    requires { (length t.now ≡ tableSize) × (1 < length p.now) }
+    requires { (length t.now ≡ table_size) × (1 < length p.now) }
     ensures { SocketNamedIs t.now p.now result }
 {
     let Counted::Below(socket) = below_count(t, Socket(table_read::byte(p, SOCKET_AT))) else {
@@ -86,7 +86,7 @@ pub enum Card {
 }
 
 fn card_asked(t: &[u8], socket: Socket, need: CardNeed) -> Card
-    requires { (length t.now ≡ tableSize) × (socket.0 < Table.mostSockets) }
+    requires { (length t.now ≡ table_size) × (socket.0 < Table.most_sockets) }
     ensures { CardIs t.now socket.0 need result }
 {
     let CardNeed::Needed = need else {

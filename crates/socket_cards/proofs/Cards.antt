@@ -1,28 +1,28 @@
 -- Each way in which card in and card out end is the rule's. Assumes nothing.
 use Rattle.facts.proofs.Words.{◌≡◌, refl, inl, inr, List, Bool, true, false, ℕ, ◌+◌, ◌≤◌, ◌<◌, arith, set, bool_byte}
 use Rattle.layout.proofs.Of
-use Rattle.facts.specs.{Code, Success, BadSocket, Facts, CardTo, withCard, mostSockets}
-use Rattle.layout.specs.{mark, socketsIn, Accepted, cardsAt}
+use Rattle.facts.specs.{Code, Success, BadSocket, Facts, CardTo, with_card, most_sockets}
+use Rattle.layout.specs.{mark, sockets_in, Accepted, cards_at}
 use Rattle.layout.specs.Served.{Served}
-use Rattle.layout.proofs.{card-written, stays, becomes}
+use Rattle.layout.proofs.{card_written, stays, becomes}
 
 -- the byte of a truth value is its mark
-pub mark-byte : (t : Bool) → bool_byte t ≡ mark t
-mark-byte true = refl
-mark-byte false = refl
+pub mark_byte : (t : Bool) → bool_byte t ≡ mark t
+mark_byte true = refl
+mark_byte false = refl
 
 abbrev Cards : Bool → ℕ → Code → Facts → Facts → Type 0
 Cards present s code F G = CardTo present F s (record { code = code; facts = G })
 
 module _ {b : List ℕ} (a : Accepted b) {s : ℕ} where
   -- a socket below the count is one of a table's sockets
-  pub in_table : s < socketsIn b → s < mostSockets
-  in_table l = omega (arith, Of.sockets-in b a, a.formed.sockets-most)
+  pub in_table : s < sockets_in b → s < most_sockets
+  in_table l = omega (arith, Of.sockets_in_lem b a, a.formed.sockets_most)
 
-  pub card-past : (present : Bool) → socketsIn b ≤ s → Served (Cards present s BadSocket) b b
-  card-past present l = stays _ _ a (inl (inl (omega (arith, Of.sockets-in b a), refl), refl))
+  pub card_past : (present : Bool) → sockets_in b ≤ s → Served (Cards present s BadSocket) b b
+  card_past present l = stays _ _ a (inl (inl (omega (arith, Of.sockets_in_lem b a), refl), refl))
 
-  pub card-done : (present : Bool) → s < socketsIn b → Served (Cards present s Success) b (set b (cardsAt + s) (mark present))
-  card-done present l =
-      becomes _ _ _ a (withCard a.facts s present) (inr (((λ d. omega (arith, Of.sockets-in b a)), tt), (refl, refl)))
-      (card-written b a s present (in_table l))
+  pub card_done : (present : Bool) → s < sockets_in b → Served (Cards present s Success) b (set b (cards_at + s) (mark present))
+  card_done present l =
+      becomes _ _ _ a (with_card a.facts s present) (inr (((λ d. omega (arith, Of.sockets_in_lem b a)), tt), (refl, refl)))
+      (card_written b a s present (in_table l))

@@ -6,5 +6,5 @@ use Rattle.socket_cards.specs.declared.SocketCount.TheVariants.{Allowed, Outside
 
 -- "a count of 1 to 8", or not
 abbrev pub SocketsAre : ℕ → SocketCount → Type 0
-SocketsAre n (Allowed k) = (k ≡ n) × (1 ≤ n) × (n ≤ Table.mostSockets)
-SocketsAre n Outside = (n ≡ 0) ⊎ (Table.mostSockets < n)
+SocketsAre n (Allowed k) = (k ≡ n) × (1 ≤ n) × (n ≤ Table.most_sockets)
+SocketsAre n Outside = (n ≡ 0) ⊎ (Table.most_sockets < n)

@@ -1,3 +1,3 @@
 -- Each end of the services on masks. Assumes nothing.
 mod Ends
-pub use Ends.{requesting, releasing, in_table, request-bad, request-held, request-done, release-nothing, release-done}
+pub use Ends.{requesting, releasing, in_table, request_bad, request_held, request_done, release_nothing, release_done}

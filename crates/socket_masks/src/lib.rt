@@ -1,10 +1,10 @@
 // RequestSocketMask and ReleaseSocketMask, on a table that is the image of a well-formed set.
 ghost use Rattle.std.specs.Prelude.{◌≡◌, ◌<◌, length};
 ghost use Rattle.facts.specs.Table;
-ghost use Rattle.facts.specs.Packets.{withWord};
-ghost use Rattle.facts.specs.Sockets.{requestMaskLength};
-ghost use Rattle.layout.specs.Layout.{tableSize};
-ghost use Rattle.layout.specs.Reading.{maskPlace};
+ghost use Rattle.facts.specs.Packets.{with_word};
+ghost use Rattle.facts.specs.Sockets.{request_mask_length};
+ghost use Rattle.layout.specs.Layout.{table_size};
+ghost use Rattle.layout.specs.Reading.{mask_place};
 ghost use Rattle.layout.specs.Sound.{Accepted};
 ghost use Rattle.socket_masks.specs.Masks.{EventsAre, MaskIs, RequestServed, ReleaseServed};
 
@@ -28,7 +28,7 @@ pub enum Events {
 }
 
 fn events_asked(p: &[u8]) -> Events
-    requires { length p.now ≡ requestMaskLength }
+    requires { length p.now ≡ request_mask_length }
     ensures { EventsAre p.now result }
 {
     let events = table_read::word(p, EVENTS_AT);
@@ -47,7 +47,7 @@ pub enum SocketMask {
 }
 
 fn mask_of(t: &[u8], i: usize, seat: Seat) -> SocketMask
-    requires { (length t.now ≡ tableSize) × (i < Table.mostClients) × (seat.0 < Table.mostSeats) }
+    requires { (length t.now ≡ table_size) × (i < Table.most_clients) × (seat.0 < Table.most_seats) }
     ensures { MaskIs t.now i seat.0 result }
 {
     if client_record::mask_on(t, i, seat) {
@@ -59,8 +59,8 @@ fn mask_of(t: &[u8], i: usize, seat: Seat) -> SocketMask
 
 // The word of the client's mask at the seat: 0 for none, else one more than the mask.
 fn write(t: &mut [u8], i: usize, seat: Seat, word: usize)
-    requires { (length t.old ≡ tableSize) × (i < Table.mostClients) × (seat.0 < Table.mostSeats) }
-    ensures { t.new ≡ withWord t.old (maskPlace i seat.0) word }
+    requires { (length t.old ≡ table_size) × (i < Table.most_clients) × (seat.0 < Table.most_seats) }
+    ensures { t.new ≡ with_word t.old (mask_place i seat.0) word }
 {
     let number = seat.0;
     let at = MASKS_AT + i * MASKS_SIZE + number * MASK_SIZE;

@@ -3,8 +3,8 @@ ghost use Rattle.std.specs.Prelude.{◌≡◌, ◌⊎◌, ◌<◌, ◌≤◌, eq
 ghost use Rattle.facts.specs.Table;
 ghost use Rattle.facts.specs.Says.{Says};
 ghost use Rattle.facts.specs.WellFormed.{AttributesAllowed};
-ghost use Rattle.layout.specs.Layout.{tableSize};
-ghost use Rattle.layout.specs.Reading.{clientsIn};
+ghost use Rattle.layout.specs.Layout.{table_size};
+ghost use Rattle.layout.specs.Reading.{clients_in};
 ghost use Rattle.table_clients.specs.Clients.{OneType, PlaceSound, PlaceSoundIn, PlacesSound, Counted, PlacesEnd, ClientsListed};
 
 use layout::{
@@ -61,7 +61,7 @@ fn client_flaw(h: u16, next: u16, events: u16, attributes: u16) -> u16
 
 // The same of the place `i`.
 fn place_flaw(t: &[u8], i: usize) -> u16
-    requires { (length t.now ≡ tableSize) × (i < Table.mostClients) }
+    requires { (length t.now ≡ table_size) × (i < Table.most_clients) }
     ensures { Says (eqb result 0) (PlaceSoundIn t.now i) }
 {
     let h = table_read::word_u16(t, HANDLES_AT + i * HANDLE_SIZE);
@@ -74,7 +74,7 @@ fn place_flaw(t: &[u8], i: usize) -> u16
 // What is wrong in any place that a client can have, or-ed together with no early exit, so that many are looked at side by side. Of the handles 3, 9, 0, 0
 // and on, nothing is wrong with 3 before 9, with 9 before 0, nor with 0 before 0; of 3, 0, 9 the 0 before 9 is wrong.
 fn places_sound(t: &[u8]) -> bool
-    requires { length t.now ≡ tableSize }
+    requires { length t.now ≡ table_size }
     ensures { Says result (PlacesSound t.now) }
 {
     let mut flaws: u16 = 0;
@@ -87,7 +87,7 @@ fn places_sound(t: &[u8]) -> bool
 // Whether there are as many clients as the head says: the last of them is there, and none after it. "live handles .. aren't over the number issued": no handle
 // is where the last isn't.
 fn counted(t: &[u8]) -> bool
-    requires { (length t.now ≡ tableSize) × (clientsIn t.now ≤ Table.mostClients) }
+    requires { (length t.now ≡ table_size) × (clients_in t.now ≤ Table.most_clients) }
     ensures { Says result (Counted t.now) }
 {
     let clients = table_read::byte(t, CLIENTS_IN);
@@ -107,7 +107,7 @@ fn counted(t: &[u8]) -> bool
 // Whether the places that no client can have are zero: handles from 302 up to 400, which are twelve eights and one more that overlaps the last of them,
 // attributes from 416 up to 464, and events from 496 up to 592.
 fn places_end(t: &[u8]) -> bool
-    requires { length t.now ≡ tableSize }
+    requires { length t.now ≡ table_size }
     ensures { Says result (PlacesEnd t.now) }
 {
     if !table_read::eights_zero(t, ATTRIBUTES_AT - EIGHT, 1) {
@@ -124,7 +124,7 @@ fn places_end(t: &[u8]) -> bool
 
 // "live handles differ, aren't 0 and aren't over the number issued": the clients' numbers, and what no client uses of their places.
 pub fn clients_sound(t: &[u8]) -> bool
-    requires { (length t.now ≡ tableSize) × (clientsIn t.now ≤ Table.mostClients) }
+    requires { (length t.now ≡ table_size) × (clients_in t.now ≤ Table.most_clients) }
     ensures { Says result (ClientsListed t.now) }
 {
     if !places_sound(t) {

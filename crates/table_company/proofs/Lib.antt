@@ -2,6 +2,6 @@
 pub mod Answering
 pub mod Entering
 pub mod Reaching
-pub use Answering.{blocks-within, own-blocks, blocks_more, companies-more, shared-company}
-pub use Entering.{lengths, entered-are}
-pub use Reaching.{reached-by, apart-says}
+pub use Answering.{blocks_within_lem, own_blocks, blocks_more, companies_more, shared_company}
+pub use Entering.{lengths, entered_are}
+pub use Reaching.{reached_by, apart_says}

@@ -3,7 +3,7 @@ use Rattle.std.specs.Prelude.{◌≡◌, ℕ, ◌/◌, ◌%◌, ◌^◌, ◌<◌
 use Rattle.facts.specs.Table.{Seat, Ports}
 use Rattle.facts.specs.Packets.{bit}
 use Rattle.facts.specs.Ports.{Within}
-use Rattle.layout.specs.Reading.{ioIn}
+use Rattle.layout.specs.Reading.{io_in}
 use Rattle.layout.specs.Sound.{IoUsed, IoPairSound}
 use Rattle.seats.specs.Sound.{CompanySound}
 use Rattle.table_read.specs.Sets.{Covers}
@@ -26,7 +26,7 @@ pub record AnswersInBlock (a : Ports) (k : ℕ) : Type 0 where
 
 -- the set has the blocks in which the card of the I/O grant at the seat s answers, if there is one
 abbrev pub BlocksOf : List ℕ → Seat → ℕ → Type 0
-BlocksOf b s set = IoUsed b s → Covers set (AnswersInBlock (ioIn b s).ports)
+BlocksOf b s set = IoUsed b s → Covers set (AnswersInBlock (io_in b s).ports)
 
 -- the I/O grant at each seat below n keeps company with those at the seats below its own
 abbrev pub CompaniesSound : List ℕ → ℕ → Type 0
@@ -34,7 +34,7 @@ CompaniesSound b n = (s : Seat) → s < n → CompanySound (IoPairSound b) s
 
 -- the I/O grant at the seat s, if there is one, is shared; and so is that at each seat below n
 abbrev pub SharedAt : List ℕ → Seat → Type 0
-SharedAt b s = IoUsed b s → (ioIn b s).shared ≡ true
+SharedAt b s = IoUsed b s → (io_in b s).shared ≡ true
 
 abbrev pub AllShared : List ℕ → ℕ → Type 0
 AllShared b n = (s : Seat) → s < n → SharedAt b s

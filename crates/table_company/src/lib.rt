@@ -3,12 +3,12 @@ ghost use Rattle.std.specs.Prelude.{◌≡◌, ◌+◌, ◌-◌, ◌^◌, ◌<�
 ghost use Rattle.std.specs.Int.Bits.{bit_and};
 ghost use Rattle.facts.specs.Table;
 ghost use Rattle.facts.specs.Says.{Says};
-ghost use Rattle.layout.specs.Layout.{tableSize};
+ghost use Rattle.layout.specs.Layout.{table_size};
 ghost use Rattle.layout.specs.Sound.{IoPlaceSound};
 ghost use Rattle.table_read.specs.Sets.{Covers};
 ghost use Rattle.seats.specs.Sound.{PlacesSound};
 ghost use Rattle.table_company.specs.Answering.{BlocksWithin, AnswersInBlock, BlocksOf, CompaniesSound, SharedAt, AllShared};
-ghost use Rattle.table_company.specs.Rows.{heldRoom, NumbersAre, RowsAre, overOf, rowAgainst, RowsApart};
+ghost use Rattle.table_company.specs.Rows.{held_room, NumbersAre, RowsAre, over_of, row_against_lem, RowsApart};
 
 use facts::Seat;
 use layout::MOST_SEATS;
@@ -56,7 +56,7 @@ fn unshared_of(shared: bool, count: u16) -> u16
 
 // The numbers of the I/O grant at the seat `s`.
 fn numbers_of(t: &[u8], s: Seat) -> Numbers
-    requires { (length t.now ≡ tableSize) × (s.0 < Table.mostSeats) × IoPlaceSound t.now s.0 }
+    requires { (length t.now ≡ table_size) × (s.0 < Table.most_seats) × IoPlaceSound t.now s.0 }
     ensures { NumbersAre t.now s.0 result }
 {
     let IoSeat::Held(held) = seats::held(t, s) else {
@@ -79,8 +79,8 @@ fn numbers_of(t: &[u8], s: Seat) -> Numbers
 
 // Puts the numbers of the I/O grant at the seat `s` in the rows, which have those of the seats below it.
 fn enter(t: &[u8], s: Seat, held: &mut [u16])
-    requires t_len { (length t.now ≡ tableSize) × (s.0 < Table.mostSeats) × IoPlaceSound t.now s.0 }
-    requires held_room_in_bounds { (heldRoom ≤ length held.old) × RowsAre t.now held.old s.0 }
+    requires t_len { (length t.now ≡ table_size) × (s.0 < Table.most_seats) × IoPlaceSound t.now s.0 }
+    requires held_room_in_bounds { (held_room ≤ length held.old) × RowsAre t.now held.old s.0 }
     ensures { (length held.new ≡ length held.old) × RowsAre t.now held.new (s.0 + 1) }
 {
     let new = numbers_of(t, s);
@@ -96,7 +96,7 @@ fn enter(t: &[u8], s: Seat, held: &mut [u16])
 // 2FFH reach back as far: 8 - (7 - 7) is 8, they meet. Against 700H to 707H: 2FFH - 700H is FBFFH, by 10 lines 3FFH, and seven ports don't: 8 - (3FFH - 7)
 // is below 0, so the answer is 0.
 fn over(base: u16, ones: u16, count: u16, last: u16, own: u16, more: u16) -> u16
-    ensures { result ≡ overOf base ones count last own more }
+    ensures { result ≡ over_of base ones count last own more }
 {
     let past = std::num::wrapping_sub_u16(last, base) & own & ones;
     table_read::excess(count, table_read::excess(past, more))
@@ -104,7 +104,7 @@ fn over(base: u16, ones: u16, count: u16, last: u16, own: u16, more: u16) -> u16
 
 // The row of the port counts that a grant may not reach: those of all grants, or, for one that is shared, those of the others that aren't.
 fn row_against(unshared: u16) -> usize
-    ensures { (result ≡ rowAgainst unshared) × (result + Table.mostSeats ≤ heldRoom) }
+    ensures { (result ≡ row_against_lem unshared) × (result + Table.most_seats ≤ held_room) }
 {
     if unshared == 0 {
         return UNSHARED;
@@ -114,7 +114,7 @@ fn row_against(unshared: u16) -> usize
 
 // Whether the grant at the seat `s` reaches no ports of a seat below it that it may not: what it reaches of each, or-ed together with no early exit.
 fn apart(held: &[u16; HELD], s: Seat) -> bool
-    requires { s.0 < Table.mostSeats }
+    requires { s.0 < Table.most_seats }
     ensures { Says result (RowsApart held.now s.0) }
 {
     let number = s.0;
@@ -144,7 +144,7 @@ fn first_of(n: usize) -> u64
 // The blocks of the `count` ports from `base` on, one after the other; all, where they go on past the last one to the first. Twelve ports from 2ECH on stand in the
 // blocks 29 and 30, which are the first two, moved up by 29.
 fn blocks_within(base: usize, count: usize) -> u64
-    requires { (base < Table.allPorts) × (1 ≤ count) × (count ≤ Table.mostAsked) }
+    requires { (base < Table.all_ports) × (1 ≤ count) × (count ≤ Table.most_asked) }
     ensures { BlocksWithin result base count }
 {
     let first = base / BLOCK % BLOCKS;
@@ -157,7 +157,7 @@ fn blocks_within(base: usize, count: usize) -> u64
 
 // The blocks in which a card with these ports answers.
 fn blocks_of(base: usize, count: usize, lines: usize) -> u64
-    requires { (base < Table.allPorts) × (1 ≤ count) × (count ≤ Table.mostAsked) }
+    requires { (base < Table.all_ports) × (1 ≤ count) × (count ≤ Table.most_asked) }
     ensures { Covers result (AnswersInBlock (record { base = base; count = count; lines = lines })) }
 {
     if lines < BLOCK_LINES {
@@ -168,7 +168,7 @@ fn blocks_of(base: usize, count: usize, lines: usize) -> u64
 
 // The blocks of the I/O grant at the seat `s`.
 pub fn io_blocks(t: &[u8], s: Seat) -> u64
-    requires { (length t.now ≡ tableSize) × (s.0 < Table.mostSeats) × IoPlaceSound t.now s.0 }
+    requires { (length t.now ≡ table_size) × (s.0 < Table.most_seats) × IoPlaceSound t.now s.0 }
     ensures { BlocksOf t.now s.0 result }
 {
     let IoSeat::Held(held) = seats::held(t, s) else {
@@ -179,7 +179,7 @@ pub fn io_blocks(t: &[u8], s: Seat) -> u64
 
 // Whether the seat `s` has no I/O grant but a shared one.
 fn shared_at(t: &[u8], s: Seat) -> bool
-    requires { (length t.now ≡ tableSize) × (s.0 < Table.mostSeats) }
+    requires { (length t.now ≡ table_size) × (s.0 < Table.most_seats) }
     ensures { Says result (SharedAt t.now s.0) }
 {
     let IoSeat::Held(held) = seats::held(t, s) else {
@@ -190,7 +190,7 @@ fn shared_at(t: &[u8], s: Seat) -> bool
 
 // Whether the I/O grants at so many seats are all shared.
 fn all_shared(t: &[u8], sockets: usize) -> bool
-    requires { (length t.now ≡ tableSize) × (sockets ≤ Table.mostSeats) }
+    requires { (length t.now ≡ table_size) × (sockets ≤ Table.most_seats) }
     ensures { Says result (AllShared t.now sockets) }
 {
     for s in 0..sockets {
@@ -204,7 +204,7 @@ fn all_shared(t: &[u8], sockets: usize) -> bool
 // Whether the I/O grant at each seat of so many keeps company with those at the seats below it: all are shared, or each is put in the rows, and held against
 // those before it.
 pub fn companies_kept(t: &[u8], sockets: usize) -> bool
-    requires { (length t.now ≡ tableSize) × (sockets ≤ Table.mostSeats) × PlacesSound (IoPlaceSound t.now) sockets }
+    requires { (length t.now ≡ table_size) × (sockets ≤ Table.most_seats) × PlacesSound (IoPlaceSound t.now) sockets }
     ensures { Says result (CompaniesSound t.now sockets) }
 {
     if all_shared(t, sockets) {

@@ -3,10 +3,10 @@ mod ranges;
 
 ghost use Rattle.std.specs.Prelude.{◌≡◌, ◌<◌, ◌≤◌, length};
 ghost use Rattle.facts.specs.Table;
-ghost use Rattle.facts.specs.Table.{socketAt};
+ghost use Rattle.facts.specs.Table.{socket_at};
 ghost use Rattle.facts.specs.Says.{Says};
-ghost use Rattle.layout.specs.Layout.{tableSize};
-ghost use Rattle.layout.specs.Reading.{socketsIn, rangesIn};
+ghost use Rattle.layout.specs.Layout.{table_size};
+ghost use Rattle.layout.specs.Reading.{sockets_in, ranges_in};
 ghost use Rattle.layout.specs.Sound.{RangesSound, IoPlaceSound, CountsSound, ClientsSound};
 ghost use Rattle.io_answering.specs.Rows.{GapsAre};
 ghost use Rattle.seats.specs.Seats.{range};
@@ -27,8 +27,8 @@ const IOS_END: usize = IOS_AT + MOST_SEATS * IO_SIZE;
 
 // "granted .. ports are managed; an I/O grant has base 1 or more, lines 1 to 16 and a count RequestIO allows"; and wherever its card answers is managed (K2)
 fn ports_sound(t: &[u8], rows: &[u16; ROWS], near: usize, held: HeldPorts) -> bool
-    requires t_len { (length t.now ≡ tableSize) × (rangesIn t.now ≤ Table.mostRanges) × RangesSound t.now × GapsAre t.now held.lines rows.now }
-    requires base_bound { (held.base < Table.allPorts) × (held.count ≤ Table.mostAsked) × RangeHas t.now near (range held).ports }
+    requires t_len { (length t.now ≡ table_size) × (ranges_in t.now ≤ Table.most_ranges) × RangesSound t.now × GapsAre t.now held.lines rows.now }
+    requires base_bound { (held.base < Table.all_ports) × (held.count ≤ Table.most_asked) × RangeHas t.now near (range held).ports }
     ensures { Says result (PortsSound t.now (range held).ports) }
 {
     if held.base == 0 {
@@ -51,7 +51,7 @@ fn ports_sound(t: &[u8], rows: &[u16; ROWS], near: usize, held: HeldPorts) -> bo
 
 // "every grant .. has a live client and a socket below the count": the I/O grant at a seat of such a socket, or a record that is all zero.
 fn io_place_sound(t: &[u8], rows: &[u16; ROWS], near: usize, s: Seat) -> bool
-    requires t_len { (length t.now ≡ tableSize) × (socketAt s.0 < socketsIn t.now) × CountsSound t.now × ClientsSound t.now × RangesSound t.now }
+    requires t_len { (length t.now ≡ table_size) × (socket_at s.0 < sockets_in t.now) × CountsSound t.now × ClientsSound t.now × RangesSound t.now }
     requires rows_serve { RowsServe t.now rows.now × RangeServes t.now near s.0 }
     ensures { Says result (IoPlaceSound t.now s.0) }
 {
@@ -73,7 +73,7 @@ fn io_place_sound(t: &[u8], rows: &[u16; ROWS], near: usize, s: Seat) -> bool
 
 // The lines that the card of the seat's I/O grant decodes; all, where there is no grant.
 fn lines_at(t: &[u8], s: Seat) -> usize
-    requires { (length t.now ≡ tableSize) × (s.0 < Table.mostSeats) }
+    requires { (length t.now ≡ table_size) × (s.0 < Table.most_seats) }
     ensures { LinesAt t.now s.0 result }
 {
     let IoSeat::Held(held) = seats::held(t, s) else {
@@ -84,7 +84,7 @@ fn lines_at(t: &[u8], s: Seat) -> usize
 
 // The fewest lines that a card of any I/O grant decodes; all, where there is no grant.
 fn fewest_lines(t: &[u8]) -> usize
-    requires { (length t.now ≡ tableSize) × CountsSound t.now }
+    requires { (length t.now ≡ table_size) × CountsSound t.now }
     ensures { FewestLines t.now result }
 {
     let sockets = table_read::byte(t, SOCKETS_IN);
@@ -99,7 +99,7 @@ fn fewest_lines(t: &[u8]) -> usize
 // one of them has in common with those before it, and `near` is the managed range of the last one. Where no block is in common, no two grants meet; else they are
 // compared.
 pub fn ios_sound(t: &[u8]) -> bool
-    requires { (length t.now ≡ tableSize) × CountsSound t.now × ClientsSound t.now × RangesSound t.now }
+    requires { (length t.now ≡ table_size) × CountsSound t.now × ClientsSound t.now × RangesSound t.now }
     ensures { Says result (IosSound t.now) }
 {
     if table_read::zero(t, IOS_AT, IOS_END) {

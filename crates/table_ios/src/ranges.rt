@@ -2,8 +2,8 @@
 ghost use Rattle.std.specs.Prelude.{◌≡◌, ◌<◌, ◌≤◌, max, length};
 ghost use Rattle.facts.specs.Table;
 ghost use Rattle.facts.specs.Says.{Says};
-ghost use Rattle.layout.specs.Layout.{tableSize};
-ghost use Rattle.layout.specs.Reading.{rangesIn};
+ghost use Rattle.layout.specs.Layout.{table_size};
+ghost use Rattle.layout.specs.Reading.{ranges_in};
 ghost use Rattle.layout.specs.Sound.{RangesSound};
 ghost use Rattle.io_answering.specs.Gaps.{AllManagedIn};
 ghost use Rattle.io_answering.specs.Rows.{GapsAre};
@@ -17,7 +17,7 @@ use seats::{HeldPorts, IoSeat};
 
 // Whether the ports lie within the managed range `i`.
 fn in_range(t: &[u8], i: usize, base: usize, count: usize) -> bool
-    requires { (length t.now ≡ tableSize) × (rangesIn t.now ≤ Table.mostRanges) }
+    requires { (length t.now ≡ table_size) × (ranges_in t.now ≤ Table.most_ranges) }
     ensures { Says result (InRange t.now i base count) }
 {
     if table_read::byte(t, RANGES_IN) <= i {
@@ -38,8 +38,8 @@ fn in_range(t: &[u8], i: usize, base: usize, count: usize) -> bool
 // Whether the ports are managed, and every other where their card answers. One that decodes all lines answers nowhere else, so for it the range `near`
 // decides, if there is one: it has the ports.
 pub fn ports_managed(t: &[u8], rows: &[u16; ROWS], near: usize, held: HeldPorts) -> bool
-    requires t_len { (length t.now ≡ tableSize) × (rangesIn t.now ≤ Table.mostRanges) × RangesSound t.now × GapsAre t.now held.lines rows.now }
-    requires base_bound { (held.base < Table.allPorts) × (1 ≤ held.count) × (held.count < 256) × (held.lines ≤ Table.mostLines) }
+    requires t_len { (length t.now ≡ table_size) × (ranges_in t.now ≤ Table.most_ranges) × RangesSound t.now × GapsAre t.now held.lines rows.now }
+    requires base_bound { (held.base < Table.all_ports) × (1 ≤ held.count) × (held.count < 256) × (held.lines ≤ Table.most_lines) }
     requires range_has { RangeHas t.now near (range held).ports }
     ensures { Says result (AllManagedIn t.now (range held).ports) }
 {
@@ -54,7 +54,7 @@ pub fn ports_managed(t: &[u8], rows: &[u16; ROWS], near: usize, held: HeldPorts)
 
 // The range at the place `middle`, where it starts at or before a port; else that at the place `low`.
 fn later(t: &[u8], low: usize, middle: usize, p: usize) -> usize
-    requires { (length t.now ≡ tableSize) × (middle < Table.mostRanges) }
+    requires { (length t.now ≡ table_size) × (middle < Table.most_ranges) }
     ensures { result ≤ max low middle }
 {
     if p < table_read::word(t, RANGES_AT + middle * RANGE_SIZE) {
@@ -65,8 +65,8 @@ fn later(t: &[u8], low: usize, middle: usize, p: usize) -> usize
 
 // The last managed range that starts at or before a port, by halves. For a port of the range 20 of 32 the ranges 16, 24, 20, 22 and 21 are looked at.
 fn range_from(t: &[u8], p: usize) -> usize
-    requires { (length t.now ≡ tableSize) × (rangesIn t.now ≤ Table.mostRanges) }
-    ensures { result ≤ Table.mostRanges }
+    requires { (length t.now ≡ table_size) × (ranges_in t.now ≤ Table.most_ranges) }
+    ensures { result ≤ Table.most_ranges }
 {
     let mut low = 0;
     let mut many = table_read::byte(t, RANGES_IN);
@@ -82,8 +82,8 @@ fn range_from(t: &[u8], p: usize) -> usize
 // 100H, 200H, 2F8H and 3F8H on, the grants at 2F8H and 3F8H are in the ranges 2 and 3. The first isn't in the ranges 0 and 1, and is searched for; the second
 // isn't in the range 2, and is in the next one.
 fn range_with(t: &[u8], near: usize, base: usize, count: usize) -> usize
-    requires { (length t.now ≡ tableSize) × (rangesIn t.now ≤ Table.mostRanges) × (near ≤ Table.mostRanges) }
-    ensures { (result ≤ Table.mostRanges) × (result < rangesIn t.now → InRange t.now result base count) }
+    requires { (length t.now ≡ table_size) × (ranges_in t.now ≤ Table.most_ranges) × (near ≤ Table.most_ranges) }
+    ensures { (result ≤ Table.most_ranges) × (result < ranges_in t.now → InRange t.now result base count) }
 {
     if in_range(t, near, base, count) {
         return near;
@@ -100,8 +100,8 @@ fn range_with(t: &[u8], near: usize, base: usize, count: usize) -> usize
 
 // The managed range that has the ports of the seat's I/O grant, where its card decodes all lines; else the range `near` of the grant before it.
 pub fn range_near(t: &[u8], near: usize, s: Seat) -> usize
-    requires { (length t.now ≡ tableSize) × (s.0 < Table.mostSeats) × (rangesIn t.now ≤ Table.mostRanges) × (near ≤ Table.mostRanges) }
-    ensures { (result ≤ Table.mostRanges) × RangeServes t.now result s.0 }
+    requires { (length t.now ≡ table_size) × (s.0 < Table.most_seats) × (ranges_in t.now ≤ Table.most_ranges) × (near ≤ Table.most_ranges) }
+    ensures { (result ≤ Table.most_ranges) × RangeServes t.now result s.0 }
 {
     let IoSeat::Held(held) = seats::held(t, s) else {
         return near;

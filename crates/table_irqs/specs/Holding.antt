@@ -4,20 +4,20 @@ use Rattle.std.specs.Prelude.{◌≡◌, List, ℕ, ◌+◌, ◌*◌, ◌≤◌}
 use Rattle.facts.specs.Table.{Seat}
 use Rattle.facts.specs.Packets.{byte}
 use Rattle.facts.specs.Levels.{Together}
-use Rattle.layout.specs.Reading.{irqPlace, mannerOf}
+use Rattle.layout.specs.Reading.{irq_place_lem, manner_of_lem}
 use Rattle.layout.specs.Sound.{IrqUsed}
-use Rattle.layout.specs.Layout.{irqLevelAt, irqMannerAt}
+use Rattle.layout.specs.Layout.{irq_level_at, irq_manner_at}
 use Rattle.table_read.specs.Sets.{HasJust, SomeBelow}
 use Rattle.table_irqs.specs.declared.Holding.{Holding}
 
 -- the number of a level and a manner
-abbrev pub heldAs : ℕ → ℕ → ℕ
-heldAs level manner = level * 4 + manner
+abbrev pub held_as : ℕ → ℕ → ℕ
+held_as level manner = level * 4 + manner
 
 -- the IRQ grant at the seat s holds its level in its manner
 pub record HoldsAs (b : List ℕ) (s : Seat) (k : ℕ) : Type 0 where
   pub used : IrqUsed b s
-  pub number : heldAs (byte b (irqPlace s + irqLevelAt)) (byte b (irqPlace s + irqMannerAt)) ≡ k
+  pub number : held_as (byte b (irq_place_lem s + irq_level_at)) (byte b (irq_place_lem s + irq_manner_at)) ≡ k
 
 -- so does that at some seat below n
 abbrev pub HeldBelow : List ℕ → ℕ → ℕ → Type 0
@@ -28,8 +28,8 @@ pub record Against (b : List ℕ) (s : Seat) (k : ℕ) : Type 0 where
   pub used : IrqUsed b s
   pub manner : ℕ
   pub last : manner ≤ 3
-  pub apart : Together (mannerOf (byte b (irqPlace s + irqMannerAt))) (mannerOf manner) → ⊥
-  pub number : heldAs (byte b (irqPlace s + irqLevelAt)) manner ≡ k
+  pub apart : Together (manner_of_lem (byte b (irq_place_lem s + irq_manner_at))) (manner_of_lem manner) → ⊥
+  pub number : held_as (byte b (irq_place_lem s + irq_level_at)) manner ≡ k
 
 -- the sets that say what is held at the seat s
 pub record HoldingIs (b : List ℕ) (s : Seat) (h : Holding) : Type 0 where

@@ -1,3 +1,3 @@
 -- What the contracts of `table_irqs` cite. Assumes nothing.
 pub mod Holding
-pub use Holding.{heldAs, HoldsAs, HeldBelow, Against}
+pub use Holding.{held_as, HoldsAs, HeldBelow, Against}

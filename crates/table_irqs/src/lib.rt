@@ -1,10 +1,10 @@
 // The IRQ grants: a seat's record, and the company that its grant keeps with those of the seats below it.
 ghost use Rattle.std.specs.Prelude.{◌≡◌, ◌+◌, ◌<◌, ◌≤◌, length};
 ghost use Rattle.facts.specs.Table;
-ghost use Rattle.facts.specs.Table.{socketAt};
+ghost use Rattle.facts.specs.Table.{socket_at};
 ghost use Rattle.facts.specs.Says.{Says};
-ghost use Rattle.layout.specs.Layout.{tableSize};
-ghost use Rattle.layout.specs.Reading.{socketsIn, clientsIn};
+ghost use Rattle.layout.specs.Layout.{table_size};
+ghost use Rattle.layout.specs.Reading.{sockets_in, clients_in};
 ghost use Rattle.layout.specs.Sound.{LiveIn, IoPlaceSound, IrqPlaceSound, CountsSound, ClientsSound};
 ghost use Rattle.seats.specs.Sound.{IosSound, IrqsSound};
 ghost use Rattle.table_irqs.specs.Holding.{HoldingIs};
@@ -26,7 +26,7 @@ const ALL_MANNERS: usize = LAST_MANNER + 1;
 
 // Whether the client of the IRQ grant at the seat `s` is live: it is where it holds the seat's I/O grant too, as most often.
 fn irq_holder_live(t: &[u8], client: Handle, s: Seat) -> bool
-    requires { (length t.now ≡ tableSize) × (clientsIn t.now ≤ Table.mostClients) × (s.0 < Table.mostSeats) × IoPlaceSound t.now s.0 }
+    requires { (length t.now ≡ table_size) × (clients_in t.now ≤ Table.most_clients) × (s.0 < Table.most_seats) × IoPlaceSound t.now s.0 }
     ensures { Says result (LiveIn t.now client.0) }
 {
     if seats::io_held_by(t, s, client) {
@@ -37,7 +37,7 @@ fn irq_holder_live(t: &[u8], client: Handle, s: Seat) -> bool
 
 // "every grant .. has a live client and a socket below the count": the IRQ grant at a seat of such a socket, or a record that is all zero.
 fn irq_place_sound(t: &[u8], s: Seat) -> bool
-    requires t_len { (length t.now ≡ tableSize) × (socketAt s.0 < socketsIn t.now) × CountsSound t.now × ClientsSound t.now }
+    requires t_len { (length t.now ≡ table_size) × (socket_at s.0 < sockets_in t.now) × CountsSound t.now × ClientsSound t.now }
     requires io_place_sound { IoPlaceSound t.now s.0 }
     ensures { Says result (IrqPlaceSound t.now s.0) }
 {
@@ -68,7 +68,7 @@ pub struct Holding {
 
 // What the IRQ grant at the seat `s` holds.
 fn irq_holding(t: &[u8], s: Seat) -> Holding
-    requires { (length t.now ≡ tableSize) × (s.0 < Table.mostSeats) × IrqPlaceSound t.now s.0 }
+    requires { (length t.now ≡ table_size) × (s.0 < Table.most_seats) × IrqPlaceSound t.now s.0 }
     ensures { HoldingIs t.now s.0 result }
 {
     let at = seats::irq_place(s);
@@ -85,7 +85,7 @@ fn irq_holding(t: &[u8], s: Seat) -> Holding
 // The IRQ grants at all seats, of which those of sockets from the count on are zero: `held` are the levels that the grants passed hold, in their manners.
 // "grants meet only as demand 3 allows": none of them holds the level of the next one in a manner that doesn't go with its own.
 pub fn irqs_sound(t: &[u8]) -> bool
-    requires { (length t.now ≡ tableSize) × CountsSound t.now × ClientsSound t.now × IosSound t.now }
+    requires { (length t.now ≡ table_size) × CountsSound t.now × ClientsSound t.now × IosSound t.now }
     ensures { Says result (IrqsSound t.now) }
 {
     if table_read::zero(t, IRQS_AT, IRQS_END) {

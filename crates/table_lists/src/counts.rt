@@ -2,8 +2,8 @@
 ghost use Rattle.std.specs.Prelude.{◌≡◌, ◌≤◌, length};
 ghost use Rattle.facts.specs.Table;
 ghost use Rattle.facts.specs.Says.{Says};
-ghost use Rattle.layout.specs.Layout.{tableSize, handlesAt};
-ghost use Rattle.layout.specs.Reading.{rangesIn, rangePlace};
+ghost use Rattle.layout.specs.Layout.{table_size, handles_at};
+ghost use Rattle.layout.specs.Reading.{ranges_in, range_place};
 ghost use Rattle.layout.specs.Sound.{CountsSound, Zero};
 ghost use Rattle.table_lists.specs.Parts.{SeatsEnd};
 
@@ -18,7 +18,7 @@ const STRETCH: usize = 320;
 
 // The layout's mark, and the numbers of sockets, clients and ranges, within their limits.
 pub fn counts_sound(t: &[u8]) -> bool
-    requires { length t.now ≡ tableSize }
+    requires { length t.now ≡ table_size }
     ensures { Says result (CountsSound t.now) }
 {
     if t[MARK_IN] != LAYOUT_MARK {
@@ -39,8 +39,8 @@ pub fn counts_sound(t: &[u8]) -> bool
 
 // Whether what no range uses of their places is zero.
 pub fn ranges_end(t: &[u8]) -> bool
-    requires { (length t.now ≡ tableSize) × (rangesIn t.now ≤ Table.mostRanges) }
-    ensures { Says result (Zero t.now (rangePlace (rangesIn t.now)) handlesAt) }
+    requires { (length t.now ≡ table_size) × (ranges_in t.now ≤ Table.most_ranges) }
+    ensures { Says result (Zero t.now (range_place (ranges_in t.now)) handles_at) }
 {
     let end = RANGES_AT + table_read::byte(t, RANGES_IN) * RANGE_SIZE;
     table_read::spread_zero(t, end, HANDLES_AT)
@@ -49,7 +49,7 @@ pub fn ranges_end(t: &[u8]) -> bool
 // Whether the seats that no socket has, and the spare bytes after them, are zero: two stretches, each as two of 320 bytes that overlap. The I/O grants of the
 // seats from 8 on lie from 680 up to 1,296: 320 bytes from 680 and 320 bytes from 976 on.
 pub fn seats_end(t: &[u8]) -> bool
-    requires { length t.now ≡ tableSize }
+    requires { length t.now ≡ table_size }
     ensures { Says result (SeatsEnd t.now) }
 {
     let ios_end = IOS_AT + MOST_SEATS * IO_SIZE;

@@ -1,7 +1,7 @@
 // The IRQ levels: a record for each.
 ghost use Rattle.std.specs.Prelude.{◌≡◌, ◌/◌, ◌%◌, ◌≤◌, eqb, length};
 ghost use Rattle.facts.specs.Says.{Says};
-ghost use Rattle.layout.specs.Layout.{tableSize};
+ghost use Rattle.layout.specs.Layout.{table_size};
 ghost use Rattle.table_lists.specs.Parts.{LevelsSound};
 
 use layout::{ALL_LEVELS, LEVEL_SIZE, LEVELS_AT};
@@ -23,7 +23,7 @@ fn level_flaw(marks: u16) -> u16
 
 // What is wrong with any of the levels or-ed together, with no early exit.
 pub fn levels_sound(t: &[u8]) -> bool
-    requires { length t.now ≡ tableSize }
+    requires { length t.now ≡ table_size }
     ensures { Says result (LevelsSound t.now) }
 {
     let mut flaws: u16 = 0;

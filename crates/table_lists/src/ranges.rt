@@ -2,8 +2,8 @@
 ghost use Rattle.std.specs.Prelude.{◌≡◌, ◌<◌, ◌≤◌, eqb, length};
 ghost use Rattle.facts.specs.Table;
 ghost use Rattle.facts.specs.Says.{Says};
-ghost use Rattle.layout.specs.Layout.{tableSize};
-ghost use Rattle.layout.specs.Reading.{rangesIn};
+ghost use Rattle.layout.specs.Layout.{table_size};
+ghost use Rattle.layout.specs.Reading.{ranges_in};
 ghost use Rattle.layout.specs.Sound.{RangesSound};
 ghost use Rattle.table_lists.specs.Parts.{RangeFollows, RangeMarked};
 
@@ -13,7 +13,7 @@ use layout::{
 
 // Whether the range `i` starts at or past `low` and has a port.
 fn range_follows(t: &[u8], i: usize, low: usize) -> bool
-    requires { (length t.now ≡ tableSize) × (i < Table.mostRanges) }
+    requires { (length t.now ≡ table_size) × (i < Table.most_ranges) }
     ensures { Says result (RangeFollows t.now low i) }
 {
     let at = RANGES_AT + i * RANGE_SIZE;
@@ -27,7 +27,7 @@ fn range_follows(t: &[u8], i: usize, low: usize) -> bool
 
 // What is wrong with the mark of the range `i`: 0 if nothing is.
 fn mark_flaw(t: &[u8], i: usize) -> u8
-    requires { (length t.now ≡ tableSize) × (i < Table.mostRanges) }
+    requires { (length t.now ≡ table_size) × (i < Table.most_ranges) }
     ensures { Says (eqb result 0) (RangeMarked t.now i) }
 {
     let at = RANGES_AT + i * RANGE_SIZE + RANGE_RESERVED_AT;
@@ -36,7 +36,7 @@ fn mark_flaw(t: &[u8], i: usize) -> u8
 
 // Each range starts at or past the end of the one before it, so all lie within the ports where the last does.
 pub fn ranges_sound(t: &[u8]) -> bool
-    requires { (length t.now ≡ tableSize) × (rangesIn t.now ≤ Table.mostRanges) }
+    requires { (length t.now ≡ table_size) × (ranges_in t.now ≤ Table.most_ranges) }
     ensures { Says result (RangesSound t.now) }
 {
     let ranges = table_read::byte(t, RANGES_IN);

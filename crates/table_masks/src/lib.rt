@@ -2,8 +2,8 @@
 ghost use Rattle.std.specs.Prelude.{◌≡◌, cond, ◌+◌, ◌<◌, ◌≤◌, eqb, length};
 ghost use Rattle.facts.specs.Table;
 ghost use Rattle.facts.specs.Says.{Says};
-ghost use Rattle.layout.specs.Layout.{tableSize, masksSize};
-ghost use Rattle.layout.specs.Reading.{clientsIn, masksPlace};
+ghost use Rattle.layout.specs.Layout.{table_size, masks_size};
+ghost use Rattle.layout.specs.Reading.{clients_in, masks_place};
 ghost use Rattle.layout.specs.Sound.{CountsSound, MasksSound, Zero};
 ghost use Rattle.table_masks.specs.Masks.{NoSteps, StepsAre, RowUnder, RowsUnder};
 
@@ -28,7 +28,7 @@ fn fill_steps(steps: &mut [u16])
 // How far any word of a row is over its limit, or-ed together with no early exit, so that many are looked at side by side. The word 1 (a mask with no events)
 // is 0 over the limit 4,096, and 1 over the limit 0; the word 4,097 is 1 over 4,096.
 fn row_flaws(t: &[u8], at: usize, steps: &[u16; STEPS], from: usize) -> u16
-    requires { (at + masksSize ≤ length t.now) × (from ≤ Table.mostSockets) }
+    requires { (at + masks_size ≤ length t.now) × (from ≤ Table.most_sockets) }
     ensures { Says (eqb result 0) (RowUnder t.now at steps.now from) }
 {
     let mut flaws: u16 = 0;
@@ -41,7 +41,7 @@ fn row_flaws(t: &[u8], at: usize, steps: &[u16; STEPS], from: usize) -> u16
 
 // One more, where something is wrong.
 fn counting(over: usize, flaws: u16) -> usize
-    requires { over < Table.mostClients }
+    requires { over < Table.most_clients }
     ensures { result ≡ cond (eqb flaws 0) over (over + 1) }
 {
     if flaws == 0 {
@@ -52,7 +52,7 @@ fn counting(over: usize, flaws: u16) -> usize
 
 // How many clients have a word over its limit.
 fn rows_over(t: &[u8], steps: &[u16; STEPS], from: usize) -> usize
-    requires { (length t.now ≡ tableSize) × (clientsIn t.now ≤ Table.mostClients) × (from ≤ Table.mostSockets) }
+    requires { (length t.now ≡ table_size) × (clients_in t.now ≤ Table.most_clients) × (from ≤ Table.most_sockets) }
     ensures { Says (eqb result 0) (RowsUnder t.now steps.now from) }
 {
     let clients = table_read::byte(t, CLIENTS_IN);
@@ -65,7 +65,7 @@ fn rows_over(t: &[u8], steps: &[u16; STEPS], from: usize) -> usize
 
 // "a mask has .. a socket below the count": each client's mask at each seat is none, or one at a socket below the count.
 pub fn masks_sound(t: &[u8]) -> bool
-    requires { (length t.now ≡ tableSize) × CountsSound t.now }
+    requires { (length t.now ≡ table_size) × CountsSound t.now }
     ensures { Says result (MasksSound t.now) }
 {
     let mut steps: [u16; STEPS] = [0; STEPS];
@@ -76,8 +76,8 @@ pub fn masks_sound(t: &[u8]) -> bool
 
 // Whether all bytes past the last client's masks are zero: so many that four quarters of them are whole.
 pub fn masks_end(t: &[u8]) -> bool
-    requires { (length t.now ≡ tableSize) × (clientsIn t.now ≤ Table.mostClients) }
-    ensures { Says result (Zero t.now (masksPlace (clientsIn t.now)) tableSize) }
+    requires { (length t.now ≡ table_size) × (clients_in t.now ≤ Table.most_clients) }
+    ensures { Says result (Zero t.now (masks_place (clients_in t.now)) table_size) }
 {
     let from = MASKS_AT + table_read::byte(t, CLIENTS_IN) * MASKS_SIZE;
     table_read::quarters_zero(t, from, (TABLE_SIZE - from) / 4)

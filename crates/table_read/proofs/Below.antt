@@ -16,8 +16,8 @@ pub record SoFar (n : ℕ) (P : ℕ → Type 0) (i : ℕ) : Type 0 where
   pub each : All i P
 
 module _ {n : ℕ} {P : ℕ → Type 0} where
-  pub so-far-none : SoFar n P 0
-  so-far-none = record { within = omega arith; each = all_none P }
+  pub so_far_none : SoFar n P 0
+  so_far_none = record { within = omega arith; each = all_none P }
 
   pub so_far_more : {i : ℕ} → SoFar n P i → i < n → P i → SoFar n P (i + 1)
   so_far_more a h p = record { within = omega arith; each = all_more a.each p }

@@ -7,12 +7,12 @@ pub mod Sets
 pub mod Some
 pub mod Zeros
 pub mod Quarters
-pub use Below.{All, all_none, all_more, SoFar, so-far-none, so_far_more}
-pub use Bits.{lowest-bit, higher-bit, no-bit}
-pub use Flaws.{Flawless, flawless-none, flawless-more, flawless-says}
-pub use Covering.{all-bits, none-common, common-says}
-pub use Sets.{one_shifted, or_left, or_right, exactly-none, exactly-empty, exactly-one, bit-and}
-pub use Sets.{exactly-both, exactly-as, exactly-more}
-pub use Some.{NoneYet, none-next, some-found, none_found}
-pub use Zeros.{zero-where, or-says, long-zero, zero-long, Gathered, gathered_none, gathered-more, gathered-joined, gathered-eight, gathered-says, place-false, place-says, live-used}
-pub use Quarters.{quarters-none, quarters-more, quarters-says, quarters-join, four-within}
+pub use Below.{All, all_none, all_more, SoFar, so_far_none, so_far_more}
+pub use Bits.{lowest_bit, higher_bit, no_bit}
+pub use Flaws.{Flawless, flawless_none, flawless_more, flawless_says}
+pub use Covering.{all_bits, none_common, common_says}
+pub use Sets.{one_shifted, or_left, or_right, exactly_none, exactly_empty, exactly_one, bit_and_lem}
+pub use Sets.{exactly_both, exactly_as, exactly_more}
+pub use Some.{NoneYet, none_next, some_found, none_found}
+pub use Zeros.{zero_where, or_says, long_zero, zero_long, Gathered, gathered_none, gathered_more, gathered_joined, gathered_eight, gathered_says, place_false, place_says, live_used}
+pub use Quarters.{quarters_none, quarters_more, quarters_says, quarters_join, four_within}

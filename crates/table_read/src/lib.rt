@@ -2,7 +2,7 @@
 ghost use Rattle.std.specs.Prelude.{◌≡◌, ◌+◌, ◌-◌, ◌*◌, ◌<◌, ◌≤◌, length};
 ghost use Rattle.facts.specs.Says.{Says};
 ghost use Rattle.facts.specs.Packets;
-ghost use Rattle.layout.specs.Reading.{mannerOf};
+ghost use Rattle.layout.specs.Reading.{manner_of_lem};
 ghost use Rattle.layout.specs.Sound.{Zero};
 ghost use Rattle.table_read.specs.Zeros;
 ghost use Rattle.table_read.specs.Zeros.{FourZero};
@@ -193,7 +193,7 @@ pub fn eights_zero(t: &[u8], from: usize, eights: usize) -> bool
 
 // The manner that a byte of the table says.
 pub fn manner_of(n: usize) -> Manner
-    ensures { result ≡ mannerOf n }
+    ensures { result ≡ manner_of_lem n }
 {
     match n {
         0 => Manner::Exclusive,

@@ -1,7 +1,7 @@
 -- What loading a table's bytes says of them. Assumes nothing.
 use Rattle.std.specs.Prelude.{List, ℕ}
-use Rattle.layout.specs.Layout.{handlesAt, tableSize}
-use Rattle.layout.specs.Reading.{clientsIn, rangesIn, masksPlace, rangePlace}
+use Rattle.layout.specs.Layout.{handles_at, table_size}
+use Rattle.layout.specs.Reading.{clients_in, ranges_in, masks_place, range_place}
 use Rattle.layout.specs.Sound.{Accepted, Zero, CountsSound, RangesSound, MasksSound}
 use Rattle.table_clients.specs.{ClientsListed}
 use Rattle.table_lists.specs.{LevelsSound, SeatsEnd}
@@ -17,10 +17,10 @@ pub record ListsSound (b : List ℕ) : Type 0 where
 
 -- the masks, and what no range, no seat and no client uses
 pub record RestSound (b : List ℕ) : Type 0 where
-  pub ranges-end : Zero b (rangePlace (rangesIn b)) handlesAt
-  pub seats-end : SeatsEnd b
+  pub ranges_end : Zero b (range_place (ranges_in b)) handles_at
+  pub seats_end : SeatsEnd b
   pub masks : MasksSound b
-  pub masks-end : Zero b (masksPlace (clientsIn b)) tableSize
+  pub masks_end : Zero b (masks_place (clients_in b)) table_size
 
 -- they are the image of a well-formed set, or of none
 abbrev pub LoadedIs : List ℕ → Loaded → Type 0

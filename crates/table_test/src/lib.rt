@@ -3,7 +3,7 @@ mod sockets;
 
 ghost use Rattle.std.specs.Prelude.{◌≡◌, length};
 ghost use Rattle.facts.specs.Says.{Says};
-ghost use Rattle.layout.specs.Layout.{tableSize};
+ghost use Rattle.layout.specs.Layout.{table_size};
 ghost use Rattle.layout.specs.Sound.{CountsSound, Sound};
 ghost use Rattle.table_test.specs.Loading.{ListsSound, RestSound, LoadedIs};
 
@@ -17,7 +17,7 @@ use table_masks::{masks_end, masks_sound};
 
 // The masks, and what no range, no seat and no client uses.
 fn rest_sound(t: &[u8]) -> bool
-    requires { (length t.now ≡ tableSize) × CountsSound t.now }
+    requires { (length t.now ≡ table_size) × CountsSound t.now }
     ensures { Says result (RestSound t.now) }
 {
     if !ranges_end(t) {
@@ -34,7 +34,7 @@ fn rest_sound(t: &[u8]) -> bool
 
 // The head, the levels, the clients' numbers and the ranges.
 fn lists_sound(t: &[u8]) -> bool
-    requires { length t.now ≡ tableSize }
+    requires { length t.now ≡ table_size }
     ensures { Says result (ListsSound t.now) }
 {
     if !counts_sound(t) {

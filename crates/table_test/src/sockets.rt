@@ -1,7 +1,7 @@
 // The marks of the sockets' cards, and what all sockets have.
 ghost use Rattle.std.specs.Prelude.{◌≡◌, ◌+◌, length};
 ghost use Rattle.facts.specs.Says.{Says};
-ghost use Rattle.layout.specs.Layout.{tableSize};
+ghost use Rattle.layout.specs.Layout.{table_size};
 ghost use Rattle.layout.specs.Sound.{CountsSound, ClientsSound, RangesSound};
 ghost use Rattle.table_test.specs.Sockets.{CardsMarked, CardsEnd, CardsSound, SocketsSound};
 
@@ -11,7 +11,7 @@ use table_irqs::irqs_sound;
 
 // What is wrong with any card's mark or-ed together, with no early exit.
 fn cards_marked(t: &[u8]) -> bool
-    requires { length t.now ≡ tableSize }
+    requires { length t.now ≡ table_size }
     ensures { Says result (CardsMarked t.now) }
 {
     let mut flaws: u8 = 0;
@@ -23,7 +23,7 @@ fn cards_marked(t: &[u8]) -> bool
 
 // Whether there is no card at a socket from the count on.
 fn cards_end(t: &[u8]) -> bool
-    requires { (length t.now ≡ tableSize) × CountsSound t.now }
+    requires { (length t.now ≡ table_size) × CountsSound t.now }
     ensures { Says result (CardsEnd t.now) }
 {
     let sockets = table_read::byte(t, SOCKETS_IN);
@@ -32,7 +32,7 @@ fn cards_end(t: &[u8]) -> bool
 
 // The marks of the cards, which are set at sockets below the count alone.
 fn cards_sound(t: &[u8]) -> bool
-    requires { (length t.now ≡ tableSize) × CountsSound t.now }
+    requires { (length t.now ≡ table_size) × CountsSound t.now }
     ensures { Says result (CardsSound t.now) }
 {
     if !cards_marked(t) {
@@ -43,7 +43,7 @@ fn cards_sound(t: &[u8]) -> bool
 
 // The cards and the grants of all sockets.
 pub fn sockets_sound(t: &[u8]) -> bool
-    requires { (length t.now ≡ tableSize) × CountsSound t.now × ClientsSound t.now × RangesSound t.now }
+    requires { (length t.now ≡ table_size) × CountsSound t.now × ClientsSound t.now × RangesSound t.now }
     ensures { Says result (SocketsSound t.now) }
 {
     if !cards_sound(t) {

@@ -2,8 +2,8 @@
 use Rattle.facts.proofs.Words.{◌≡◌, refl, ap, sym, ◌∙◌, ◌⊎◌, inl, inr, ⊎_elim, List, ℕ, ◌+◌, ◌-◌, ◌≤◌, ◌<◌, eq-or-lt_of_le, arith}
 use Rattle.facts.proofs.Words.{length, set, length-set}
 use Rattle.facts.specs.{fresh, byte}
-use Rattle.layout.specs.{image, layoutMark, ClosedUp, TakenOut, tableSize}
-use Rattle.layout.proofs.{shows-image, fresh-shown, byte-same, byte-other}
+use Rattle.layout.specs.{image, layout_mark, ClosedUp, TakenOut, table_size}
+use Rattle.layout.proofs.{shows_image, fresh_shown, byte_same, byte_other}
 use Rattle.table_write.specs.{Filled, Moved, MovedUp, RoomMade, Cleared}
 
 module _ {g : ℕ → ℕ} {b : List ℕ} where
@@ -17,25 +17,25 @@ module _ {g : ℕ → ℕ} {b : List ℕ} where
         record { size = length-set b' i v ∙ c.size; filled = λ p m n. at p m (eq-or-lt_of_le (omega arith)); other = out }
       where
         at : (p : ℕ) → from ≤ p → (p ≡ i) ⊎ (p < i) → byte (set b' i v) p ≡ g p
-        at p m (inl q) = rw q (byte-same b' i v (omega (arith, c.size)) ∙ e)
-        at p m (inr n) = byte-other b' i v p (omega arith) ∙ c.filled p m n
+        at p m (inl q) = rw q (byte_same b' i v (omega (arith, c.size)) ∙ e)
+        at p m (inr n) = byte_other b' i v p (omega arith) ∙ c.filled p m n
 
         out : (p : ℕ) → (p < from) ⊎ (i + 1 ≤ p) → byte (set b' i v) p ≡ byte b p
-        out p (inl m) = byte-other b' i v p (omega arith) ∙ c.other p (inl m)
-        out p (inr m) = byte-other b' i v p (omega arith) ∙ c.other p (inr (omega arith))
+        out p (inl m) = byte_other b' i v p (omega arith) ∙ c.other p (inl m)
+        out p (inr m) = byte_other b' i v p (omega arith) ∙ c.other p (inr (omega arith))
 
     -- the byte before them is written
-    pub filled-less : {from i to : ℕ} → Filled g b b' from to → from ≡ i + 1 → i < to → i < length b → v ≡ g i → Filled g b (set b' i v) i to
-    filled-less {i = i} {to} c k l h e =
+    pub filled_less : {from i to : ℕ} → Filled g b b' from to → from ≡ i + 1 → i < to → i < length b → v ≡ g i → Filled g b (set b' i v) i to
+    filled_less {i = i} {to} c k l h e =
         record { size = length-set b' i v ∙ c.size; filled = λ p m n. at p n (eq-or-lt_of_le m); other = out }
       where
         at : (p : ℕ) → p < to → (i ≡ p) ⊎ (i < p) → byte (set b' i v) p ≡ g p
-        at p n (inl q) = rw (← q, byte-same b' i v (omega (arith, c.size)) ∙ e)
-        at p n (inr m) = byte-other b' i v p (omega arith) ∙ c.filled p (omega arith) n
+        at p n (inl q) = rw (← q, byte_same b' i v (omega (arith, c.size)) ∙ e)
+        at p n (inr m) = byte_other b' i v p (omega arith) ∙ c.filled p (omega arith) n
 
         out : (p : ℕ) → (p < i) ⊎ (to ≤ p) → byte (set b' i v) p ≡ byte b p
-        out p (inl m) = byte-other b' i v p (omega arith) ∙ c.other p (inl (omega arith))
-        out p (inr m) = byte-other b' i v p (omega arith) ∙ c.other p (inr m)
+        out p (inl m) = byte_other b' i v p (omega arith) ∙ c.other p (inl (omega arith))
+        out p (inr m) = byte_other b' i v p (omega arith) ∙ c.other p (inr m)
 
 -- a record taken out: those after it moved down, the last one cleared
 pub closes : {b b₁ b₂ : List ℕ} {at bytes end : ℕ} → at + bytes ≤ end → Moved b b₁ at (end - bytes) bytes → Cleared b₁ b₂ (end - bytes) end
@@ -54,10 +54,10 @@ pub takes : {b b₁ : List ℕ} {count at bytes end : ℕ} → count < at → at
 takes {b} {b₁} {count} before fits lent some c =
     record {
       size = length-set b₁ count v ∙ c.size;
-      fewer = omega (arith, byte-same b₁ count v (omega (arith, c.size)));
-      moved = λ p l h. byte-other b₁ count v p (omega arith) ∙ c.moved p l h;
-      last = λ p l h. byte-other b₁ count v p (omega arith) ∙ c.last p l h;
-      other = λ p d o. byte-other b₁ count v p d ∙ c.other p o;
+      fewer = omega (arith, byte_same b₁ count v (omega (arith, c.size)));
+      moved = λ p l h. byte_other b₁ count v p (omega arith) ∙ c.moved p l h;
+      last = λ p l h. byte_other b₁ count v p (omega arith) ∙ c.last p l h;
+      other = λ p d o. byte_other b₁ count v p d ∙ c.other p o;
     }
   where
     v : ℕ
@@ -69,22 +69,22 @@ pub makes : {b b₁ : List ℕ} {count at bytes end : ℕ} → count < at → at
 makes {b} {b₁} {count} {at} {bytes} {end} before fits lent m =
     record {
       size = length-set b₁ count v ∙ m.size;
-      more = byte-same b₁ count v (omega (arith, m.size));
-      moved = λ p l h. byte-other b₁ count v (p + bytes) (omega arith) ∙ m.filled (p + bytes) (omega arith) (omega arith)
+      more = byte_same b₁ count v (omega (arith, m.size));
+      moved = λ p l h. byte_other b₁ count v (p + bytes) (omega arith) ∙ m.filled (p + bytes) (omega arith) (omega arith)
           ∙ ap (byte b) (omega arith);
-      other = λ p d o. byte-other b₁ count v p d ∙ m.other p (⊎_elim inl (λ l. inr (omega arith)) o);
+      other = λ p d o. byte_other b₁ count v p d ∙ m.other p (⊎_elim inl (λ l. inr (omega arith)) o);
     }
   where
     v : ℕ
     v = byte b count + 1
 
 -- a cleared table with the layout's mark and a socket count is a fresh one
-pub fresh-image : {b b' : List ℕ} (n : ℕ) → length b ≡ tableSize → Cleared b b' 0 tableSize → set (set b' 0 layoutMark) 1 n ≡ image (fresh n)
-fresh-image {b' = b'} n e c =
-    let marked = set b' 0 layoutMark in
-    let long = length-set b' 0 layoutMark ∙ c.size ∙ e in
-    let mark-there = byte-other marked 1 n 0 (omega arith) ∙ byte-same b' 0 layoutMark (omega (arith, c.size)) in
+pub fresh_image : {b b' : List ℕ} (n : ℕ) → length b ≡ table_size → Cleared b b' 0 table_size → set (set b' 0 layout_mark) 1 n ≡ image (fresh n)
+fresh_image {b' = b'} n e c =
+    let marked = set b' 0 layout_mark in
+    let long = length-set b' 0 layout_mark ∙ c.size ∙ e in
+    let mark-there = byte_other marked 1 n 0 (omega arith) ∙ byte_same b' 0 layout_mark (omega (arith, c.size)) in
     sym
-    (shows-image (fresh n) (set marked 1 n) (omega arith)
-    (fresh-shown n (set marked 1 n) (length-set marked 1 n ∙ long) mark-there (byte-same marked 1 n (omega (arith, long)))
-    (λ p l m. byte-other marked 1 n p (omega arith) ∙ byte-other b' 0 layoutMark p (omega arith) ∙ c.filled p (omega arith) m)))
+    (shows_image (fresh n) (set marked 1 n) (omega arith)
+    (fresh_shown n (set marked 1 n) (length-set marked 1 n ∙ long) mark-there (byte_same marked 1 n (omega (arith, long)))
+    (λ p l m. byte_other marked 1 n p (omega arith) ∙ byte_other b' 0 layout_mark p (omega arith) ∙ c.filled p (omega arith) m)))

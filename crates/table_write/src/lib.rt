@@ -1,8 +1,8 @@
 // Writes a table's bytes: numbers, a run of zeros, a record taken out, room for another, a fresh table.
 ghost use Rattle.std.specs.Prelude.{◌≡◌, ◌+◌, ◌<◌, ◌≤◌, length};
 ghost use Rattle.facts.specs.Table;
-ghost use Rattle.facts.specs.Packets.{byte, withWord, withLong};
-ghost use Rattle.layout.specs.Layout.{image, tableSize};
+ghost use Rattle.facts.specs.Packets.{byte, with_word, with_long};
+ghost use Rattle.layout.specs.Layout.{image, table_size};
 ghost use Rattle.layout.specs.Changed.{ClosedUp, TakenOut};
 ghost use Rattle.table_write.specs.Writing.{Moved, MovedUp, RoomMade, Cleared};
 
@@ -11,7 +11,7 @@ use layout::{LAYOUT_MARK, MARK_IN, SOCKETS_IN, TABLE_SIZE};
 // A number of two bytes at a place.
 pub fn put_word(t: &mut [u8], at: usize, n: usize)
     requires { at + 1 < length t.old }
-    ensures { t.new ≡ withWord t.old at n }
+    ensures { t.new ≡ with_word t.old at n }
 {
     t[at] = (n % 256) as u8;
     t[at + 1] = (n / 256 % 256) as u8;
@@ -20,7 +20,7 @@ pub fn put_word(t: &mut [u8], at: usize, n: usize)
 // A number of four bytes at a place.
 pub fn put_long(t: &mut [u8], at: usize, n: usize)
     requires { at + 3 < length t.old }
-    ensures { t.new ≡ withLong t.old at n }
+    ensures { t.new ≡ with_long t.old at n }
 {
     put_word(t, at, n % 65536);
     put_word(t, at + 2, n / 65536 % 65536);
@@ -94,7 +94,7 @@ pub fn make_room(t: &mut [u8], count: usize, at: usize, bytes: usize, end: usize
 
 // A fresh table.
 pub fn make_fresh(t: &mut [u8], sockets: u8)
-    requires { length t.old ≡ tableSize }
+    requires { length t.old ≡ table_size }
     ensures { t.new ≡ image (Table.fresh sockets) }
 {
     clear(t, 0, TABLE_SIZE);

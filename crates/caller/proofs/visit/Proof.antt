@@ -1,5 +1,5 @@
 -- `caller::visit` meets its contract: six calls, one after the other, are a run. Assumes nothing.
-use Rattle.facts.proofs.Words.{needs, now}
+use Rattle.facts.proofs.Words.{rules, now}
 use Rattle.caller.specs.{Plan, planned}
 use Rattle.caller.proofs.{refused, visited}
 use Rattle.caller.proofs.visit.Tie as tie
@@ -66,5 +66,5 @@ returns-2 c =
 pub visit-spec : {M : Type 1} → Rattle.caller.proofs.visit.Statement.statement M
 visit-spec =
     tie.close
-    (tie.spec (λ c κs. search needs) (λ c. search needs) returns (λ c κs. search needs) (λ c κs. search needs) (λ c κs. search needs)
-    (λ c κs. search needs) (λ c κs. search needs) (λ c. search needs) (λ c. search needs) returns-2)
+    (tie.spec (λ c κs. search rules) (λ c. search rules) returns (λ c κs. search rules) (λ c κs. search rules) (λ c κs. search rules)
+    (λ c κs. search rules) (λ c κs. search rules) (λ c. search rules) (λ c. search rules) returns-2)

@@ -1,6 +1,6 @@
 -- `client_record::client_at` meets its contract: who stands by number is listed there; else the search answers.
 -- Assumes nothing.
-use Rattle.facts.proofs.Words.{arith, now, needs}
+use Rattle.facts.proofs.Words.{arith, now, rules}
 use Rattle.client_record.specs.Finding.{ByNumber}
 use Rattle.client_record.proofs.client_at.Tie as tie
 
@@ -20,4 +20,4 @@ returns c = record { listed = omega (arith, (stands c).least, (stands c).listed)
 pub client-at-spec : {M : Type 1} → Rattle.client_record.proofs.client_at.Statement.statement M
 client-at-spec =
     tie.close
-    (tie.spec (λ c κs. search needs) (λ c. search needs) (λ c. omega (arith, (stands c).least)) returns (λ c κs. search needs) (λ c. search needs))
+    (tie.spec (λ c κs. search rules) (λ c. search rules) (λ c. omega (arith, (stands c).least)) returns (λ c κs. search rules) (λ c. search rules))

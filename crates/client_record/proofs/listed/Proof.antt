@@ -1,15 +1,15 @@
 -- `client_record::listed` meets its contract: what is gathered is not 0 exactly if one of the clients passed has the handle.
 -- Assumes nothing.
-use Rattle.facts.proofs.Words.{◌≡◌, ◌-◌, ◌≤◌, arith, needs}
-use Rattle.facts.proofs.{says-as}
-use Rattle.layout.specs.{handleIn}
+use Rattle.facts.proofs.Words.{◌≡◌, ◌-◌, ◌≤◌, arith, rules}
+use Rattle.facts.proofs.{says_as}
+use Rattle.layout.specs.{handle_in}
 use Rattle.table_read.proofs.Some.{Some}
 use Rattle.client_record.specs.Finding.{Tells}
-use Rattle.client_record.proofs.{some-none, some_more, tells-says}
+use Rattle.client_record.proofs.{some_none, some_more, tells_says}
 use Rattle.client_record.proofs.listed.Tie as tie
 
 abbrev invariant-loop : tie.invariant-loop
-invariant-loop t all wanted some₀ i₀ some i = (i ≤ all) × Tells some (Some i (λ k. handleIn t k ≡ wanted))
+invariant-loop t all wanted some₀ i₀ some i = (i ≤ all) × Tells some (Some i (λ k. handle_in t k ≡ wanted))
 
 abbrev decreases-loop : tie.decreases-loop
 decreases-loop t all wanted some₀ i₀ some i = all - i
@@ -22,10 +22,10 @@ loop-again c =
 returns : tie.Need-returns invariant-loop decreases-loop
 returns c =
     let k = c.before in
-    says-as (tells-says k.loop.invariant.1) (λ s. (s.0, omega (arith, s.1), s.2)) (λ l. (l.0, omega (arith, l.1), l.2))
+    says_as (tells_says k.loop.invariant.1) (λ s. (s.0, omega (arith, s.1), s.2)) (λ l. (l.0, omega (arith, l.1), l.2))
 
 pub listed-spec : {M : Type 1} → Rattle.client_record.proofs.listed.Statement.statement M
 listed-spec =
     tie.close
-    (tie.spec invariant-loop decreases-loop (λ c κs. omega arith) (λ c. (omega arith, some-none)) (λ c. omega arith) (λ c. omega arith) (λ c κs. omega arith)
-    (λ c κs. search needs) (λ c. omega arith) (λ c. omega arith) loop-again returns)
+    (tie.spec invariant-loop decreases-loop (λ c κs. omega arith) (λ c. (omega arith, some_none)) (λ c. omega arith) (λ c. omega arith) (λ c κs. omega arith)
+    (λ c κs. search rules) (λ c. omega arith) (λ c. omega arith) loop-again returns)

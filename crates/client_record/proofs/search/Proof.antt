@@ -1,12 +1,12 @@
 -- `client_record::search` meets its contract: none of the clients passed has the handle.
 -- Assumes nothing.
-use Rattle.facts.proofs.Words.{◌≡◌, ◌∙◌, ◌-◌, arith, needs}
-use Rattle.layout.specs.{handleIn}
-use Rattle.table_read.proofs.{SoFar, so-far-none, so_far_more}
+use Rattle.facts.proofs.Words.{◌≡◌, ◌∙◌, ◌-◌, arith, rules}
+use Rattle.layout.specs.{handle_in}
+use Rattle.table_read.proofs.{SoFar, so_far_none, so_far_more}
 use Rattle.client_record.proofs.search.Tie as tie
 
 abbrev invariant-loop : tie.invariant-loop
-invariant-loop t clients wanted i₀ i = SoFar clients (λ k. handleIn t k ≡ wanted → ⊥) i
+invariant-loop t clients wanted i₀ i = SoFar clients (λ k. handle_in t k ≡ wanted → ⊥) i
 
 abbrev decreases-loop : tie.decreases-loop
 decreases-loop t clients wanted i₀ i = clients - i
@@ -24,5 +24,5 @@ returns-2 c = λ l. c.before.loop.invariant.each l.0 (omega (arith, l.1)) l.2
 pub search-spec : {M : Type 1} → Rattle.client_record.proofs.search.Statement.statement M
 search-spec =
     tie.close
-    (tie.spec invariant-loop decreases-loop (λ c κs. omega arith) (λ c. so-far-none) (λ c. omega arith) (λ c. omega arith) (λ c κs. omega arith) (λ c. search needs)
+    (tie.spec invariant-loop decreases-loop (λ c κs. omega arith) (λ c. so_far_none) (λ c. omega arith) (λ c. omega arith) (λ c κs. omega arith) (λ c. search rules)
     (λ c. omega arith) (λ c. omega arith) loop-again returns-2)

@@ -1,16 +1,16 @@
 -- `client_record::stands_by_number` meets its contract: each test decides a field of the record.
 -- Assumes nothing.
-use Rattle.facts.proofs.Words.{arith, needs}
-use Rattle.facts.proofs.{says-false, says-as, says_eq}
+use Rattle.facts.proofs.Words.{arith, rules}
+use Rattle.facts.proofs.{says_false, says_as, says_eq}
 use Rattle.client_record.proofs.stands_by_number.Tie as tie
 
 returns-3 : tie.Need-returns-3
 returns-3 c =
     rw c.word.ensures.0
-    (says-as (says_eq _ _) (λ e. record { least = omega arith; listed = omega arith; handle = e }) (λ p. p.handle))
+    (says_as (says_eq _ _) (λ e. record { least = omega arith; listed = omega arith; handle = e }) (λ p. p.handle))
 
 pub stands-by-number-spec : {M : Type 1} → Rattle.client_record.proofs.stands_by_number.Statement.statement M
 stands-by-number-spec =
     tie.close
-    (tie.spec (λ c. search needs) (λ c. says-false (λ p. omega (arith, p.least))) (λ c κs. search needs)
-    (λ c. says-false (λ p. omega (arith, p.listed))) (λ c. search needs) (λ c. search needs) (λ c. search needs) (λ c κs. search needs) returns-3)
+    (tie.spec (λ c. search rules) (λ c. says_false (λ p. omega (arith, p.least))) (λ c κs. search rules)
+    (λ c. says_false (λ p. omega (arith, p.listed))) (λ c. search rules) (λ c. search rules) (λ c. search rules) (λ c κs. search rules) returns-3)

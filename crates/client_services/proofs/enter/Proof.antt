@@ -1,6 +1,6 @@
 -- `client_services::enter` meets its contract: the numbers and the count are written one after the other.
 -- Assumes nothing.
-use Rattle.facts.proofs.Words.{needs, now, length-set}
+use Rattle.facts.proofs.Words.{rules, now, length-set}
 use Rattle.client_services.proofs.{enters}
 use Rattle.client_services.proofs.enter.Tie as tie
 
@@ -17,6 +17,6 @@ returns c =
 pub enter_spec : {M : Type 1} → Rattle.client_services.proofs.enter.Statement.statement M
 enter_spec =
     tie.close
-    (tie.spec (λ c. search needs) (λ c. search needs) (λ c. search needs) (λ c κs. search needs) (λ c. search needs) (λ c. search needs)
-    (λ c κs. search needs) (λ c κs. search needs) (λ c. search needs) (λ c. search needs) (λ c. search needs) (λ c. search needs)
-    (λ c. search needs) (λ c. search needs) (λ c. simp length-set (search needs)) (λ c. simp length-set (search needs)) returns)
+    (tie.spec (λ c. search rules) (λ c. search rules) (λ c. search rules) (λ c κs. search rules) (λ c. search rules) (λ c. search rules)
+    (λ c κs. search rules) (λ c κs. search rules) (λ c. search rules) (λ c. search rules) (λ c. search rules) (λ c. search rules)
+    (λ c. search rules) (λ c. search rules) (λ c. simp length-set (search rules)) (λ c. simp length-set (search rules)) returns)

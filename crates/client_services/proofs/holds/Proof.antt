@@ -1,6 +1,6 @@
 -- `client_services::holds` meets its contract: it holds something if one of the two answers says so.
 -- Assumes nothing.
-use Rattle.facts.proofs.Words.{⊎_elim, inl, inr, needs}
+use Rattle.facts.proofs.Words.{⊎_elim, inl, inr, rules}
 use Rattle.client_services.proofs.holds.Tie as tie
 
 returns : tie.Need-returns
@@ -16,4 +16,4 @@ returns-3 c =
 
 pub holds-spec : {M : Type 1} → Rattle.client_services.proofs.holds.Statement.statement M
 holds-spec =
-    tie.close (tie.spec (λ c κs. search needs) returns (λ c κs. search needs) returns-2 returns-3)
+    tie.close (tie.spec (λ c κs. search rules) returns (λ c κs. search rules) returns-2 returns-3)

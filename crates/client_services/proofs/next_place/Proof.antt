@@ -1,6 +1,6 @@
 -- `client_services::next_place` meets its contract: there is room, or not.
 -- Assumes nothing.
-use Rattle.facts.proofs.Words.{inl, inr, arith, needs}
+use Rattle.facts.proofs.Words.{inl, inr, arith, rules}
 use Rattle.client_services.proofs.next_place.Tie as tie
 
 returns : tie.Need-returns
@@ -11,4 +11,4 @@ returns-2 c = inr (omega (arith, c.if2.true, c.before.before.word.ensures.0))
 
 pub next-place-spec : {M : Type 1} → Rattle.client_services.proofs.next_place.Statement.statement M
 next-place-spec =
-    tie.close (tie.spec (λ c κs. search needs) (λ c κs. search needs) returns returns-2 (λ c. search needs) (λ c. search needs) (λ c. search needs))
+    tie.close (tie.spec (λ c κs. search rules) (λ c κs. search rules) returns returns-2 (λ c. search rules) (λ c. search rules) (λ c. search rules))

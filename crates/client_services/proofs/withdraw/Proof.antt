@@ -1,7 +1,7 @@
 -- `client_services::withdraw` meets its contract: each row closes up, one after the other, and the number is written.
 -- Assumes nothing.
-use Rattle.facts.proofs.Words.{needs}
-use Rattle.client_services.proofs.{withdraws, withdrawn-size}
+use Rattle.facts.proofs.Words.{rules}
+use Rattle.client_services.proofs.{withdraws, withdrawn_size}
 use Rattle.client_services.proofs.withdraw.Tie as tie
 
 returns : tie.Need-returns
@@ -20,7 +20,7 @@ returns c =
 pub withdraw-spec : {M : Type 1} → Rattle.client_services.proofs.withdraw.Statement.statement M
 withdraw-spec =
     tie.close
-    (tie.spec (λ c κs. search needs) (λ c. search needs) (λ c. search needs) (λ c. search needs) (λ c. search needs) (λ c κs. search needs)
-    (λ c. search needs) (λ c. search needs) (λ c. search needs) (λ c. search needs) (λ c κs. search needs) (λ c. search needs) (λ c. search needs)
-    (λ c. search needs) (λ c. search needs) (λ c κs. search needs) (λ c. search needs) (λ c. search needs) (λ c. search needs) (λ c. search needs)
-    (λ c κs. search needs) (λ c. search needs) (λ c. search needs) (λ c. search needs) (λ c. withdrawn-size (returns c)) returns)
+    (tie.spec (λ c κs. search rules) (λ c. search rules) (λ c. search rules) (λ c. search rules) (λ c. search rules) (λ c κs. search rules)
+    (λ c. search rules) (λ c. search rules) (λ c. search rules) (λ c. search rules) (λ c κs. search rules) (λ c. search rules) (λ c. search rules)
+    (λ c. search rules) (λ c. search rules) (λ c κs. search rules) (λ c. search rules) (λ c. search rules) (λ c. search rules) (λ c. search rules)
+    (λ c κs. search rules) (λ c. search rules) (λ c. search rules) (λ c. search rules) (λ c. withdrawn_size (returns c)) returns)

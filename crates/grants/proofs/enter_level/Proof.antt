@@ -1,7 +1,7 @@
 -- `grants::enter_level` meets its contract: the three fields, one after the other.
 -- Assumes nothing.
-use Rattle.facts.proofs.Words.{now, needs, length-set}
-use Rattle.grants.proofs.{enters-level}
+use Rattle.facts.proofs.Words.{now, rules, length-set}
+use Rattle.grants.proofs.{enters_level}
 use Rattle.grants.proofs.enter_level.Tie as tie
 
 -- the client is put in, and before that the place is worked out
@@ -15,10 +15,10 @@ returns : tie.Need-returns
 returns c =
     let put = c.before.before in
     let s = (start put).args in
-    enters-level (now s.t) _ _ s.seat.0 s.h.0 (placed put).irq-place.ensures.0 put.put_word.ensures s.level s.manner
+    enters_level (now s.t) _ _ s.seat.0 s.h.0 (placed put).irq-place.ensures.0 put.put_word.ensures s.level s.manner
 
 pub enter-level-spec : {M : Type 1} → Rattle.grants.proofs.enter_level.Statement.statement M
 enter-level-spec =
     tie.close
-    (tie.spec (λ c κs. search needs) (λ c. search needs) (λ c κs. search needs) (λ c. search needs) (λ c. search needs)
-    (λ c. search needs) (λ c. search needs) (λ c. search needs) (λ c. simp length-set (search needs)) (λ c. search needs) returns)
+    (tie.spec (λ c κs. search rules) (λ c. search rules) (λ c κs. search rules) (λ c. search rules) (λ c. search rules)
+    (λ c. search rules) (λ c. search rules) (λ c. search rules) (λ c. simp length-set (search rules)) (λ c. search rules) returns)

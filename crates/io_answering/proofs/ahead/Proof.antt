@@ -1,13 +1,13 @@
 -- `io_answering::ahead` meets its contract: the low bits are the remainders.
 -- Assumes nothing.
-use Rattle.facts.proofs.Words.{◌≡◌, ap, sym, ◌∙◌, ℕ, ◌+◌, ◌-◌, ◌≤◌, ◌<◌, mod-lt, arith, needs, bit_and}
-use Rattle.io_answering.specs.{reachOf, ahead_of}
-use Rattle.io_answering.proofs.{masked, ones-short, masked-behind}
+use Rattle.facts.proofs.Words.{◌≡◌, ap, sym, ◌∙◌, ℕ, ◌+◌, ◌-◌, ◌≤◌, ◌<◌, mod-lt, arith, rules, bit_and}
+use Rattle.io_answering.specs.{reach_of_lem, ahead_of}
+use Rattle.io_answering.proofs.{masked, ones_short, masked_behind}
 use Rattle.io_answering.proofs.ahead.Tie as tie
 
 -- the period is short, and the base lies within it
 short : (s : tie.Start) → s.args.ones + 1 ≤ 32768
-short s = ones-short s.args.ones s.requires.3
+short s = ones_short s.args.ones s.requires.3
 
 within : (s : tie.Start) → bit_and s.args.base s.args.ones < s.args.ones + 1
 within s =
@@ -18,10 +18,10 @@ within s =
 filled : (s : tie.Start)
     → let a = s.args in
     ahead_of a.base a.ports a.last a.more (a.ones + 1)
-    ≡ reachOf a.ports a.more - bit_and (a.last + (a.ones + 1) - bit_and a.base a.ones) a.ones
+    ≡ reach_of_lem a.ports a.more - bit_and (a.last + (a.ones + 1) - bit_and a.base a.ones) a.ones
 filled s =
     let a = s.args in
-    ap (λ (n : ℕ). reachOf a.ports a.more - n) (sym (masked-behind a.base a.last a.ones s.requires.3))
+    ap (λ (n : ℕ). reach_of_lem a.ports a.more - n) (sym (masked_behind a.base a.last a.ones s.requires.3))
 
 returns : tie.Need-returns
 returns c =
@@ -38,5 +38,5 @@ returns-2 c =
 pub ahead-spec : {M : Type 1} → Rattle.io_answering.proofs.ahead.Statement.statement M
 ahead-spec =
     tie.close
-    (tie.spec (λ c. omega (arith, short c)) (λ c. omega (arith, short c, c.requires.1)) (λ c. omega (arith, within c)) (λ c κs. search needs) returns
-    (λ c. search needs) returns-2)
+    (tie.spec (λ c. omega (arith, short c)) (λ c. omega (arith, short c, c.requires.1)) (λ c. omega (arith, within c)) (λ c κs. search rules) returns
+    (λ c. search rules) returns-2)

@@ -1,6 +1,6 @@
 -- `io_bars::enter` meets its contract: three numbers, each in its row.
 -- Assumes nothing.
-use Rattle.facts.proofs.Words.{◌≡◌, ◌+◌, arith, now, needs, length, set, length-set, ◌∙◌}
+use Rattle.facts.proofs.Words.{◌≡◌, ◌+◌, arith, now, rules, length, set, length-set, ◌∙◌}
 use Rattle.io_bars.proofs.enter.Tie as tie
 
 -- the first two leave as many numbers as there were
@@ -13,5 +13,5 @@ twice c = let a = c.args in length-set (set (now a.rows) a.i a.bar.start) (a.pla
 pub enter_spec : {M : Type 1} → Rattle.io_bars.proofs.enter.Statement.statement M
 enter_spec =
     tie.close
-    (tie.spec (λ c. search needs) (λ c. search needs) (λ c. search needs) (λ c. search needs) (λ c. omega (arith, c.requires, once c))
-    (λ c. search needs) (λ c. search needs) (λ c. search needs) (λ c. omega (arith, c.requires, twice c)) (λ c. search needs) (λ c. search needs))
+    (tie.spec (λ c. search rules) (λ c. search rules) (λ c. search rules) (λ c. search rules) (λ c. omega (arith, c.requires, once c))
+    (λ c. search rules) (λ c. search rules) (λ c. search rules) (λ c. omega (arith, c.requires, twice c)) (λ c. search rules) (λ c. search rules))

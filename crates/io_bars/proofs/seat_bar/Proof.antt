@@ -1,6 +1,6 @@
 -- `io_bars::seat_bar` meets its contract: the ports that are held, or none.
 -- Assumes nothing.
-use Rattle.facts.proofs.Words.{needs, arith}
+use Rattle.facts.proofs.Words.{rules, arith}
 use Rattle.io_bars.proofs.seat_bar.Tie as tie
 
 -- where the call began; what is held there fits
@@ -23,4 +23,4 @@ returns-2 : tie.Need-returns-2
 returns-2 c = rw c.before.enum_told.given.1 c.bar-of2.ensures
 
 pub seat-bar-spec : {M : Type 1} → Rattle.io_bars.proofs.seat_bar.Statement.statement M
-seat-bar-spec = tie.close (tie.spec (λ c. search needs) bar-of-requires (λ c. search needs) bar-of-requires-2 returns returns-2)
+seat-bar-spec = tie.close (tie.spec (λ c. search rules) bar-of-requires (λ c. search rules) bar-of-requires-2 returns returns-2)

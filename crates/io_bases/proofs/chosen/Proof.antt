@@ -1,6 +1,6 @@
 -- `io_bases::chosen` meets its contract: the first candidate, or there is none.
 -- Assumes nothing.
-use Rattle.facts.proofs.Words.{needs}
+use Rattle.facts.proofs.Words.{rules}
 use Rattle.io_bases.proofs.{none, first, low}
 use Rattle.io_bases.proofs.chosen.Tie as tie
 
@@ -23,4 +23,4 @@ returns-2 c =
     (low s.pre.0.facts _ s.pre.2 x s.pre.1.port (taken s.pre.0), λ a. first a.facts _ s.pre.2 x (taken a))
 
 pub chosen-spec : {M : Type 1} → Rattle.io_bases.proofs.chosen.Statement.statement M
-chosen-spec = tie.close (tie.spec (λ c κs. let p = c.before.requires in (p.0, p.1.port, p.1.ports, p.1.lines)) (λ c. search needs) (λ c. search needs) returns returns-2)
+chosen-spec = tie.close (tie.spec (λ c κs. let p = c.before.requires in (p.0, p.1.port, p.1.ports, p.1.lines)) (λ c. search rules) (λ c. search rules) returns returns-2)

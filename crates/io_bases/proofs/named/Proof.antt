@@ -1,6 +1,6 @@
 -- `io_bases::named` meets its contract: the ports are not all managed, a grant is in the way, or the base is taken.
 -- Assumes nothing.
-use Rattle.facts.proofs.Words.{refl, subst, now, needs}
+use Rattle.facts.proofs.Words.{refl, subst, now, rules}
 use Rattle.io_bases.specs.declared.PortsAsked.TheVariants as ports
 use Rattle.io_way.specs.{WayIs}
 use Rattle.io_bases.specs.{PortsAre}
@@ -12,11 +12,11 @@ abbrev start : tie.After-ports-asked → tie.Start
 start c = c.before.before
 
 -- the ports are all managed
-abbrev ports-of-way : tie.After-in-the-way → tie.After-ports-asked
-ports-of-way c = let told = c.before in told.before.before
+abbrev ports_of_way : tie.After-in-the-way → tie.After-ports-asked
+ports_of_way c = let told = c.before in told.before.before
 
-managed : (c : tie.After-in-the-way) → let a = (start (ports-of-way c)).args in PortsAre (now a.t) a.asked ports.Managed
-managed c = let a = (start (ports-of-way c)).args in subst (PortsAre (now a.t) a.asked) c.before.enum_told.given.1 (ports-of-way c).ports-asked.ensures
+managed : (c : tie.After-in-the-way) → let a = (start (ports_of_way c)).args in PortsAre (now a.t) a.asked ports.Managed
+managed c = let a = (start (ports_of_way c)).args in subst (PortsAre (now a.t) a.asked) c.before.enum_told.given.1 (ports_of_way c).ports-asked.ensures
 
 returns : tie.Need-returns
 returns c =
@@ -28,14 +28,14 @@ returns c =
 returns-2 : tie.Need-returns-2
 returns-2 c =
     let way = c.before.before in
-    let s = start (ports-of-way way) in
+    let s = start (ports_of_way way) in
     λ a. held a.facts s.args.asked s.pre.2 (managed way a) _
     (subst (WayIs (now s.args.t) s.args.asked) c.enum-told4.given.1 way.in-the-way.ensures a).fits
 
 returns-3 : tie.Need-returns-3
 returns-3 c =
     let way = c.before.before in
-    let s = start (ports-of-way way) in (
+    let s = start (ports_of_way way) in (
       s.pre.1.base,
       λ a. free a.facts s.args.asked s.pre.2 (managed way a)
           (subst (WayIs (now s.args.t) s.args.asked) c.enum-told3.given.1 way.in-the-way.ensures a) _ refl,
@@ -44,5 +44,5 @@ returns-3 c =
 pub named-spec : {M : Type 1} → Rattle.io_bases.proofs.named.Statement.statement M
 named-spec =
     tie.close
-    (tie.spec (λ c κs. search needs) (λ c. search needs) (λ c. search needs) returns (λ c κs. search needs) (λ c. search needs) (λ c. search needs)
+    (tie.spec (λ c κs. search rules) (λ c. search rules) (λ c. search rules) returns (λ c κs. search rules) (λ c. search rules) (λ c. search rules)
     returns-2 returns-3)

@@ -1,11 +1,11 @@
 -- `io_candidates::first` meets its contract: the search in unreserved ranges comes first, and then the search in all of them.
 -- Assumes nothing.
-use Rattle.facts.proofs.Words.{subst, List, ℕ, ◌-◌, ◌<◌, now, arith, needs}
-use Rattle.facts.proofs.{says-no}
-use Rattle.table_read.proofs.{SoFar, so-far-none, so_far_more}
+use Rattle.facts.proofs.Words.{subst, List, ℕ, ◌-◌, ◌<◌, now, arith, rules}
+use Rattle.facts.proofs.{says_no}
+use Rattle.table_read.proofs.{SoFar, so_far_none, so_far_more}
 use Rattle.io_obstacles.specs.{Barring, BarredFor}
 use Rattle.io_candidates.specs.{CandidateIn, LowestIs}
-use Rattle.io_candidates.proofs.{first_by, none-marked}
+use Rattle.io_candidates.proofs.{first_by, none_marked}
 use Rattle.io_candidates.proofs.first.Tie as tie
 
 -- none of the searches made found a candidate
@@ -31,11 +31,11 @@ abbrev Bar : tie.At-loop invariant-loop decreases-loop → ℕ → Type 0
 Bar c = let a = (start c).args in BarredFor (now a.grants) (now a.gaps) a.wanted
 
 -- a turn; where it found a candidate, and where it found none
-abbrev turn-of-mark : tie.After-some-marked invariant-loop decreases-loop → tie.At-loop invariant-loop decreases-loop
-turn-of-mark c = c.before.before
+abbrev turn_of_mark : tie.After-some-marked invariant-loop decreases-loop → tie.At-loop invariant-loop decreases-loop
+turn_of_mark c = c.before.before
 
 abbrev turn : tie.After-first-of invariant-loop decreases-loop → tie.At-loop invariant-loop decreases-loop
-turn c = turn-of-mark c.before.before
+turn c = turn_of_mark c.before.before
 
 below : (c : tie.After-first-of invariant-loop decreases-loop) → (turn c).loop.most < 2
 below c = let marked = c.before.before in marked.before.loop-test.true
@@ -51,11 +51,11 @@ Fits c = let a = (start c).args in CandidateIn (table c) (Bar c) c.loop.most a.w
 
 returns : tie.Need-returns invariant-loop decreases-loop
 returns c =
-    let k = turn-of-mark c.before in
-    none-marked _ _ _ _ k.loop.most (says-no c.before.some-marked.ensures c.if1.true) k.loop.inv.0.each (start k).pre.0.1.numbers.port
+    let k = turn_of_mark c.before in
+    none_marked _ _ _ _ k.loop.most (says_no c.before.some-marked.ensures c.if1.true) k.loop.inv.0.each (start k).pre.0.1.numbers.port
 
 first-of-requires : tie.Need-first-of-requires invariant-loop decreases-loop
-first-of-requires c κs = let k = turn-of-mark c.before in ((start k).pre.0, k.loop.inv.1)
+first-of-requires c κs = let k = turn_of_mark c.before in ((start k).pre.0, k.loop.inv.1)
 
 returns-2 : tie.Need-returns-2 invariant-loop decreases-loop
 returns-2 c =
@@ -77,5 +77,5 @@ returns-3 c = c.before.loop.invariant.0.each 1 (omega (arith, c.loop-test.false)
 pub first_spec : {M : Type 1} → Rattle.io_candidates.proofs.first.Statement.statement M
 first_spec =
     tie.close
-    (tie.spec invariant-loop decreases-loop (λ c. (so-far-none, (called c).requires.1)) (λ c κs. (start c.before).pre.0.0) returns first-of-requires (λ c. search needs)
-    returns-2 (λ c. search needs) (λ c. omega arith) (λ c. omega arith) loop-again returns-3)
+    (tie.spec invariant-loop decreases-loop (λ c. (so_far_none, (called c).requires.1)) (λ c κs. (start c.before).pre.0.0) returns first-of-requires (λ c. search rules)
+    returns-2 (λ c. search rules) (λ c. omega arith) (λ c. omega arith) loop-again returns-3)

@@ -1,13 +1,13 @@
 -- `io_candidates::first_of` meets its contract: none of the ranges passed has a candidate that starts in it.
 -- Assumes nothing.
-use Rattle.facts.proofs.Words.{subst, List, ℕ, ◌-◌, ◌<◌, arith, now, needs}
-use Rattle.layout.specs.{rangesIn}
+use Rattle.facts.proofs.Words.{subst, List, ℕ, ◌-◌, ◌<◌, arith, now, rules}
+use Rattle.layout.specs.{ranges_in}
 use Rattle.layout.specs.Sound.{Sound}
-use Rattle.layout.proofs.{size_in, sound-in}
+use Rattle.layout.proofs.{size_in, sound_in}
 use Rattle.io_obstacles.specs.{Barring, BarredFor}
-use Rattle.table_read.proofs.{SoFar, so-far-none, so_far_more}
+use Rattle.table_read.proofs.{SoFar, so_far_none, so_far_more}
 use Rattle.io_candidates.specs.{StartsIn, LowestIs}
-use Rattle.io_candidates.proofs.{NoneIn, lowest-of, none_of}
+use Rattle.io_candidates.proofs.{NoneIn, lowest_of, none_of}
 use Rattle.io_candidates.proofs.first_of.Tie as tie
 
 abbrev invariant-loop : tie.invariant-loop
@@ -32,13 +32,13 @@ abbrev Bar : tie.At-loop invariant-loop decreases-loop → ℕ → Type 0
 Bar c = let a = (start c).args in BarredFor (now a.grants) (now a.gaps) a.wanted
 
 sound : (c : tie.At-loop invariant-loop decreases-loop) → Sound (table c)
-sound c = sound-in (table c) (start c).requires.0.0
+sound c = sound_in (table c) (start c).requires.0.0
 
 -- the turn in which a range was searched; the range is listed
 abbrev turn : tie.After-first-in invariant-loop decreases-loop → tie.At-loop invariant-loop decreases-loop
 turn c = c.before.before
 
-listed : (c : tie.In-loop invariant-loop decreases-loop) → c.before.loop.i < rangesIn (table c.before)
+listed : (c : tie.In-loop invariant-loop decreases-loop) → c.before.loop.i < ranges_in (table c.before)
 listed c = omega (arith, c.before.before.byte.ensures.0, c.loop-test.true)
 
 -- what the search in it found
@@ -65,7 +65,7 @@ returns c =
     let s = (start k).args in
     record {
       lowest =
-          lowest-of (table k) (sound k).ranges (Bar k) s.most s.wanted.count s.wanted.step (start k).pre.0.1.numbers.port k.loop.i _
+          lowest_of (table k) (sound k).ranges (Bar k) s.most s.wanted.count s.wanted.step (start k).pre.0.1.numbers.port k.loop.i _
           (listed (found c).before) k.loop.inv.0.each
           (subst (LowestIs (Starts k)) c.before.taken.given.1 (found c).first-in.ensures.lowest);
       bars = (found c).first-in.ensures.bars;
@@ -96,5 +96,5 @@ returns-2 c =
 pub first-of-spec : {M : Type 1} → Rattle.io_candidates.proofs.first_of.Statement.statement M
 first-of-spec =
     tie.close
-    (tie.spec invariant-loop decreases-loop byte-requires (λ c. (so-far-none, (called c.before).pre.1)) first-in-requires (λ c. search needs) returns
-    (λ c. search needs) add-i (λ c. omega arith) loop-again returns-2)
+    (tie.spec invariant-loop decreases-loop byte-requires (λ c. (so_far_none, (called c.before).pre.1)) first-in-requires (λ c. search rules) returns
+    (λ c. search rules) add-i (λ c. omega arith) loop-again returns-2)

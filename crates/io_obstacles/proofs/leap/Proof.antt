@@ -1,8 +1,8 @@
 -- `io_obstacles::leap` meets its contract: the farthest end of the bars passed.
 -- Assumes nothing.
-use Rattle.facts.proofs.Words.{◌≡◌, ◌+◌, ◌-◌, ◌≤◌, ◌<◌, arith, length, now, needs}
-use Rattle.io_obstacles.specs.{gapPlaces, LiesInFirst, Leaps}
-use Rattle.io_obstacles.proofs.{leap-start, leap-more}
+use Rattle.facts.proofs.Words.{◌≡◌, ◌+◌, ◌-◌, ◌≤◌, ◌<◌, arith, length, now, rules}
+use Rattle.io_obstacles.specs.{gap_places, LiesInFirst, Leaps}
+use Rattle.io_obstacles.proofs.{leap_start, leap_more}
 use Rattle.io_obstacles.proofs.leap.Tie as tie
 
 abbrev invariant-loop : tie.invariant-loop
@@ -22,7 +22,7 @@ turn c = c.before.before.before
 placed : (c : tie.In-loop invariant-loop decreases-loop)
     → let a = (start c.before).args in
     let i = c.before.loop.i in
-    (i < a.places) × (a.places ≤ gapPlaces) × (a.places + a.places + a.places ≤ length (now a.rows))
+    (i < a.places) × (a.places ≤ gap_places) × (a.places + a.places + a.places ≤ length (now a.rows))
 placed c = let s = start c.before in (c.loop-test.true, s.pre.1, s.pre.0.size)
 
 past-requires : tie.Need-past-requires invariant-loop decreases-loop
@@ -35,7 +35,7 @@ loop-again c =
     let a = (start k).args in (
       omega (arith, (turn at.before).loop-test.taken),
       rw c.larger-u16.ensures
-          (leap-more (now a.rows) a.places a.limit a.base k.loop.i k.loop.far at.past.result k.loop.inv.1 at.past.ensures),
+          (leap_more (now a.rows) a.places a.limit a.base k.loop.i k.loop.far at.past.result k.loop.inv.1 at.past.ensures),
     )
 
 returns : tie.Need-returns invariant-loop decreases-loop
@@ -47,8 +47,8 @@ returns c =
 pub leap-spec : {M : Type 1} → Rattle.io_obstacles.proofs.leap.Statement.statement M
 leap-spec =
     tie.close
-    (tie.spec invariant-loop decreases-loop (λ c. search needs) (λ c. (omega arith, leap-start _ _ _ _)) (λ c. omega (arith, placed c)) (λ c. omega (arith, placed c.before))
+    (tie.spec invariant-loop decreases-loop (λ c. search rules) (λ c. (omega arith, leap_start _ _ _ _)) (λ c. omega (arith, placed c)) (λ c. omega (arith, placed c.before))
     (λ c. omega (arith, placed c.before)) (λ c. omega (arith, placed c.before)) (λ c. omega (arith, placed c.before.before))
     (λ c. omega (arith, placed c.before.before)) (λ c. omega (arith, placed c.before.before)) (λ c. omega (arith, placed c.before.before))
-    (λ c. omega (arith, placed (turn c))) past-requires (λ c κs. search needs) (λ c. let k = turn c.before.before in omega (arith, placed k))
-    (λ c. omega arith) loop-again (λ c. search needs) returns)
+    (λ c. omega (arith, placed (turn c))) past-requires (λ c κs. search rules) (λ c. let k = turn c.before.before in omega (arith, placed k))
+    (λ c. omega arith) loop-again (λ c. search rules) returns)

@@ -1,7 +1,7 @@
 -- `io_packets::asked` meets its contract: each field is read.
 -- Assumes nothing.
-use Rattle.facts.proofs.Words.{needs}
-use Rattle.facts.proofs.{says-eqb}
+use Rattle.facts.proofs.Words.{rules}
+use Rattle.facts.proofs.{says_eqb}
 use Rattle.io_packets.proofs.asked.Tie as tie
 
 -- the numbers that were read
@@ -15,8 +15,8 @@ returns c =
     let base = n.before.base-asked.ensures.0 in
     let count = n.count-asked.ensures.0 in
     let lines = l.lines-asked.ensures.0 in
-    let shared = says-eqb _ _ _ c.before.shared.ensures in
-    let first = says-eqb _ _ _ c.first-shared.ensures in (
+    let shared = says_eqb _ _ _ c.before.shared.ensures in
+    let first = says_eqb _ _ _ c.first-shared.ensures in (
       λ i. record { base = base i; count = count i; lines = lines i; shared = shared i; first = first i },
       n.before.base-asked.ensures.1,
       n.count-asked.ensures.1,
@@ -25,4 +25,4 @@ returns c =
 pub asked-spec : {M : Type 1} → Rattle.io_packets.proofs.asked.Statement.statement M
 asked-spec =
     tie.close
-    (tie.spec (λ c κs. search needs) (λ c κs. search needs) (λ c κs. search needs) (λ c κs. search needs) (λ c κs. search needs) returns)
+    (tie.spec (λ c κs. search rules) (λ c κs. search rules) (λ c κs. search rules) (λ c κs. search rules) (λ c κs. search rules) returns)

@@ -1,7 +1,7 @@
 -- `io_packets::attributes_asked` meets its contract: one of the four clauses holds, or none.
 -- Assumes nothing.
-use Rattle.facts.proofs.Words.{sym, ◌∙◌, inl, inr, arith, now, needs}
-use Rattle.io_packets.proofs.{attributes-good}
+use Rattle.facts.proofs.Words.{sym, ◌∙◌, inl, inr, arith, now, rules}
+use Rattle.io_packets.proofs.{attributes_good}
 use Rattle.io_packets.proofs.attributes_asked.Tie as tie
 
 returns : tie.Need-returns
@@ -21,11 +21,11 @@ returns-5 c =
     let read = c.before.before in
     let first = read.before in
     let over = first.before.before in
-    attributes-good (now over.before.before.before.args.p) (λ l. omega (arith, over.before.byte.ensures.0, over.if1.false))
+    attributes_good (now over.before.before.before.args.p) (λ l. omega (arith, over.before.byte.ensures.0, over.if1.false))
     (first.before.first_alone.ensures.fails first.if2.false) (λ e. c.before.if3.false (read.lines-asked.ensures.0 ∙ e))
     (λ l. omega (arith, read.lines-asked.ensures.0, c.if4.false))
 
 pub attributes-asked-spec : {M : Type 1} → Rattle.io_packets.proofs.attributes_asked.Statement.statement M
 attributes-asked-spec =
     tie.close
-    (tie.spec (λ c κs. search needs) returns (λ c κs. search needs) returns-2 (λ c κs. search needs) returns-3 returns-4 returns-5)
+    (tie.spec (λ c κs. search rules) returns (λ c κs. search rules) returns-2 (λ c κs. search rules) returns-3 returns-4 returns-5)

@@ -1,8 +1,8 @@
 -- `io_ranges::meets` meets its contract: one remainder decides whether two ranges that have ports meet.
 -- Assumes nothing.
-use Rattle.facts.proofs.Words.{arith, needs, pow_pos}
-use Rattle.facts.proofs.{says-false}
-use Rattle.io_ranges.proofs.{meet-says}
+use Rattle.facts.proofs.Words.{arith, rules, pow_pos}
+use Rattle.facts.proofs.{says_false}
+use Rattle.io_ranges.proofs.{meet_says}
 use Rattle.io_ranges.proofs.meets.Tie as tie
 
 -- where the call began, once both ranges were found to have ports
@@ -10,7 +10,7 @@ abbrev start : tie.After-smaller2 → tie.Start
 start c = c.before.before.before
 
 returns : tie.Need-returns
-returns c = says-false (λ m. omega (arith, m.one_in.from, m.one_in.below, m.other-in.from, m.other-in.below))
+returns c = says_false (λ m. omega (arith, m.one_in.from, m.one_in.below, m.other_in.from, m.other_in.below))
 
 rem-behind : tie.Need-nonzero-rem-behind
 rem-behind c = rw c.power.ensures (pow_pos c.before.smaller2.result)
@@ -20,11 +20,11 @@ returns-2 c =
     let lines = c.before.smaller2 in
     let a = (start c.before).args in
     rw c.power.ensures
-    (meet-says (record { base = a.base; count = a.count; lines = a.lines }) (record { base = a.base2; count = a.count2; lines = a.lines2 })
+    (meet_says (record { base = a.base; count = a.count; lines = a.lines }) (record { base = a.base2; count = a.count2; lines = a.lines2 })
     lines.result lines.ensures (omega arith) (omega arith) (omega arith) (omega arith))
 
 pub meets-spec : {M : Type 1} → Rattle.io_ranges.proofs.meets.Statement.statement M
 meets-spec =
     tie.close
-    (tie.spec (λ c κs. search needs) returns (λ c κs. search needs) (λ c κs. search needs) (λ c. search needs) (λ c. search needs)
-    (λ c. search needs) (λ c. search needs) rem-behind (λ c. search needs) (λ c. search needs) returns-2)
+    (tie.spec (λ c κs. search rules) returns (λ c κs. search rules) (λ c κs. search rules) (λ c. search rules) (λ c. search rules)
+    (λ c. search rules) (λ c. search rules) rem-behind (λ c. search rules) (λ c. search rules) returns-2)

@@ -1,11 +1,11 @@
 -- `io_ranges::overlaps` meets its contract: the later base is a port of both, or there is none.
 -- Assumes nothing.
-use Rattle.facts.proofs.Words.{arith, needs, ltb-true, ltb-false}
-use Rattle.facts.proofs.{says-false}
+use Rattle.facts.proofs.Words.{arith, rules, ltb-true, ltb-false}
+use Rattle.facts.proofs.{says_false}
 use Rattle.io_ranges.proofs.overlaps.Tie as tie
 
 returns : tie.Need-returns
-returns c = says-false (λ x. omega (arith, x.other.from, x.other.below))
+returns c = says_false (λ x. omega (arith, x.other.from, x.other.below))
 
 returns-2 : tie.Need-returns-2
 returns-2 c =
@@ -19,7 +19,7 @@ returns-2 c =
     }
 
 returns-3 : tie.Need-returns-3
-returns-3 c = says-false (λ x. omega (arith, x.one.from, x.one.below))
+returns-3 c = says_false (λ x. omega (arith, x.one.from, x.one.below))
 
 returns-4 : tie.Need-returns-4
 returns-4 c =
@@ -33,4 +33,4 @@ returns-4 c =
     }
 
 pub overlaps-spec : {M : Type 1} → Rattle.io_ranges.proofs.overlaps.Statement.statement M
-overlaps-spec = tie.close (tie.spec returns (λ c. search needs) returns-2 returns-3 returns-4)
+overlaps-spec = tie.close (tie.spec returns (λ c. search rules) returns-2 returns-3 returns-4)

@@ -1,6 +1,6 @@
 -- `io_services::settle` meets its contract: the grant is entered, or nothing is done.
 -- Assumes nothing.
-use Rattle.facts.proofs.Words.{refl, needs}
+use Rattle.facts.proofs.Words.{refl, rules}
 use Rattle.io_services.proofs.settle.Tie as tie
 
 -- where the call began
@@ -25,4 +25,4 @@ returns-2 c = rw c.before.taken2.given.1 (refl, refl, refl, refl)
 pub settle-spec : {M : Type 1} → Rattle.io_services.proofs.settle.Statement.statement M
 settle-spec =
     tie.close
-    (tie.spec (λ c. search needs) enter-asked-requires (λ c. search needs) (λ c. search needs) (λ c. search needs) returns returns-2)
+    (tie.spec (λ c. search rules) enter-asked-requires (λ c. search rules) (λ c. search rules) (λ c. search rules) returns returns-2)

@@ -2,13 +2,13 @@
 -- Assumes nothing.
 use Rattle.facts.proofs.Words.{◌-◌, arith, now}
 use Rattle.facts.specs.{InTheWayAt}
-use Rattle.layout.specs.{factsIn}
-use Rattle.table_read.proofs.{so-far-none, NoneYet, none-next}
-use Rattle.io_way.proofs.{lowest-found, none_found}
+use Rattle.layout.specs.{facts_in}
+use Rattle.table_read.proofs.{so_far_none, NoneYet, none_next}
+use Rattle.io_way.proofs.{lowest_found, none_found}
 use Rattle.io_way.proofs.lowest.Tie as tie
 
 abbrev invariant-loop : tie.invariant-loop
-invariant-loop t asked end s₀ s = NoneYet end (InTheWayAt (factsIn t) asked) s
+invariant-loop t asked end s₀ s = NoneYet end (InTheWayAt (facts_in t) asked) s
 
 abbrev decreases-loop : tie.decreases-loop
 decreases-loop t asked end s₀ s = end - s
@@ -24,10 +24,10 @@ returns : tie.Need-returns invariant-loop decreases-loop
 returns c =
     let k = c.before.before.before in
     let a = (start k).args in
-    lowest-found (now a.t) a.asked a.end k.loop.s k.loop.invariant (omega arith) (c.before.stands.ensures.holds c.if1.true)
+    lowest_found (now a.t) a.asked a.end k.loop.s k.loop.invariant (omega arith) (c.before.stands.ensures.holds c.if1.true)
 
 loop-again : tie.Need-loop-preserved invariant-loop decreases-loop
-loop-again c = none-next c.before.before.before.loop.invariant (omega arith) c.before.stands.ensures c.if1.false
+loop-again c = none_next c.before.before.before.loop.invariant (omega arith) c.before.stands.ensures c.if1.false
 
 returns-2 : tie.Need-returns-2 invariant-loop decreases-loop
 returns-2 c =
@@ -38,4 +38,4 @@ returns-2 c =
 pub lowest-spec : {M : Type 1} → Rattle.io_way.proofs.lowest.Statement.statement M
 lowest-spec =
     tie.close
-    (tie.spec invariant-loop decreases-loop (λ c. so-far-none) stands-requires returns (λ c. omega arith) (λ c. omega arith) loop-again returns-2)
+    (tie.spec invariant-loop decreases-loop (λ c. so_far_none) stands-requires returns (λ c. omega arith) (λ c. omega arith) loop-again returns-2)

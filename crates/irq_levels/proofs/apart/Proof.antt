@@ -1,6 +1,6 @@
 -- `irq_levels::apart` meets its contract: each arm gives the set of its own manner.
 -- Assumes nothing.
-use Rattle.facts.proofs.Words.{needs}
+use Rattle.facts.proofs.Words.{rules}
 use Rattle.irq_levels.proofs.apart.Tie as tie
 
 returns : tie.Need-returns
@@ -18,5 +18,5 @@ returns-4 c = rw c.before.enum-told4.given.1 c.row-apart4.ensures
 pub apart-spec : {M : Type 1} → Rattle.irq_levels.proofs.apart.Statement.statement M
 apart-spec =
     tie.close
-    (tie.spec (λ c. search needs) (λ c κs. search needs) (λ c. search needs) (λ c κs. search needs) (λ c. search needs) (λ c κs. search needs)
-    (λ c. search needs) (λ c κs. search needs) returns returns-2 returns-3 returns-4)
+    (tie.spec (λ c. search rules) (λ c κs. search rules) (λ c. search rules) (λ c κs. search rules) (λ c. search rules) (λ c κs. search rules)
+    (λ c. search rules) (λ c κs. search rules) returns returns-2 returns-3 returns-4)

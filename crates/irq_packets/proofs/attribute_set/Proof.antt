@@ -1,6 +1,6 @@
 -- `irq_packets::attribute_set` meets its contract: a bit of the attributes.
 -- Assumes nothing.
-use Rattle.facts.proofs.Words.{◌≡◌, subst, ℕ, needs, Says}
+use Rattle.facts.proofs.Words.{◌≡◌, subst, ℕ, rules, Says}
 use Rattle.facts.specs.{bit}
 use Rattle.irq_packets.proofs.attribute_set.Tie as tie
 
@@ -10,4 +10,4 @@ returns c =
     c.is_set.ensures
 
 pub attribute-set-spec : {M : Type 1} → Rattle.irq_packets.proofs.attribute_set.Statement.statement M
-attribute-set-spec = tie.close (tie.spec (λ c κs. search needs) (λ c κs. search needs) returns)
+attribute-set-spec = tie.close (tie.spec (λ c κs. search rules) (λ c κs. search rules) returns)

@@ -1,7 +1,7 @@
 -- `irq_packets::attributes_asked` meets its contract: one of the five clauses holds, or none.
 -- Assumes nothing.
-use Rattle.facts.proofs.Words.{sym, ◌∙◌, inl, inr, arith, List, ℕ, now, needs}
-use Rattle.irq_packets.proofs.{attributes-good}
+use Rattle.facts.proofs.Words.{sym, ◌∙◌, inl, inr, arith, List, ℕ, now, rules}
+use Rattle.irq_packets.proofs.{attributes_good}
 use Rattle.irq_packets.proofs.attributes_asked.Tie as tie
 
 -- the packet
@@ -29,12 +29,12 @@ returns-6 c =
     let first = forced.before.before in
     let over = first.before.before in
     let type = over.before.before in
-    attributes-good (packet type.before) (λ e. type.if1.false (type.before.type-asked.ensures ∙ e)) (λ l. omega (arith, over.before.word.ensures.0, over.if2.false))
+    attributes_good (packet type.before) (λ e. type.if1.false (type.before.type-asked.ensures ∙ e)) (λ l. omega (arith, over.before.word.ensures.0, over.if2.false))
     (first.before.first-exclusive.ensures.fails first.if3.false) (forced.before.forced-unable.ensures.fails forced.if4.false)
     (c.before.dynamic-unable.ensures.fails c.if5.false)
 
 pub attributes-asked-spec : {M : Type 1} → Rattle.irq_packets.proofs.attributes_asked.Statement.statement M
 attributes-asked-spec =
     tie.close
-    (tie.spec (λ c κs. search needs) returns (λ c κs. search needs) returns-2 (λ c κs. search needs) returns-3 (λ c κs. search needs) returns-4
-    (λ c κs. search needs) returns-5 returns-6)
+    (tie.spec (λ c κs. search rules) returns (λ c κs. search rules) returns-2 (λ c κs. search rules) returns-3 (λ c κs. search rules) returns-4
+    (λ c κs. search rules) returns-5 returns-6)

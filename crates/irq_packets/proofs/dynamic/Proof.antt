@@ -1,8 +1,8 @@
 -- `irq_packets::dynamic` meets its contract: each answer is the rule's.
 -- Assumes nothing.
-use Rattle.facts.proofs.Words.{List, ℕ, now, needs}
-use Rattle.facts.specs.{bit, attributesOf, info1}
-use Rattle.irq_packets.proofs.{forced, with-level, without-level}
+use Rattle.facts.proofs.Words.{List, ℕ, now, rules}
+use Rattle.facts.specs.{bit, attributes_of, info1}
+use Rattle.irq_packets.proofs.{forced, with_level_lem, without_level}
 use Rattle.irq_packets.proofs.dynamic.Tie as tie
 
 -- the packet's two bits
@@ -10,7 +10,7 @@ abbrev packet : tie.After-attribute-set → List ℕ
 packet c = now c.before.before.args.p
 
 abbrev force : tie.After-attribute-set → ℕ
-force c = bit (attributesOf (packet c)) 2
+force c = bit (attributes_of (packet c)) 2
 
 abbrev level : tie.After-attribute-set → ℕ
 level c = bit (info1 (packet c)) 5
@@ -22,14 +22,14 @@ returns-2 : tie.Need-returns-2
 returns-2 c =
     let one = c.before.before in
     let b = one.before in
-    with-level (force b) (level b) (b.attribute-set.ensures.fails one.if1.false) (c.before.info-set.ensures.holds c.if2.true)
+    with_level_lem (force b) (level b) (b.attribute-set.ensures.fails one.if1.false) (c.before.info-set.ensures.holds c.if2.true)
 
 returns-3 : tie.Need-returns-3
 returns-3 c =
     let one = c.before.before in
     let b = one.before in
-    without-level (force b) (level b) (b.attribute-set.ensures.fails one.if1.false) (c.before.info-set.ensures.fails c.if2.false)
+    without_level (force b) (level b) (b.attribute-set.ensures.fails one.if1.false) (c.before.info-set.ensures.fails c.if2.false)
 
 pub dynamic-spec : {M : Type 1} → Rattle.irq_packets.proofs.dynamic.Statement.statement M
 dynamic-spec =
-    tie.close (tie.spec (λ c κs. search needs) returns (λ c κs. search needs) returns-2 returns-3)
+    tie.close (tie.spec (λ c κs. search rules) returns (λ c κs. search rules) returns-2 returns-3)

@@ -1,7 +1,7 @@
 -- `irq_packets::info_asked` meets its contract: one of the three clauses holds, or none.
 -- Assumes nothing.
-use Rattle.facts.proofs.Words.{inl, inr, List, ℕ, now, needs}
-use Rattle.irq_packets.proofs.{info-good}
+use Rattle.facts.proofs.Words.{inl, inr, List, ℕ, now, rules}
+use Rattle.irq_packets.proofs.{info_good}
 use Rattle.irq_packets.proofs.info_asked.Tie as tie
 
 -- the packet
@@ -21,10 +21,10 @@ returns-4 : tie.Need-returns-4
 returns-4 c =
     let level = c.before.before in
     let neither = level.before.before in
-    info-good (packet neither.before) (neither.before.neither.ensures.fails neither.if1.false) (level.before.mask-and-level.ensures.fails level.if2.false)
+    info_good (packet neither.before) (neither.before.neither.ensures.fails neither.if1.false) (level.before.mask-and-level.ensures.fails level.if2.false)
     (c.before.mask-of-none.ensures.fails c.if3.false)
 
 pub info-asked-spec : {M : Type 1} → Rattle.irq_packets.proofs.info_asked.Statement.statement M
 info-asked-spec =
     tie.close
-    (tie.spec (λ c κs. search needs) returns (λ c κs. search needs) returns-2 (λ c κs. search needs) returns-3 returns-4)
+    (tie.spec (λ c κs. search rules) returns (λ c κs. search rules) returns-2 (λ c κs. search rules) returns-3 returns-4)

@@ -1,13 +1,13 @@
 -- `irq_sharers::count` meets its contract: the grants at the seats passed are counted.
 -- Assumes nothing.
 use Rattle.facts.proofs.Words.{◌≡◌, refl, ap, ◌∙◌, ◌-◌, ◌≤◌, arith, now}
-use Rattle.facts.specs.{sharersBelow}
-use Rattle.layout.specs.{socketsIn, factsIn}
-use Rattle.irq_sharers.proofs.{sharers-more}
+use Rattle.facts.specs.{sharers_below}
+use Rattle.layout.specs.{sockets_in, facts_in}
+use Rattle.irq_sharers.proofs.{sharers_more}
 use Rattle.irq_sharers.proofs.count.Tie as tie
 
 abbrev invariant-loop : tie.invariant-loop
-invariant-loop t level sockets n₀ s₀ n s = (s ≤ sockets) × (n ≡ sharersBelow (factsIn t) level s) × (n ≤ s)
+invariant-loop t level sockets n₀ s₀ n s = (s ≤ sockets) × (n ≡ sharers_below (facts_in t) level s) × (n ≤ s)
 
 abbrev decreases-loop : tie.decreases-loop
 decreases-loop t level sockets n₀ s₀ n s = sockets - s
@@ -33,7 +33,7 @@ loop-again c =
     let at = (looped c).loop in
     let a = (start (looped c).before).args in (
       omega arith,
-      sharers-more (factsIn (now a.t)) a.level at.s at.n c.sharer.result at.inv.1 c.sharer.ensures.0,
+      sharers_more (facts_in (now a.t)) a.level at.s at.n c.sharer.result at.inv.1 c.sharer.ensures.0,
       omega (arith, at.inv.2, c.sharer.ensures.1),
     )
 
@@ -41,8 +41,8 @@ returns : tie.Need-returns invariant-loop decreases-loop
 returns c =
     let at = c.before.loop in
     let a = (start c.before.before).args in
-    let all : at.s ≡ socketsIn (now a.t) = omega (arith, c.before.before.byte.ensures.0) in
-    (at.invariant.1 ∙ ap (sharersBelow (factsIn (now a.t)) a.level) all, omega (arith, at.invariant.2, c.before.before.byte.ensures.0))
+    let all : at.s ≡ sockets_in (now a.t) = omega (arith, c.before.before.byte.ensures.0) in
+    (at.invariant.1 ∙ ap (sharers_below (facts_in (now a.t)) a.level) all, omega (arith, at.invariant.2, c.before.before.byte.ensures.0))
 
 pub count_spec : {M : Type 1} → Rattle.irq_sharers.proofs.count.Statement.statement M
 count_spec =

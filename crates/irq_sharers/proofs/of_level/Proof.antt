@@ -1,12 +1,12 @@
 -- `irq_sharers::of_level` meets its contract: the level is one of a table's, or not.
 -- Assumes nothing.
-use Rattle.facts.proofs.Words.{◌≡◌, subst, List, ℕ, arith, needs, now}
-use Rattle.layout.proofs.{size_in, sockets-in}
+use Rattle.facts.proofs.Words.{◌≡◌, subst, List, ℕ, arith, rules, now}
+use Rattle.layout.proofs.{size_in, sockets_in_lem}
 use Rattle.irq_levels.specs.declared.LevelNumber.TheVariants.{Below}
 use Rattle.irq_levels.specs.{LevelIs}
-use Rattle.facts.specs.{sharersBelow}
-use Rattle.layout.specs.{socketsIn, factsIn}
-use Rattle.irq_sharers.proofs.{sharers-past, sharers-done}
+use Rattle.facts.specs.{sharers_below}
+use Rattle.layout.specs.{sockets_in, facts_in}
+use Rattle.irq_sharers.proofs.{sharers_past, sharers_done}
 use Rattle.irq_sharers.proofs.of_level.Tie as tie
 
 -- where the call began, and its table
@@ -28,7 +28,7 @@ returns c =
     let asked = c.before.before in
     let s = start asked in (
       s.pre,
-      sharers-past (table asked) s.pre s.args.level
+      sharers_past (table asked) s.pre s.args.level
           (subst (LevelIs s.args.level) c.enum_told.given.1 asked.below-levels.ensures),
     )
 
@@ -36,7 +36,7 @@ count-requires : tie.Need-count-requires
 count-requires c κs =
     let s = start (asked c) in
     let b = table (asked c) in
-    (size_in b s.pre, omega (arith, sockets-in b s.pre, s.pre.formed.sockets-most))
+    (size_in b s.pre, omega (arith, sockets_in_lem b s.pre, s.pre.formed.sockets_most))
 
 returns-2 : tie.Need-returns-2
 returns-2 c =
@@ -44,11 +44,11 @@ returns-2 c =
     let s = start (asked c.before) in
     let b = table (asked c.before) in (
       s.pre,
-      sharers-done b s.pre s.args.level c.count.result l.1
-          (subst (λ (n : ℕ). c.count.result ≡ sharersBelow (factsIn b) n (socketsIn b)) l.0 c.count.ensures.0),
+      sharers_done b s.pre s.args.level c.count.result l.1
+          (subst (λ (n : ℕ). c.count.result ≡ sharers_below (facts_in b) n (sockets_in b)) l.0 c.count.ensures.0),
     )
 
 pub of-level-spec : {M : Type 1} → Rattle.irq_sharers.proofs.of_level.Statement.statement M
 of-level-spec =
     tie.close
-    (tie.spec (λ c κs. search needs) (λ c. search needs) (λ c. search needs) returns count-requires (λ c. search needs) returns-2)
+    (tie.spec (λ c κs. search rules) (λ c. search rules) (λ c. search rules) returns count-requires (λ c. search rules) returns-2)

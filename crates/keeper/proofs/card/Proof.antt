@@ -1,9 +1,9 @@
 -- `keeper::card` meets its contract: the table is not well formed, or the rule of card in and card out holds.
 -- Assumes nothing.
-use Rattle.facts.proofs.Words.{subst, List, inl, ℕ, needs, now}
+use Rattle.facts.proofs.Words.{subst, List, inl, ℕ, rules, now}
 use Rattle.layout.specs.{Accepted}
 use Rattle.table_test.specs.{LoadedIs}
-use Rattle.keeper.proofs.{card-unformed}
+use Rattle.keeper.proofs.{card_unformed}
 use Rattle.keeper.proofs.card.Tie as tie
 
 -- where the call began, and its table
@@ -24,7 +24,7 @@ unformed c = subst (LoadedIs (table c.before.before)) c.enum-told2.given.1 c.bef
 returns : tie.Need-returns
 returns c =
     let loaded = c.before.before.before in
-    card-unformed (table loaded) (unformed c.before) (start loaded).args.present (start loaded).args.socket.0 c.unformed.result
+    card_unformed (table loaded) (unformed c.before) (start loaded).args.present (start loaded).args.socket.0 c.unformed.result
     c.unformed.ensures
 
 returns-2 : tie.Need-returns-2
@@ -35,5 +35,5 @@ returns-2 c =
 pub card-spec : {M : Type 1} → Rattle.keeper.proofs.card.Statement.statement M
 card-spec =
     tie.close
-    (tie.spec (λ c κs. search needs) (λ c. search needs) (λ c. search needs) (λ c κs. search needs) (λ c. search needs) returns
-    (λ c κs. formed c.before) (λ c κs. search needs) (λ c. search needs) returns-2)
+    (tie.spec (λ c κs. search rules) (λ c. search rules) (λ c. search rules) (λ c κs. search rules) (λ c. search rules) returns
+    (λ c κs. formed c.before) (λ c κs. search rules) (λ c. search rules) returns-2)

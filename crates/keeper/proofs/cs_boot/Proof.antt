@@ -1,9 +1,9 @@
 -- `keeper::cs_boot` meets its contract: the table is not well formed, or the list's rule rules.
 -- Assumes nothing.
-use Rattle.facts.proofs.Words.{subst, List, ℕ, needs, now}
+use Rattle.facts.proofs.Words.{subst, List, ℕ, rules, now}
 use Rattle.layout.specs.{Accepted}
 use Rattle.table_test.specs.{LoadedIs}
-use Rattle.keeper.proofs.{boot-unformed, boots, low-place}
+use Rattle.keeper.proofs.{boot_unformed, boots, low_place}
 use Rattle.keeper.proofs.cs_boot.Tie as tie
 
 -- where the call began, its table and its list
@@ -37,13 +37,13 @@ loaded c = (told c).before.before
 returns : tie.Need-returns
 returns c =
     let k = c.before.before.before in
-    boot-unformed (table k) (unformed c.before) (list k) c.pack.result c.pack.ensures
+    boot_unformed (table k) (unformed c.before) (list k) c.pack.result c.pack.ensures
 
 pack-requires-2 : tie.Need-pack-requires-2
 pack-requires-2 c κs =
     let walked = c.before.before in
     let k = loaded walked in
-    low-place (list k) (table k) walked.boot.new.0 walked.boot.result walked.boot.ensures
+    low_place (list k) (table k) walked.boot.new.0 walked.boot.result walked.boot.ensures
 
 returns-2 : tie.Need-returns-2
 returns-2 c =
@@ -54,5 +54,5 @@ returns-2 c =
 pub cs-boot-spec : {M : Type 1} → Rattle.keeper.proofs.cs_boot.Statement.statement M
 cs-boot-spec =
     tie.close
-    (tie.spec (λ c κs. search needs) (λ c. search needs) (λ c. search needs) (λ c κs. search needs) (λ c. search needs) returns
-    (λ c κs. formed c.before) pack-requires-2 (λ c. search needs) returns-2)
+    (tie.spec (λ c κs. search rules) (λ c. search rules) (λ c. search rules) (λ c κs. search rules) (λ c. search rules) returns
+    (λ c κs. formed c.before) pack-requires-2 (λ c. search rules) returns-2)

@@ -1,8 +1,8 @@
 -- `keeper::cs_fresh` meets its contract: the buffer and the count are allowed, or not.
 -- Assumes nothing.
-use Rattle.facts.proofs.Words.{◌≡◌, refl, ap, subst, ◌∙◌, inl, inr, ⊎_elim, List, ℕ, arith, needs, length, now}
+use Rattle.facts.proofs.Words.{◌≡◌, refl, ap, subst, ◌∙◌, inl, inr, ⊎_elim, List, ℕ, arith, rules, length, now}
 use Rattle.facts.specs.{fresh}
-use Rattle.layout.specs.{image, tableSize}
+use Rattle.layout.specs.{image, table_size}
 use Rattle.service_checks.specs.{SizeIs}
 use Rattle.socket_cards.specs.declared.SocketCount.TheVariants.{Allowed}
 use Rattle.socket_cards.specs.{SocketsAre}
@@ -20,8 +20,8 @@ table c = now (start c).args.table
 abbrev checked : tie.After-socket-count → tie.After-sized
 checked c = c.before.before.before
 
-right : (c : tie.After-enum-told) → length (table c.before.before) ≡ tableSize
-right c = subst (SizeIs (table c.before.before) tableSize) c.enum_told.given.1 c.before.before.sized.ensures
+right : (c : tie.After-enum-told) → length (table c.before.before) ≡ table_size
+right c = subst (SizeIs (table c.before.before) table_size) c.enum_told.given.1 c.before.before.sized.ensures
 
 -- the count is allowed
 abbrev counted : tie.After-known-told → tie.After-socket-count
@@ -37,7 +37,7 @@ returns : tie.Need-returns
 returns c =
     let sized = c.before.before.before in
     inr (
-      (λ f. subst (SizeIs (table sized) tableSize) c.before.enum-told2.given.1 sized.sized.ensures f.size),
+      (λ f. subst (SizeIs (table sized) table_size) c.before.enum-told2.given.1 sized.sized.ensures f.size),
       c.unformed.ensures,
       refl,
     )
@@ -57,6 +57,6 @@ returns-3 c =
 pub cs-fresh-spec : {M : Type 1} → Rattle.keeper.proofs.cs_fresh.Statement.statement M
 cs-fresh-spec =
     tie.close
-    (tie.spec (λ c κs. search needs) (λ c. search needs) (λ c. search needs) (λ c κs. search needs) (λ c. search needs) returns
-    (λ c κs. search needs) (λ c. search needs) (λ c. search needs) (λ c κs. search needs) (λ c. search needs) returns-2
-    (λ c κs. right (counted c.before).before) (λ c κs. search needs) (λ c. search needs) returns-3)
+    (tie.spec (λ c κs. search rules) (λ c. search rules) (λ c. search rules) (λ c κs. search rules) (λ c. search rules) returns
+    (λ c κs. search rules) (λ c. search rules) (λ c. search rules) (λ c κs. search rules) (λ c. search rules) returns-2
+    (λ c κs. right (counted c.before).before) (λ c κs. search rules) (λ c. search rules) returns-3)

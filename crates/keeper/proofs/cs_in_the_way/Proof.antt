@@ -1,11 +1,11 @@
 -- `keeper::cs_in_the_way` meets its contract: the table is not well formed, or the rule of the question holds.
 -- Assumes nothing.
-use Rattle.facts.proofs.Words.{subst, List, inl, ℕ, needs, now}
+use Rattle.facts.proofs.Words.{subst, List, inl, ℕ, rules, now}
 use Rattle.layout.specs.{Accepted}
 use Rattle.table_test.specs.{LoadedIs}
 use Rattle.io_question.specs.{answer_of}
-use Rattle.io_question.proofs.{socket-low}
-use Rattle.keeper.proofs.{way-unformed}
+use Rattle.io_question.proofs.{socket_low}
+use Rattle.keeper.proofs.{way_unformed}
 use Rattle.keeper.proofs.cs_in_the_way.Tie as tie
 
 -- where the call began, and its table
@@ -27,7 +27,7 @@ returns : tie.Need-returns
 returns c =
     let loaded = c.before.before.before in
     let a = (start loaded).args in
-    way-unformed (table loaded) (unformed c.before) a.handle (now a.packet) c.unformed.result c.unformed.ensures
+    way_unformed (table loaded) (unformed c.before) a.handle (now a.packet) c.unformed.result c.unformed.ensures
 
 returns-2 : tie.Need-returns-2
 returns-2 c =
@@ -37,5 +37,5 @@ returns-2 c =
 pub cs-in-the-way-spec : {M : Type 1} → Rattle.keeper.proofs.cs_in_the_way.Statement.statement M
 cs-in-the-way-spec =
     tie.close
-    (tie.spec (λ c κs. search needs) (λ c. search needs) (λ c. search needs) (λ c κs. search needs) returns (λ c κs. formed c)
-    (λ c κs. socket-low _ _ _ c.ask.result c.ask.ensures) returns-2)
+    (tie.spec (λ c κs. search rules) (λ c. search rules) (λ c. search rules) (λ c κs. search rules) returns (λ c κs. formed c)
+    (λ c κs. socket_low _ _ _ c.ask.result c.ask.ensures) returns-2)

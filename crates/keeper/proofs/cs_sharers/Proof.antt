@@ -1,10 +1,10 @@
 -- `keeper::cs_sharers` meets its contract: the table is not well formed, or the rule of sharers holds.
 -- Assumes nothing.
-use Rattle.facts.proofs.Words.{subst, List, inl, ℕ, needs, now}
+use Rattle.facts.proofs.Words.{subst, List, inl, ℕ, rules, now}
 use Rattle.layout.specs.{Accepted}
 use Rattle.table_test.specs.{LoadedIs}
 use Rattle.irq_sharers.specs.{count_of}
-use Rattle.keeper.proofs.{sharers-unformed}
+use Rattle.keeper.proofs.{sharers_unformed}
 use Rattle.keeper.proofs.cs_sharers.Tie as tie
 
 -- where the call began, and its table
@@ -25,7 +25,7 @@ unformed c = subst (LoadedIs (table c.before.before)) c.enum-told2.given.1 c.bef
 returns : tie.Need-returns
 returns c =
     let loaded = c.before.before.before in
-    sharers-unformed (table loaded) (unformed c.before) (start loaded).args.level c.unformed.result c.unformed.ensures
+    sharers_unformed (table loaded) (unformed c.before) (start loaded).args.level c.unformed.result c.unformed.ensures
 
 returns-2 : tie.Need-returns-2
 returns-2 c =
@@ -35,5 +35,5 @@ returns-2 c =
 pub cs-sharers-spec : {M : Type 1} → Rattle.keeper.proofs.cs_sharers.Statement.statement M
 cs-sharers-spec =
     tie.close
-    (tie.spec (λ c κs. search needs) (λ c. search needs) (λ c. search needs) (λ c κs. search needs) returns (λ c κs. formed c) (λ c κs. search needs)
+    (tie.spec (λ c κs. search rules) (λ c. search rules) (λ c. search rules) (λ c κs. search rules) returns (λ c κs. formed c) (λ c κs. search rules)
     returns-2)

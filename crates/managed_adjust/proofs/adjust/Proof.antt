@@ -1,10 +1,10 @@
 -- `managed_adjust::adjust` meets its contract: the head is refused, or the resource rules.
 -- Assumes nothing.
-use Rattle.facts.proofs.Words.{subst, inl, ℕ, arith, needs, now}
+use Rattle.facts.proofs.Words.{subst, inl, ℕ, arith, rules, now}
 use Rattle.managed_packets.specs.{NamesBoth}
-use Rattle.facts.proofs.{three-or-four}
+use Rattle.facts.proofs.{three_or_four}
 use Rattle.managed_adjust.specs.{Reached}
-use Rattle.managed_adjust.proofs.{too_short, action-over, not-built, resource-over}
+use Rattle.managed_adjust.proofs.{too_short, action_over, not_built, resource_over}
 use Rattle.managed_adjust.proofs.adjust.Tie as tie
 
 -- where the call began
@@ -44,22 +44,22 @@ adjust-irq-requires c κs =
 returns-4 : tie.Need-returns-4
 returns-4 c =
     let one = c.before.before in
-    resource-over (begun one.before).requires (reached one) (omega (arith, c.if2.false, c.before.match2.rest))
+    resource_over (begun one.before).requires (reached one) (omega (arith, c.if2.false, c.before.match2.rest))
 
 returns-5 : tie.Need-returns-5
-returns-5 c = let one = c.before in not-built (begun one.before).requires (reached one) (inl c.match2.keys3)
+returns-5 c = let one = c.before in not_built (begun one.before).requires (reached one) (inl c.match2.keys3)
 
 returns-6 : tie.Need-returns-6
 returns-6 c =
     let one = c.before.before in
-    not-built (begun one.before).requires (reached one) (three-or-four _ (omega (arith, c.if2.true)) (omega (arith, c.if2.true)))
+    not_built (begun one.before).requires (reached one) (three_or_four _ (omega (arith, c.if2.true)) (omega (arith, c.if2.true)))
 
 returns-7 : tie.Need-returns-7
-returns-7 c = action-over (begun c.before).requires (names c.before) (omega (arith, c.if1.false))
+returns-7 c = action_over (begun c.before).requires (names c.before) (omega (arith, c.if1.false))
 
 pub adjust-spec : {M : Type 1} → Rattle.managed_adjust.proofs.adjust.Statement.statement M
 adjust-spec =
     tie.close
-    (tie.spec (λ c κs. search needs) (λ c. search needs) (λ c. search needs) (λ c. search needs) returns adjust-io-requires adjust-irq-requires
-    (λ c. search needs) (λ c. search needs) (λ c. search needs) (λ c. search needs) (λ c. search needs) (λ c. search needs) (λ c. search needs)
-    returns-4 (λ c. search needs) returns-5 (λ c. search needs) returns-6 (λ c. search needs) returns-7)
+    (tie.spec (λ c κs. search rules) (λ c. search rules) (λ c. search rules) (λ c. search rules) returns adjust-io-requires adjust-irq-requires
+    (λ c. search rules) (λ c. search rules) (λ c. search rules) (λ c. search rules) (λ c. search rules) (λ c. search rules) (λ c. search rules)
+    returns-4 (λ c. search rules) returns-5 (λ c. search rules) returns-6 (λ c. search rules) returns-7)

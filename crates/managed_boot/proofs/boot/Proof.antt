@@ -1,15 +1,15 @@
 -- `managed_boot::boot` meets its contract. The invariant: the walk has come to a place, and what the rest of the list permits from there is the rule's.
 -- Assumes nothing.
-use Rattle.facts.proofs.Words.{◌≡◌, refl, List, ℕ, ◌+◌, ◌*◌, ◌-◌, ◌≤◌, arith, needs, length, drop, now}
-use Rattle.facts.specs.{recordSize, recordsOf, end_of}
+use Rattle.facts.proofs.Words.{◌≡◌, refl, List, ℕ, ◌+◌, ◌*◌, ◌-◌, ◌≤◌, arith, rules, length, drop, now}
+use Rattle.facts.specs.{record_size, records_of, end_of}
 use Rattle.managed_boot.specs.declared.Booted.TheVariants.{Stopped}
 use Rattle.managed_boot.specs.{Boots}
-use Rattle.managed_boot.proofs.{Walked, walked_none, walked-length, ends-length, bytes-all, bytes-broken, bytes-more, bytes-stopped}
+use Rattle.managed_boot.proofs.{Walked, walked_none, walked_length, ends_length, bytes_all, bytes_broken, bytes_more, bytes_stopped}
 use Rattle.managed_boot.proofs.boot.Tie as tie
 
 abbrev invariant-loop : tie.invariant-loop
 invariant-loop t₀ records bytes first₀ at₀ t first at =
-    (at ≤ length records) × (at ≡ first * recordSize) × Walked (end_of records) (recordsOf records) t₀ t first (recordsOf (drop at records))
+    (at ≤ length records) × (at ≡ first * record_size) × Walked (end_of records) (records_of records) t₀ t first (records_of (drop at records))
 
 abbrev decreases-loop : tie.decreases-loop
 decreases-loop t₀ records bytes first₀ at₀ t first at = bytes - at
@@ -25,7 +25,7 @@ list c = now (start c).args.records
 abbrev turn : tie.After-next invariant-loop decreases-loop → tie.At-loop invariant-loop decreases-loop
 turn c = c.before.before
 
-full : (c : tie.After-next invariant-loop decreases-loop) → (turn c).loop.at + c.next.result * recordSize ≤ length (list (turn c))
+full : (c : tie.After-next invariant-loop decreases-loop) → (turn c).loop.at + c.next.result * record_size ≤ length (list (turn c))
 full c = omega (arith, c.next.ensures, (turn c).loop.invariant.0)
 
 -- they are lent
@@ -48,7 +48,7 @@ refusal : (c : tie.After-known-told invariant-loop decreases-loop)
 refusal c =
     let known = c.before.before.before in
     let k = asked known in
-    bytes-stopped (list (turn k)) (turn k).loop.at (turn k).loop.inv.2 k.next.result (full k)
+    bytes_stopped (list (turn k)) (turn k).loop.at (turn k).loop.inv.2 k.next.result (full k)
     (rw c.before.some.given.1 at known.before.before.lent.ensures)
 
 add-t14 : tie.Need-overflow-add-t14 invariant-loop decreases-loop
@@ -63,7 +63,7 @@ loop-again c =
     let l = (turn k).loop in (
       full k,
       omega (arith, l.inv.1),
-      bytes-more (list (turn k)) l.at l.inv.2 k.next.result (full k)
+      bytes_more (list (turn k)) l.at l.inv.2 k.next.result (full k)
           (rw c.enum_told.given.1 at known.before.before.lent.ensures),
     )
 
@@ -71,21 +71,21 @@ returns-2 : tie.Need-returns-2 invariant-loop decreases-loop
 returns-2 c =
     let k = c.before.before in
     let l = k.loop in
-    bytes-broken (list k) l.at l.invariant.2 l.invariant.1 c.if1.true (omega (arith, c.before.loop-test.false))
+    bytes_broken (list k) l.at l.invariant.2 l.invariant.1 c.if1.true (omega (arith, c.before.loop-test.false))
 
 returns-3 : tie.Need-returns-3 invariant-loop decreases-loop
 returns-3 c =
     let k = c.before.before in
     let l = k.loop in
-    bytes-all (list k) l.at l.invariant.2 l.invariant.1 (omega (arith, c.if1.false)) l.invariant.0
+    bytes_all (list k) l.at l.invariant.2 l.invariant.1 (omega (arith, c.if1.false)) l.invariant.0
 
 pub boot-spec : {M : Type 1} → Rattle.managed_boot.proofs.boot.Statement.statement M
 boot-spec =
     tie.close
     (tie.spec invariant-loop decreases-loop (λ c. (omega arith, refl, walked_none c.before.before.requires)) (λ c. c.loop.invariant.0) (λ c. c.before.loop.invariant.0)
-    (λ c κs. search needs) (λ c κs. ((turn c.before).loop.inv.2.here, omega (arith, c.before.next.ensures), full c.before))
-    (λ c. search needs) (λ c. search needs) add-t14 (λ c. ends-length (refusal c).1.0) (λ c. (refusal c).1)
+    (λ c κs. search rules) (λ c κs. ((turn c.before).loop.inv.2.here, omega (arith, c.before.next.ensures), full c.before))
+    (λ c. search rules) (λ c. search rules) add-t14 (λ c. ends_length (refusal c).1.0) (λ c. (refusal c).1)
     (λ c. let k = asked (done c) in omega (arith, full k, (turn k).loop.inv.1))
     (λ c. omega (arith, full (asked (done c)))) (λ c. omega (arith, full (asked (done c))))
     (λ c. let k = asked (done c) in omega (arith, full k, k.next.ensures, k.before.loop-test.taken)) loop-again
-    (λ c. walked-length c.before.before.loop.invariant.2) returns-2 (λ c. walked-length c.before.before.loop.invariant.2) returns-3)
+    (λ c. walked_length c.before.before.loop.invariant.2) returns-2 (λ c. walked_length c.before.before.loop.invariant.2) returns-3)

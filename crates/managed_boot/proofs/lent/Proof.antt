@@ -50,12 +50,12 @@ use types.Run.{look, init, forget, stop, hop, fld, from, load, of_opd, addr, and
 use types.Run.{pass0, free1, free0}
 use types.Tokens.{lft_new, lft_end, lent_back}
 use sound.WpLaws.{fm_of, WpFn-mono}
-use denote.Triple.Walked.{needs}
-use Rattle.facts.specs.{Record, recordSize, recordsIn}
+use denote.Triple.Walked.{rules}
+use Rattle.facts.specs.{Record, record_size, records_in}
 use Rattle.layout.specs.{Accepted}
 use Rattle.managed_boot.specs.declared.Booted.{Booted}
 use Rattle.managed_boot.specs.{BootsRecords, at_once}
-use Rattle.managed_boot.proofs.{several, word, tableTy, byteTy, lentTy, local, puts, free, held, bytes, Front, Others, apart, together}
+use Rattle.managed_boot.proofs.{several, word, table_ty, byte_ty, lent_ty, local, puts, free, held, bytes, Front, Others, apart, together}
 use Rattle.managed_boot.proofs.Lending.{Bytes}
 use Rattle.managed_boot.proofs.taken.Symbol.{name as #managed_boot·taken}
 use Rattle.managed_boot.proofs.walk.Symbol.{name as #managed_boot·walk}
@@ -71,11 +71,11 @@ stayed = (
 abbrev Taken : RattleType
 Taken = Array Re.the_row at_once
 
-abbrev arrayVals : List Record → List Val
-arrayVals = array_vals (LS.vals Re.the_type Re'.the_laws)
+abbrev array_vals : List Record → List Val
+array_vals = array_vals (LS.vals Re.the_type Re'.the_laws)
 
-array-is : Tells Taken (Is Taken) arrayVals
-array-is = Array-Tells Re.the_row (LS.vals Re.the_type Re'.the_laws) (LS.tells Re.the_type Re'.the_laws) at_once
+array_is : Tells Taken (Is Taken) array_vals
+array_is = Array-Tells Re.the_row (LS.vals Re.the_type Re'.the_laws) (LS.tells Re.the_type Re'.the_laws) at_once
 
 -- the contracts that the proof cites
 abbrev Walk : {M : Type 1} {𝓤 : Ura M} (𝓛 : Logic 𝓤) (mem : Memory → SProp 𝓤) (run : Routine → Fun 𝓤) → Contract 𝓤
@@ -87,7 +87,7 @@ Take 𝓛 mem run = triple_of 𝓛 taken.signature (taken.spec 𝓛 mem run)
 module _ {M : Type 1} {𝓤 : Ura M} (𝓛 : Logic 𝓤) (mem : Memory → SProp 𝓤) (run : Routine → Fun 𝓤)
     (κ κ' : Lft) (q q' : Share) (b o : ℕ) (γ : GName) (ys : List ℕ) (b' o' : ℕ) (γ' : GName) (list : List ℕ) (start n : ℕ)
     (room : Room u8 (length ys)) (room' : Room u8 (length list))
-    (start_fits : start < 2 ^ 64) (n-fits : n < 2 ^ 64) (few : n ≤ at_once) (full : start + n * recordSize ≤ length list) where
+    (start_fits : start < 2 ^ 64) (n-fits : n < 2 ^ 64) (few : n ≤ at_once) (full : start + n * record_size ≤ length list) where
   -- the table's and the list's machine values
   open 𝓛 use {H, A}
 
@@ -105,7 +105,7 @@ module _ {M : Type 1} {𝓤 : Ura M} (𝓛 : Logic 𝓤) (mem : Memory → SProp
 
   -- the records that are asked for
   abbrev asked : List Record
-  asked = recordsIn n (past_first start list)
+  asked = records_in n (past_first start list)
 
   abbrev Arg : Type 0
   Arg = Bor (List ℕ) × (Bor (List ℕ) × (ℕ × (ℕ × Unit {0})))
@@ -145,31 +145,31 @@ module _ {M : Type 1} {𝓤 : Ura M} (𝓛 : Logic 𝓤) (mem : Memory → SProp
     abbrev list_ty : Ty
     list_ty = slice_ty (ty_ref (named 1) imm (ty_int w8))
 
-    abbrev arrayTy : Ty
-    arrayTy = ty_array Re'.mir at_once
+    abbrev array_ty : Ty
+    array_ty = ty_array Re'.mir at_once
 
-    abbrev wholeTy : Ty
-    wholeTy = ty_ref erased imm (ty_array (pointee (Re.the_row).written) at_once)
+    abbrev whole_ty : Ty
+    whole_ty = ty_ref erased imm (ty_array (pointee (Re.the_row).written) at_once)
 
-    abbrev frontTy : Ty
-    frontTy = slice_ty (ty_ref erased imm (pointee (Re.the_row).written))
+    abbrev front_ty : Ty
+    front_ty = slice_ty (ty_ref erased imm (pointee (Re.the_row).written))
 
     abbrev En : Env 𝓤 H
-    En = (Bo'.mir, l₀) ∷ (tableTy, l₁) ∷ (list_ty, l₂) ∷ (word, l₃) ∷ (word, l₄) ∷ (arrayTy, l₅) ∷ (arrayTy, l₆) ∷ (byteTy, l₇) ∷ (lentTy, l₈)
-        ∷ (wholeTy, l₉) ∷ (frontTy, l₁₀) ∷ []
+    En = (Bo'.mir, l₀) ∷ (table_ty, l₁) ∷ (list_ty, l₂) ∷ (word, l₃) ∷ (word, l₄) ∷ (array_ty, l₅) ∷ (array_ty, l₆) ∷ (byte_ty, l₇) ∷ (lent_ty, l₈)
+        ∷ (whole_ty, l₉) ∷ (front_ty, l₁₀) ∷ []
 
     -- the locals of the parameters, and what is had
     abbrev Fixed : List (Item 𝓤)
-    Fixed = held word l₄ (vint w64 n) (held word l₃ (vint w64 start) (held list_ty l₂ s' (held tableTy l₁ s (free Bo'.mir l₀
+    Fixed = held word l₄ (vint w64 n) (held word l₃ (vint w64 start) (held list_ty l₂ s' (held table_ty l₁ s (free Bo'.mir l₀
         (‵ (flft κ q) ∷ ‵ (flft κ' q') ∷ ‵ (Bytes b o κ γ ys) ∷ ‵ List' ∷ [])))))
 
     -- after `taken`, and before `walk`: the slice of the first n records, and the table's
     abbrev Filled : Val → List (Item 𝓤)
-    Filled v = free frontTy l₁₀ (free wholeTy l₉ (free lentTy l₈ (free byteTy l₇ (held arrayTy l₆ v (free arrayTy l₅ Fixed)))))
+    Filled v = free front_ty l₁₀ (free whole_ty l₉ (free lent_ty l₈ (free byte_ty l₇ (held array_ty l₆ v (free array_ty l₅ Fixed)))))
 
     abbrev Ready : Val → List (Item 𝓤)
-    Ready v = held frontTy l₁₀ (slice_val (l₅, 0) n) (held wholeTy l₉ (vptr l₅ 0) (held lentTy l₈ s (held byteTy l₇ (vptr b o)
-        (held arrayTy l₆ v (held arrayTy l₅ v Fixed)))))
+    Ready v = held front_ty l₁₀ (slice_val (l₅, 0) n) (held whole_ty l₉ (vptr l₅ 0) (held lent_ty l₈ s (held byte_ty l₇ (vptr b o)
+        (held array_ty l₆ v (held array_ty l₅ v Fixed)))))
 
     module _ (xs : List Record) (v : Val) (is : Is Taken xs (v ∷ [])) (are : take n xs ≡ asked) where
       -- the slice lent for the lifetime ν, under the name δ
@@ -182,12 +182,12 @@ module _ {M : Type 1} {𝓤 : Ura M} (𝓛 : Logic 𝓤) (mem : Memory → SProp
       abbrev Slice : ℕ → GName → Fml
       Slice ν δ = (ShrSlice (named 1) (ν ∷ []) Re.the_row).own_val (front δ) (s'' ∷ [])
 
-      abbrev to-walk : ℕ → GName → (Walk 𝓛 mem run).Ghost
-      to-walk ν δ = (((κ, (ν ∷ [], tt)), (q, (full_share, tt)), tt, (bytes b o γ ys, (front δ, tt)), (s ∷ [], (s'' ∷ [], tt))), tt)
+      abbrev to_walk : ℕ → GName → (Walk 𝓛 mem run).Ghost
+      to_walk ν δ = (((κ, (ν ∷ [], tt)), (q, (full_share, tt)), tt, (bytes b o γ ys, (front δ, tt)), (s ∷ [], (s'' ∷ [], tt))), tt)
 
       goes : (ν : ℕ) (δ : GName)
           → ent 𝓤 (sep 𝓤 (sep 𝓤 (A.lft κ q) (A.lft (ν ∷ []) full_share)) (sep 𝓤 (sem 𝓛 (Bytes b o κ γ ys)) (sem 𝓛 (Slice ν δ))))
-          ((Walk 𝓛 mem run).pre (to-walk ν δ))
+          ((Walk 𝓛 mem run).pre (to_walk ν δ))
       goes ν δ =
           qed 𝓛 ((‵ (flft κ q) ⊛ ‵ (flft (ν ∷ []) full_share)) ∷ ‵ (Bytes b o κ γ ys) ∷ ‵ (Slice ν δ) ∷ []) ∵
           says ! accepted $ split ! $ nothing ! $ move ! (2 ∷ 0 ∷ []) $ join ! $ move ! (1 ∷ 0 ∷ []) $ join ! $ frame ! $
@@ -203,28 +203,28 @@ module _ {M : Type 1} {𝓤 : Ura M} (𝓛 : Logic 𝓤) (mem : Memory → SProp
       abbrev Others' : Fml
       Others' = Others 𝓛 Re.the_row at_once n xs l₅
 
-      taken-length : length xs ≡ at_once → length (take n xs) ≡ n
-      taken-length e = length-take-le n xs (omega (arith, e, few))
+      taken_length : length xs ≡ at_once → length (take n xs) ≡ n
+      taken_length e = length-take-le n xs (omega (arith, e, few))
 
-      taken-room : length xs ≡ at_once → Room Re.the_row (length (take n xs))
-      taken-room e = (omega (arith, few, taken-length e), omega (arith, few, taken-length e))
+      taken_room : length xs ≡ at_once → Room Re.the_row (length (take n xs))
+      taken_room e = (omega (arith, few, taken_length e), omega (arith, few, taken_length e))
 
       calls : Sq 𝓛 (Ready v) (runs C Λ En mir.t-7 (at_ret En Post))
       unfolding part_of
       calls =
           -- the array is taken apart: its first n records, and the others
-          move ! (10 ∷ []) $ use1 𝓛 (‵ (cell_at full_share Taken.mir (v ∷ []) l₅ 0)) (𝓛.laws.at_raw full_share arrayTy l₅ 0 v) $
+          move ! (10 ∷ []) $ use1 𝓛 (‵ (cell_at full_share Taken.mir (v ∷ []) l₅ 0)) (𝓛.laws.at_raw full_share array_ty l₅ 0 v) $
           owned ! Taken (Is Taken) (Array-Makes 𝓛 Re.the_row (LS.makes Re.the_type Re'.the_plain 𝓛) at_once) xs (v ∷ []) is $
           move ! (1 ∷ 0 ∷ []) $ fjoin ! $ fpack ! (List Val) (λ vs. fsep (cell_at full_share Taken.mir vs l₅ 0) (Taken.own xs vs)) (v ∷ []) $
           use1 𝓛 (given (length xs ≡ at_once) (‵ Front' ⊛ ‵ Others')) (apart 𝓛 Re.the_row at_once n xs l₅ tt) $ learn ! (λ e. split ! $
-          rewrite ! 2 (λ (m : ℕ). ‵ (fat full_share frontTy l₁₀ 0 (slice_val (l₅, 0) m))) (sym (taken-length e)) refl $
+          rewrite ! 2 (λ (m : ℕ). ‵ (fat full_share front_ty l₁₀ 0 (slice_val (l₅, 0) m))) (sym (taken_length e)) refl $
           -- they are lent for the call
           lft_new ! tt (λ ν. move ! (1 ∷ []) $
           use1 𝓛 (later (some (λ (δ : GName). ‵ (Slice ν δ) ⊛ ‵ (flent (ν ∷ []) Front'))))
-          (lends_shr_slice 𝓛 Re.the_row (named 1) (ν ∷ []) full_share (take n xs) l₅ 0 (taken-room e)) $ await ! tt $ pick ! (λ δ. split ! $
+          (lends_shr_slice 𝓛 Re.the_row (named 1) (ν ∷ []) full_share (take n xs) l₅ 0 (taken_room e)) $ await ! tt $ pick ! (λ δ. split ! $
           -- [the slice; the lender's part; the new token; the others; _10; ..; _0; ..; the tokens; the table; the list]
-          move ! (25 ∷ 2 ∷ 27 ∷ 0 ∷ []) $ join ! $ use3 𝓛 (raw ((Walk 𝓛 mem run).pre (to-walk ν δ))) (goes ν δ) $
-          calls_at ! (fm_of 𝓤 H 𝓛.laws 𝓣) (Walk 𝓛 mem run) known (to-walk ν δ)
+          move ! (25 ∷ 2 ∷ 27 ∷ 0 ∷ []) $ join ! $ use3 𝓛 (raw ((Walk 𝓛 mem run).pre (to_walk ν δ))) (goes ν δ) $
+          calls_at ! (fm_of 𝓤 H 𝓛.laws 𝓣) (Walk 𝓛 mem run) known (to_walk ν δ)
           (and_then ! (local ! 7 refl) (and_then ! (local ! 3 refl) (no_more !))) (λ w.
           use1 𝓛 (later (some (λ (r : Booted). ((‵ (flft κ q) ⊛ ‵ (flft (ν ∷ []) full_share) ⊛ ‵ ftrue) ⊛ ‵ ((Bo.the_row).own_val r (w ∷ [])))
           ⊛ raw (ensured 𝓛 walk.ended (walk.clauses 𝓛 mem run) (κ, (ν ∷ [], tt)) (bytes b o γ ys, (front δ, tt)) tt r)))) (id⊢ 𝓤 _) $
@@ -241,8 +241,8 @@ module _ {M : Type 1} {𝓤 : Ura M} (𝓛 : Logic 𝓤) (mem : Memory → SProp
           move ! (1 ∷ []) $ split ! $ move ! (1 ∷ []) $ split ! $ lft_end ! tt $ move ! (0 ∷ 6 ∷ []) $ lent_back ! tt $ move ! (0 ∷ 6 ∷ []) $
           use2 𝓛 (‵ Whole') (together 𝓛 Re.the_row at_once n xs l₅ e) $
           fpick ! (λ vs. fsplit ! $ move ! (1 ∷ []) $ peeks ! Taken (Is Taken) (shows 𝓛 Taken) xs vs (λ p. drop ! $
-          rewrite ! 0 (λ (us : List Val). ‵ (cell_at full_share Taken.mir us l₅ 0)) (array-is xs vs p) refl $
-          use1 𝓛 (‵ (fat full_share arrayTy l₅ 0 (only (arrayVals xs)))) (𝓛.laws.raw_at full_share arrayTy l₅ 0 (only (arrayVals xs))) $
+          rewrite ! 0 (λ (us : List Val). ‵ (cell_at full_share Taken.mir us l₅ 0)) (array_is xs vs p) refl $
+          use1 𝓛 (‵ (fat full_share array_ty l₅ 0 (only (array_vals xs)))) (𝓛.laws.raw_at full_share array_ty l₅ 0 (only (array_vals xs))) $
           -- [_5; ..; the token; the answer; the last bytes; ..; _10; ..; _6; ..; (_5's right to be freed); _4; ..; _0; ..; the token; the list]
           returns ! (look ! 25 refl) $ forget ! 0 refl $ forget ! 6 refl $ forget ! 8 refl $ forget ! 10 refl $ forget ! 12 refl $
           forget ! 14 refl $ forget ! 17 refl $ forget ! 19 refl $ forget ! 21 refl $ forget ! 23 refl $ forget ! 25 refl $
@@ -266,10 +266,10 @@ module _ {M : Type 1} {𝓤 : Ura M} (𝓛 : Logic 𝓤) (mem : Memory → SProp
           calls
 
   -- what `taken`'s triple binds outside: the list itself
-  abbrev to-taken : (Take 𝓛 mem run).Ghost
-  to-taken = (((κ', tt), (q', tt), tt, (y, (start, (n, tt))), (s' ∷ [], (vint w64 start ∷ [], (vint w64 n ∷ [], tt)))), tt)
+  abbrev to_taken : (Take 𝓛 mem run).Ghost
+  to_taken = (((κ', tt), (q', tt), tt, (y, (start, (n, tt))), (s' ∷ [], (vint w64 start ∷ [], (vint w64 n ∷ [], tt)))), tt)
 
-  asks : ent 𝓤 (sep 𝓤 (A.lft κ' q') (sem 𝓛 List')) ((Take 𝓛 mem run).pre to-taken)
+  asks : ent 𝓤 (sep 𝓤 (A.lft κ' q') (sem 𝓛 List')) ((Take 𝓛 mem run).pre to_taken)
   asks =
       qed 𝓛 (‵ (flft κ' q') ∷ ‵ List' ∷ []) ∵ says ! (few, full) $ nothing ! $ move ! (1 ∷ 0 ∷ []) $ join ! $ frame ! $
       nothing ! $ owned ! usize (Is usize) (uint_Makes 𝓛 w64) n _ (refl, n-fits) $ fjoin ! $
@@ -290,8 +290,8 @@ module _ {M : Type 1} {𝓤 : Ura M} (𝓛 : Logic 𝓤) (mem : Memory → SProp
       -- [_10; ..; _0; ..; the tokens; what the parameters own]: the list's slice can be copied, and one copy is kept
       move ! (22 ∷ []) $ split ! $ move ! (1 ∷ []) $ split ! $ move ! (25 ∷ []) $ fsplit ! $ move ! (1 ∷ []) $ fsplit ! $
       use1 𝓛 (‵ List' ⊛ ‵ List') ((shr_slice_copy 𝓛 (named 1) κ' u8).twice y (s' ∷ [])) $ split ! $
-      move ! (4 ∷ 0 ∷ []) $ use2 𝓛 (raw ((Take 𝓛 mem run).pre to-taken)) asks $
-      calls_at ! (fm_of 𝓤 H 𝓛.laws 𝓣) (Take 𝓛 mem run) taken-known to-taken
+      move ! (4 ∷ 0 ∷ []) $ use2 𝓛 (raw ((Take 𝓛 mem run).pre to_taken)) asks $
+      calls_at ! (fm_of 𝓤 H 𝓛.laws 𝓣) (Take 𝓛 mem run) taken-known to_taken
       (and_then ! (local ! 22 refl)
       (and_then ! (local ! 20 refl) (and_then ! (local ! 18 refl) (no_more !)))) (λ w.
       use1 𝓛 (later (some (λ (xs : List Record). ((‵ (flft κ' q') ⊛ ‵ ftrue) ⊛ ‵ (Taken.own xs (w ∷ [])))
@@ -312,19 +312,19 @@ module _ {M : Type 1} {𝓤 : Ura M} (𝓛 : Logic 𝓤) (mem : Memory → SProp
     (known : Triple 𝓤 (𝓣.C #managed_boot·walk) (Walk 𝓛 mem run)) (taken-known : Triple 𝓤 (𝓣.C #managed_boot·taken) (Take 𝓛 mem run)) where
   open 𝓛 use {H}
 
-  lent-walks : Walks 𝓛 lent.ended stayed (WpFn 𝓤 H 𝓣.C 𝓣.Λ code.function) (lent.clauses 𝓛 mem run)
-  lent-walks =
+  lent_walks : Walks 𝓛 lent.ended stayed (WpFn 𝓤 H 𝓣.C 𝓣.Λ code.function) (lent.clauses 𝓛 mem run)
+  lent_walks =
       walked 𝓛 lent.ended stayed (lent.clauses 𝓛 mem run) (WpFn 𝓤 H 𝓣.C 𝓣.Λ code.function)
       (λ κs. (shr_slice_vals, (shr_slice_vals, (uint_vals w64, (uint_vals w64, tt)))))
       (λ κs. (mut_slice_Tells (named 0) κs.0 u8, (shr_slice_Tells (named 1) κs.1.0 u8, (uint_Tells w64, (uint_Tells w64, tt)))))
-      (λ κs qs bounds a g are. needs 𝓤
-      (Accepted a.0.now × (a.1.1.1.0 ≤ at_once) × (a.1.1.0 + a.1.1.1.0 * recordSize ≤ length a.1.0.now)) _ (λ asked.
+      (λ κs qs bounds a g are. rules 𝓤
+      (Accepted a.0.now × (a.1.1.1.0 ≤ at_once) × (a.1.1.0 + a.1.1.1.0 * record_size ≤ length a.1.0.now)) _ (λ asked.
       walks 𝓛 mem run κs.0 κs.1.0 qs.0 qs.1.0 a.0.ref_ptr.0 a.0.ref_ptr.1 a.0.ghost_name a.0.now
       a.1.0.ref_ptr.0 a.1.0.ref_ptr.1 a.1.0.ghost_name a.1.0.now a.1.1.0 a.1.1.1.0 are.0.0.1 are.1.0.0.1
       are.1.1.0.1 are.1.1.1.0.1 asked.1 asked.2 𝓣 known taken-known asked.0))
 
-  lent-meets : Meets 𝓛 lent.signature (WpFn 𝓤 H 𝓣.C 𝓣.Λ code.function) (lent.spec 𝓛 mem run)
-  lent-meets =
+  lent_meets : Meets 𝓛 lent.signature (WpFn 𝓤 H 𝓣.C 𝓣.Λ code.function) (lent.spec 𝓛 mem run)
+  lent_meets =
       walk_Meets 𝓛 lent.ended stayed (
         Goes-gave_slice 𝓛 2 0 tt (plain (λ _. u8)),
         (
@@ -332,13 +332,13 @@ module _ {M : Type 1} {𝓤 : Ura M} (𝓛 : Logic 𝓤) (mem : Memory → SProp
           (Goes-dropped 𝓛 2 (plain (λ _. usize)) yes (λ κs x f. refl), (Goes-dropped 𝓛 2 (plain (λ _. usize)) yes (λ κs x f. refl), tt)),
         ),
       )
-      (lent.clauses 𝓛 mem run) (WpFn 𝓤 H 𝓣.C 𝓣.Λ code.function) (WpFn-mono 𝓤 H 𝓛.laws 𝓣 code.function) lent-walks
+      (lent.clauses 𝓛 mem run) (WpFn 𝓤 H 𝓣.C 𝓣.Λ code.function) (WpFn-mono 𝓤 H 𝓛.laws 𝓣 code.function) lent_walks
 
 pub lent_spec : {M : Type 1} → stated.statement M
 unfolding code.routine tables_of
 lent_spec 𝓤 𝓛 𝓜 𝓡 =
     entered 𝓤 𝓛.H (triple_of 𝓛 lent.signature (lent.spec 𝓛 𝓜.mem 𝓡.run))
     (tables 𝓤 𝓛.H 𝓜 𝓡 code.env).C (tables 𝓤 𝓛.H 𝓜 𝓡 code.env).Λ #managed_boot·lent code.function (code.unfolded 𝓤 𝓛.H 𝓜 𝓡)
-    (lent-meets 𝓛 𝓜.mem 𝓡.run (tables_of 𝓤 𝓛.H 𝓜 (tables 𝓤 𝓛.H 𝓜 𝓡 code.env))
+    (lent_meets 𝓛 𝓜.mem 𝓡.run (tables_of 𝓤 𝓛.H 𝓜 (tables 𝓤 𝓛.H 𝓜 𝓡 code.env))
     (cited 𝓤 𝓛.H (Walk 𝓛 𝓜.mem 𝓡.run) 𝓜 𝓡 code.env #managed_boot·walk walk-def.routine code.calls-managed-boot::walk (walk-thm.met 𝓤 𝓛 𝓜 𝓡))
     (cited 𝓤 𝓛.H (Take 𝓛 𝓜.mem 𝓡.run) 𝓜 𝓡 code.env #managed_boot·taken taken-def.routine code.calls-managed-boot::taken (taken-thm.met 𝓤 𝓛 𝓜 𝓡)))

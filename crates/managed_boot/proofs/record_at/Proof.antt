@@ -1,7 +1,7 @@
 -- `managed_boot::record_at` meets its contract: each field stands where the record has it.
 -- Assumes nothing.
-use Rattle.facts.proofs.Words.{refl, needs, now}
-use Rattle.managed_boot.proofs.{record-read}
+use Rattle.facts.proofs.Words.{refl, rules, now}
+use Rattle.managed_boot.proofs.{record_read}
 use Rattle.managed_boot.proofs.record_at.Tie as tie
 
 returns : tie.Need-returns
@@ -9,10 +9,10 @@ returns c =
     let read = c.before in
     let lent = read.before.before.before in
     let a = lent.before.args in
-    record-read (now a.records) a.at refl refl read.long.ensures.0 c.long2.ensures.0
+    record_read (now a.records) a.at refl refl read.long.ensures.0 c.long2.ensures.0
 
 pub record-at-spec : {M : Type 1} → Rattle.managed_boot.proofs.record_at.Statement.statement M
 record-at-spec =
     tie.close
-    (tie.spec (λ c. search needs) (λ c. search needs) (λ c. search needs) (λ c. search needs) (λ c κs. search needs) (λ c. search needs)
-    (λ c. search needs) (λ c κs. search needs) (λ c. search needs) returns)
+    (tie.spec (λ c. search rules) (λ c. search rules) (λ c. search rules) (λ c. search rules) (λ c κs. search rules) (λ c. search rules)
+    (λ c. search rules) (λ c κs. search rules) (λ c. search rules) returns)

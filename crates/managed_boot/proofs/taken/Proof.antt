@@ -1,13 +1,13 @@
 -- `managed_boot::taken` meets its contract: the first records of the array are those of the bytes.
 -- Assumes nothing.
-use Rattle.facts.proofs.Words.{◌≡◌, refl, ◌∙◌, subst, ℕ, ◌+◌, ◌*◌, ◌-◌, ◌≤◌, arith, needs, length, take, drop, length-set, now}
-use Rattle.facts.specs.{recordSize, recordsIn}
+use Rattle.facts.proofs.Words.{◌≡◌, refl, ◌∙◌, subst, ℕ, ◌+◌, ◌*◌, ◌-◌, ◌≤◌, arith, rules, length, take, drop, length-set, now}
+use Rattle.facts.specs.{record_size, records_in}
 use Rattle.managed_boot.specs.{at_once}
 use Rattle.managed_boot.proofs.{taken_more}
 use Rattle.managed_boot.proofs.taken.Tie as tie
 
 abbrev invariant-loop : tie.invariant-loop
-invariant-loop records at n all₀ i₀ all i = (i ≤ n) × (length all ≡ at_once) × (take i all ≡ recordsIn i (drop at records))
+invariant-loop records at n all₀ i₀ all i = (i ≤ n) × (length all ≡ at_once) × (take i all ≡ records_in i (drop at records))
 
 abbrev decreases-loop : tie.decreases-loop
 decreases-loop records at n all₀ i₀ all i = n - i
@@ -21,7 +21,7 @@ turn c = c.before.before
 
 -- the record lies within the bytes
 within : (c : tie.In-loop invariant-loop decreases-loop) → let s = start c.before in
-    s.args.at + c.before.loop.i * recordSize + recordSize ≤ length (now s.args.records)
+    s.args.at + c.before.loop.i * record_size + record_size ≤ length (now s.args.records)
 within c = omega (arith, c.loop-test.true, (start c.before).pre.1)
 
 loop-again : tie.Need-loop-preserved invariant-loop decreases-loop
@@ -40,10 +40,10 @@ returns c =
     let l = c.before.loop in
     let a = (start c.before).args in
     let all : l.i ≡ a.n = omega (arith, l.invariant.0, c.loop-test.false) in
-    subst (λ (m : ℕ). take m l.all ≡ recordsIn m (drop a.at (now a.records))) all l.invariant.2
+    subst (λ (m : ℕ). take m l.all ≡ records_in m (drop a.at (now a.records))) all l.invariant.2
 
 pub taken-spec : {M : Type 1} → Rattle.managed_boot.proofs.taken.Statement.statement M
 taken-spec =
     tie.close
-    (tie.spec invariant-loop decreases-loop (λ c. (omega arith, refl, refl)) (λ c. search needs) (λ c. omega (arith, within c)) (λ c κs. within c)
-    (λ c. search needs) (λ c. search needs) (λ c. search needs) (λ c. omega (arith, c.before.loop-test.true)) loop-again returns)
+    (tie.spec invariant-loop decreases-loop (λ c. (omega arith, refl, refl)) (λ c. search rules) (λ c. omega (arith, within c)) (λ c κs. within c)
+    (λ c. search rules) (λ c. search rules) (λ c. search rules) (λ c. omega (arith, c.before.loop-test.true)) loop-again returns)

@@ -1,13 +1,13 @@
 -- `managed_changes::reserve_asked` meets its contract: no bit, the reserve bit, or others.
 -- Assumes nothing.
 use Rattle.facts.proofs.Words.{◌≡◌, ap, sym, inl, inr, ℕ, eqb}
-use Rattle.facts.specs.{AddBits, reserveBit}
+use Rattle.facts.specs.{AddBits, reserve_bit}
 use Rattle.layout.specs.{mark}
 use Rattle.managed_changes.proofs.reserve_asked.Tie as tie
 
 -- the mark of the bits a
-marks : (a k : ℕ) → a ≡ k → mark (eqb k reserveBit) ≡ mark (eqb a reserveBit)
-marks a k e = ap (λ (x : ℕ). mark (eqb x reserveBit)) (sym e)
+marks : (a k : ℕ) → a ≡ k → mark (eqb k reserve_bit) ≡ mark (eqb a reserve_bit)
+marks a k e = ap (λ (x : ℕ). mark (eqb x reserve_bit)) (sym e)
 
 returns : tie.Need-returns
 returns c = (inl c.match.keys1, marks c.before.args.attributes 0 c.match.keys1)

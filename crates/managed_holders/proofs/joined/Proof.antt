@@ -1,6 +1,6 @@
 -- `managed_holders::joined` meets its contract: case by case.
 -- Assumes nothing.
-use Rattle.facts.proofs.Words.{refl, sym, ap₂, ◌∙◌, ℕ, needs}
+use Rattle.facts.proofs.Words.{refl, sym, ap₂, ◌∙◌, ℕ, rules}
 use Rattle.managed_holders.specs.declared.Holders.TheVariants.{Lowest}
 use Rattle.managed_holders.specs.{together}
 use Rattle.managed_holders.proofs.joined.Tie as tie
@@ -21,5 +21,5 @@ returns-3 c =
 pub joined-spec : {M : Type 1} → Rattle.managed_holders.proofs.joined.Statement.statement M
 joined-spec =
     tie.close
-    (tie.spec (λ c. search needs) (λ c. search needs) (λ c. search needs) (λ c. search needs) (λ c. search needs) returns-2 (λ c κs. search needs)
-    (λ c κs. search needs) returns-3)
+    (tie.spec (λ c. search rules) (λ c. search rules) (λ c. search rules) (λ c. search rules) (λ c. search rules) returns-2 (λ c κs. search rules)
+    (λ c κs. search rules) returns-3)

@@ -1,11 +1,11 @@
 -- `managed_levels::remove` meets its contract: each check's answer says which end of the rule it is.
 -- Assumes nothing.
-use Rattle.facts.proofs.Words.{◌≡◌, refl, sym, ◌∙◌, inl, inr, ◌≢◌, ◌<◌, false, true≢false, arith, needs}
-use Rattle.facts.specs.{allLevels}
-use Rattle.layout.proofs.{size_in, stays, becomes, level-written}
+use Rattle.facts.proofs.Words.{◌≡◌, refl, sym, ◌∙◌, inl, inr, ◌≢◌, ◌<◌, false, true≢false, arith, rules}
+use Rattle.facts.specs.{all_levels}
+use Rattle.layout.proofs.{size_in, stays, becomes, level_written}
 use Rattle.irq_levels.specs.declared.LevelNumber.TheVariants.{Below}
 use Rattle.irq_levels.specs.{LevelIs}
-use Rattle.managed_levels.proofs.{marked-managed, unmarked-unmanaged}
+use Rattle.managed_levels.proofs.{marked_managed, unmarked_unmanaged}
 use Rattle.managed_levels.proofs.remove.Tie as tie
 
 -- where there is no bit, and where the call began
@@ -22,8 +22,8 @@ clear c = let look = c.before.before.before in look.before
 level : (c : tie.After-known-told) → LevelIs (start (clear c)).args.level (Below c.before.l.given.0.0)
 level c = rw c.before.l.given.1 at c.before.before.before.below-levels.ensures
 
-level-below : (c : tie.After-known-told) → c.before.l.given.0.0 < allLevels
-level-below c = omega (arith, level c)
+level_below : (c : tie.After-known-told) → c.before.l.given.0.0 < all_levels
+level_below c = omega (arith, level c)
 
 -- where it had been looked whether it is managed: it is
 abbrev levelled : tie.After-whether-managed → tie.After-known-told
@@ -36,7 +36,7 @@ managed : (c : tie.After-enum-told4) → let s = start (clear (looked c)) in (s.
 managed c f =
     let k = looked c in
     let here = rw (c.enum-told4.given.1, (level k).0) at c.before.before.whether-managed.ensures in
-    true≢false (sym (marked-managed (start (clear k)).requires (level k).1 here) ∙ f)
+    true≢false (sym (marked_managed (start (clear k)).requires (level k).1 here) ∙ f)
 
 -- where its holders had been asked for
 abbrev found : tie.After-of-level → tie.After-enum-told4
@@ -60,7 +60,7 @@ returns-3 c =
     let a = (start (clear k)).requires in
     let here = rw (c.enum-told5.given.1, (level k).0) at look.whether-managed.ensures in
     stays _ _ a
-    (inr ((λ n. n (no_bits (clear k))), inr ((λ h. omega (arith, (level k).1)), inl (unmarked-unmanaged a (level k).1 here, refl))), refl)
+    (inr ((λ n. n (no_bits (clear k))), inr ((λ h. omega (arith, (level k).1)), inl (unmarked_unmanaged a (level k).1 here, refl))), refl)
 
 returns-4 : tie.Need-returns-4
 returns-4 c =
@@ -79,12 +79,12 @@ returns-5 c =
     let a = (start (clear k)).requires in
     let nobody = (rw (told.enum-told6.given.1, (level k).0) at look.of-level.ensures) a in
     becomes _ _ _ a _ (((λ n. n (no_bits (clear k))), ((λ h. omega (arith, (level k).1)), (managed (found look), (nobody, tt)))), refl)
-    (level-written _ _ a _ (record { managed = false; reserved = false }) (level k).1 (rw (level k).0 at done.mark.ensures))
+    (level_written _ _ a _ (record { managed = false; reserved = false }) (level k).1 (rw (level k).0 at done.mark.ensures))
 
 pub remove-spec : {M : Type 1} → Rattle.managed_levels.proofs.remove.Statement.statement M
 remove-spec =
     tie.close
-    (tie.spec (λ c κs. search needs) (λ c. search needs) (λ c. search needs) returns (λ c κs. search needs) (λ c. search needs) (λ c. search needs)
-    returns-2 (λ c κs. (size_in _ (start (clear c.before)).requires, level-below c.before)) (λ c. search needs) (λ c. search needs)
-    (λ c. search needs) returns-3 (λ c κs. search needs) (λ c. search needs) (λ c. search needs) (λ c. search needs) returns-4
-    (λ c κs. let k = looked (found c.before.before.before) in (size_in _ (start (clear k)).requires, level-below k)) (λ c. search needs) returns-5)
+    (tie.spec (λ c κs. search rules) (λ c. search rules) (λ c. search rules) returns (λ c κs. search rules) (λ c. search rules) (λ c. search rules)
+    returns-2 (λ c κs. (size_in _ (start (clear c.before)).requires, level_below c.before)) (λ c. search rules) (λ c. search rules)
+    (λ c. search rules) returns-3 (λ c κs. search rules) (λ c. search rules) (λ c. search rules) (λ c. search rules) returns-4
+    (λ c κs. let k = looked (found c.before.before.before) in (size_in _ (start (clear k)).requires, level_below k)) (λ c. search rules) returns-5)

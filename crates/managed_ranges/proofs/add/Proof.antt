@@ -1,12 +1,12 @@
 -- `managed_ranges::add` meets its contract: the bits, or the ports that are named, are wrong, or the ports are put in.
 -- Assumes nothing.
-use Rattle.facts.proofs.Words.{refl, inl, ℕ, arith, needs, eqb}
-use Rattle.facts.specs.{Facts, putChecks, rangeAdded, reserveBit}
+use Rattle.facts.proofs.Words.{refl, inl, ℕ, arith, rules, eqb}
+use Rattle.facts.specs.{Facts, put_checks, range_added, reserve_bit}
 use Rattle.layout.proofs.{stays}
 use Rattle.managed_changes.specs.declared.Reserve.TheVariants.{Mark}
 use Rattle.managed_changes.specs.{ReserveIs}
 use Rattle.managed_ranges.specs.{NamesPorts}
-use Rattle.managed_ranges.proofs.{ports-wrong, own-change}
+use Rattle.managed_ranges.proofs.{ports_wrong, own_change}
 use Rattle.managed_ranges.proofs.add.Tie as tie
 
 -- where the bits are an Add's, and where the call began
@@ -38,18 +38,18 @@ returns-2 c =
     let told = done.before.before in
     let bits = bits (marked told) in
     let a = (start (marked told)).args.r.attributes in
-    own-change putChecks (λ (x y : ℕ) (F : Facts). rangeAdded F x y a) _ _ bits.0 (ports told) done.put.result
-    (done.put.ensures (eqb a reserveBit) bits.1)
+    own_change put_checks (λ (x y : ℕ) (F : Facts). range_added F x y a) _ _ bits.0 (ports told) done.put.result
+    (done.put.ensures (eqb a reserve_bit) bits.1)
 
 returns-3 : tie.Need-returns-3
 returns-3 c =
     let read = c.before.before.before in
     let s = start read.before in
     let wrong = rw c.before.ports2.given.1 at read.ports-named.ensures in
-    stays _ _ s.pre (ports-wrong s.args.r.base (putChecks _ _ _) (bits read.before).0 wrong, refl)
+    stays _ _ s.pre (ports_wrong s.args.r.base (put_checks _ _ _) (bits read.before).0 wrong, refl)
 
 pub add_spec : {M : Type 1} → Rattle.managed_ranges.proofs.add.Statement.statement M
 add_spec =
     tie.close
-    (tie.spec (λ c κs. search needs) (λ c. search needs) (λ c. search needs) returns (λ c κs. search needs) (λ c. search needs) put-requires
-    (λ c. search needs) (λ c. search needs) returns-2 returns-3)
+    (tie.spec (λ c κs. search rules) (λ c. search rules) (λ c. search rules) returns (λ c κs. search rules) (λ c. search rules) put-requires
+    (λ c. search rules) (λ c. search rules) returns-2 returns-3)

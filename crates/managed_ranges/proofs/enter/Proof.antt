@@ -1,6 +1,6 @@
 -- `managed_ranges::enter` meets its contract: room is made, and the record is written into it, field by field.
 -- Assumes nothing.
-use Rattle.facts.proofs.Words.{arith, needs}
+use Rattle.facts.proofs.Words.{arith, rules}
 use Rattle.managed_ranges.proofs.{enters}
 use Rattle.managed_ranges.proofs.enter.Tie as tie
 
@@ -18,5 +18,5 @@ returns c =
 pub enter_spec : {M : Type 1} → Rattle.managed_ranges.proofs.enter.Statement.statement M
 enter_spec =
     tie.close
-    (tie.spec (λ c. search needs) (λ c. search needs) (λ c κs. search needs) (λ c κs. search needs) (λ c. search needs) (λ c κs. search needs)
-    (λ c. search needs) (λ c. search needs) (λ c. (returns c).size) returns)
+    (tie.spec (λ c. search rules) (λ c. search rules) (λ c κs. search rules) (λ c κs. search rules) (λ c. search rules) (λ c κs. search rules)
+    (λ c. search rules) (λ c. search rules) (λ c. (returns c).size) returns)

@@ -1,7 +1,7 @@
 -- `managed_ranges::free` meets its contract: the range before the place, the one after it, or neither has one of the ports.
 -- Assumes nothing.
-use Rattle.facts.proofs.Words.{arith, needs}
-use Rattle.managed_ranges.proofs.{taken-before, taken-after, untaken}
+use Rattle.facts.proofs.Words.{arith, rules}
+use Rattle.managed_ranges.proofs.{taken_before, taken_after, untaken}
 use Rattle.managed_ranges.proofs.free.Tie as tie
 
 -- where the call began
@@ -12,14 +12,14 @@ returns : tie.Need-returns
 returns c =
     let placed = c.before.before in
     let pre = (begun placed).requires in
-    taken-before pre.0.2 placed.place.ensures pre.1.0 (omega (arith, c.if1.true, c.before.end_before.ensures))
+    taken_before pre.0.2 placed.place.ensures pre.1.0 (omega (arith, c.if1.true, c.before.end_before.ensures))
 
 returns-2 : tie.Need-returns-2
 returns-2 c =
     let left = c.before.before in
     let placed = left.before.before in
     let pre = (begun placed).requires in
-    taken-after pre.0.2 placed.place.ensures c.before.start.ensures pre.1.1 (omega (arith, c.if2.true))
+    taken_after pre.0.2 placed.place.ensures c.before.start.ensures pre.1.1 (omega (arith, c.if2.true))
 
 returns-3 : tie.Need-returns-3
 returns-3 c =
@@ -31,4 +31,4 @@ returns-3 c =
 pub free_spec : {M : Type 1} → Rattle.managed_ranges.proofs.free.Statement.statement M
 free_spec =
     tie.close
-    (tie.spec (λ c κs. search needs) (λ c κs. search needs) returns (λ c κs. search needs) (λ c. search needs) returns-2 returns-3)
+    (tie.spec (λ c κs. search rules) (λ c κs. search rules) returns (λ c κs. search rules) (λ c. search rules) returns-2 returns-3)

@@ -1,12 +1,12 @@
 -- `managed_ranges::place` meets its contract. The invariant: the ranges from `i` on have no base below the number.
 -- Assumes nothing.
-use Rattle.facts.proofs.Words.{◌≤◌, arith, needs}
-use Rattle.facts.specs.{mostRanges}
-use Rattle.managed_ranges.proofs.{Down, down-more, down-found, down-end}
+use Rattle.facts.proofs.Words.{◌≤◌, arith, rules}
+use Rattle.facts.specs.{most_ranges}
+use Rattle.managed_ranges.proofs.{Down, down_more, down_found, down_end}
 use Rattle.managed_ranges.proofs.place.Tie as tie
 
 abbrev invariant-loop : tie.invariant-loop
-invariant-loop t from i₀ i = (i ≤ mostRanges) × Down t from i
+invariant-loop t from i₀ i = (i ≤ most_ranges) × Down t from i
 
 abbrev decreases-loop : tie.decreases-loop
 decreases-loop t from i₀ i = i
@@ -21,15 +21,15 @@ turn c = c.before.before
 returns : tie.Need-returns invariant-loop decreases-loop
 returns c =
     let at = turn c.before in
-    down-found at.loop.inv.1 (start at.before).pre.2 (omega arith) (omega (arith, c.if1.true, c.before.word.ensures.0))
+    down_found at.loop.inv.1 (start at.before).pre.2 (omega arith) (omega (arith, c.if1.true, c.before.word.ensures.0))
 
 loop-again : tie.Need-loop-preserved invariant-loop decreases-loop
 loop-again c =
-    (omega arith, down-more (turn c.before).loop.inv.1 (omega arith) (omega (arith, c.if1.false, c.before.word.ensures.0)))
+    (omega arith, down_more (turn c.before).loop.inv.1 (omega arith) (omega (arith, c.if1.false, c.before.word.ensures.0)))
 
 pub place-spec : {M : Type 1} → Rattle.managed_ranges.proofs.place.Statement.statement M
 place-spec =
     tie.close
-    (tie.spec invariant-loop decreases-loop (λ c κs. search needs) (λ c. omega (arith, c.byte.ensures.0)) (λ c. omega arith) (λ c. omega arith)
+    (tie.spec invariant-loop decreases-loop (λ c κs. search rules) (λ c. omega (arith, c.byte.ensures.0)) (λ c. omega arith) (λ c. omega arith)
     (λ c. omega arith) (λ c κs. omega (arith, (start c.before.before).pre.0)) returns (λ c. omega arith) (λ c. omega arith) loop-again
-    (λ c. down-end c.before.loop.invariant.1 (omega arith)))
+    (λ c. down_end c.before.loop.invariant.1 (omega arith)))

@@ -1,7 +1,7 @@
 -- `managed_ranges::ports_named` meets its contract: the first that is wrong gives its code.
 -- Assumes nothing.
-use Rattle.facts.proofs.Words.{◌≡◌, refl, inl, inr, ⊎_elim, arith, needs}
-use Rattle.facts.specs.{mostLines}
+use Rattle.facts.proofs.Words.{◌≡◌, refl, inl, inr, ⊎_elim, arith, rules}
+use Rattle.facts.specs.{most_lines}
 use Rattle.managed_ranges.specs.declared.PortCount.TheVariants.{Right}
 use Rattle.managed_ranges.specs.{CountIs}
 use Rattle.managed_ranges.proofs.ports_named.Tie as tie
@@ -10,7 +10,7 @@ use Rattle.managed_ranges.proofs.ports_named.Tie as tie
 abbrev first : tie.After-enum-told → tie.Start
 first c = c.before.before.before
 
-lines : (c : tie.After-enum-told) → (first c).args.r.lines ≡ mostLines
+lines : (c : tie.After-enum-told) → (first c).args.r.lines ≡ most_lines
 lines c = rw c.enum_told.given.1 at c.before.before.lined.ensures
 
 -- the count is one
@@ -47,10 +47,10 @@ returns-4 c =
     let is = right look.before in
     let all = lines (lined look.before) in
     let reach = rw within.enum-told5.given.1 at look.reaches.ensures in
-    search needs
+    search rules
 
 pub ports-named-spec : {M : Type 1} → Rattle.managed_ranges.proofs.ports_named.Statement.statement M
 ports-named-spec =
     tie.close
-    (tie.spec (λ c κs. search needs) (λ c. search needs) (λ c. search needs) returns (λ c κs. search needs) (λ c. search needs) (λ c. search needs)
-    returns-2 (λ c κs. search needs) (λ c. search needs) (λ c. search needs) returns-3 (λ c. search needs) (λ c. search needs) returns-4)
+    (tie.spec (λ c κs. search rules) (λ c. search rules) (λ c. search rules) returns (λ c κs. search rules) (λ c. search rules) (λ c. search rules)
+    returns-2 (λ c κs. search rules) (λ c. search rules) (λ c. search rules) returns-3 (λ c. search rules) (λ c. search rules) returns-4)

@@ -1,10 +1,10 @@
 -- `managed_ranges::remove` meets its contract: there is a bit, the ports that are named are wrong, or they are taken out.
 -- Assumes nothing.
-use Rattle.facts.proofs.Words.{◌≡◌, refl, inl, ℕ, needs}
-use Rattle.facts.specs.{Facts, takeChecks, rangeRemoved}
+use Rattle.facts.proofs.Words.{◌≡◌, refl, inl, ℕ, rules}
+use Rattle.facts.specs.{Facts, take_checks, range_removed}
 use Rattle.layout.proofs.{stays}
 use Rattle.managed_ranges.specs.{NamesPorts}
-use Rattle.managed_ranges.proofs.{ports-wrong, own-change}
+use Rattle.managed_ranges.proofs.{ports_wrong, own_change}
 use Rattle.managed_ranges.proofs.remove.Tie as tie
 
 -- where there is no bit, and where the call began
@@ -31,17 +31,17 @@ returns-2 : tie.Need-returns-2
 returns-2 c =
     let done = c.before.before in
     let told = done.before.before in
-    own-change takeChecks (λ (x y : ℕ) (F : Facts). rangeRemoved F x) _ _ (none (clear told)) (ports told) done.take.result done.take.ensures
+    own_change take_checks (λ (x y : ℕ) (F : Facts). range_removed F x) _ _ (none (clear told)) (ports told) done.take.result done.take.ensures
 
 returns-3 : tie.Need-returns-3
 returns-3 c =
     let read = c.before.before.before in
     let s = start read.before in
     let wrong = rw c.before.ports2.given.1 at read.ports-named.ensures in
-    stays _ _ s.pre (ports-wrong s.args.r.base (takeChecks _ _ _) (none read.before) wrong, refl)
+    stays _ _ s.pre (ports_wrong s.args.r.base (take_checks _ _ _) (none read.before) wrong, refl)
 
 pub remove-spec : {M : Type 1} → Rattle.managed_ranges.proofs.remove.Statement.statement M
 remove-spec =
     tie.close
-    (tie.spec (λ c κs. search needs) (λ c. search needs) (λ c. search needs) returns (λ c κs. search needs) (λ c. search needs)
-    (λ c κs. search needs) (λ c. search needs) (λ c. search needs) returns-2 returns-3)
+    (tie.spec (λ c κs. search rules) (λ c. search rules) (λ c. search rules) returns (λ c κs. search rules) (λ c. search rules)
+    (λ c κs. search rules) (λ c. search rules) (λ c. search rules) returns-2 returns-3)

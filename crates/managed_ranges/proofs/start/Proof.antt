@@ -1,6 +1,6 @@
 -- `managed_ranges::start` meets its contract: its base, or past FFFF.
 -- Assumes nothing.
-use Rattle.facts.proofs.Words.{refl, inl, inr, arith, needs}
+use Rattle.facts.proofs.Words.{refl, inl, inr, arith, rules}
 use Rattle.managed_ranges.proofs.start.Tie as tie
 
 returns : tie.Need-returns
@@ -10,4 +10,4 @@ returns-2 : tie.Need-returns-2
 returns-2 c = inr (omega (arith, c.if1.false, c.before.byte.ensures.0), refl)
 
 pub start_spec : {M : Type 1} → Rattle.managed_ranges.proofs.start.Statement.statement M
-start_spec = tie.close (tie.spec (λ c κs. search needs) (λ c. search needs) (λ c. search needs) (λ c κs. search needs) returns returns-2)
+start_spec = tie.close (tie.spec (λ c κs. search rules) (λ c. search rules) (λ c. search rules) (λ c κs. search rules) returns returns-2)

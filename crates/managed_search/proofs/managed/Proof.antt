@@ -1,8 +1,8 @@
 -- `managed_search::managed` meets its contract: every port from the base up to `p` is managed, and `p` is in none of the ranges passed.
 -- Assumes nothing.
 use Rattle.facts.proofs.Words.{◌-◌, ◌≤◌, arith}
-use Rattle.facts.proofs.{says-true}
-use Rattle.managed_search.proofs.{Passed, skipped-passed, passed-stay, passed-move, passed-found, passed-stop, passed-says}
+use Rattle.facts.proofs.{says_true}
+use Rattle.managed_search.proofs.{Passed, skipped_passed, passed_stay, passed_move, passed_found, passed_stop, passed_says}
 use Rattle.managed_search.proofs.managed.Tie as tie
 
 abbrev invariant-loop : tie.invariant-loop
@@ -25,31 +25,31 @@ abbrev asked : tie.After-word invariant-loop decreases-loop → tie.After-range-
 asked c = c.before.before
 
 loop-holds : tie.Need-loop-init invariant-loop decreases-loop
-loop-holds c = (omega arith, skipped-passed _ _ _ c.search-from.ensures)
+loop-holds c = (omega arith, skipped_passed _ _ _ c.search-from.ensures)
 
 loop-again : tie.Need-loop-preserved invariant-loop decreases-loop
-loop-again c = (omega arith, passed-stay _ _ _ _ (turn c.before).loop.inv.1 (omega arith))
+loop-again c = (omega arith, passed_stay _ _ _ _ (turn c.before).loop.inv.1 (omega arith))
 
 returns : tie.Need-returns invariant-loop decreases-loop
 returns c =
     let at = turn (asked c.before) in
-    passed-says _ _ _ _ (passed-stop _ _ _ _ at.loop.inv.1 (begun at).pre.0.2 (omega arith) (omega arith)) (omega arith) _
+    passed_says _ _ _ _ (passed_stop _ _ _ _ at.loop.inv.1 (begun at).pre.0.2 (omega arith) (omega arith)) (omega arith) _
 
 returns-2 : tie.Need-returns-2 invariant-loop decreases-loop
 returns-2 c =
     let at = turn (asked c.before.before) in
-    says-true
-    (passed-found _ _ _ _ at.loop.inv.1 (begun at).pre.0.2 (omega arith) (record { from = omega arith; below = omega arith }) _ (omega arith))
+    says_true
+    (passed_found _ _ _ _ at.loop.inv.1 (begun at).pre.0.2 (omega arith) (record { from = omega arith; below = omega arith }) _ (omega arith))
 
 loop-again-2 : tie.Need-loop-preserved-2 invariant-loop decreases-loop
 loop-again-2 c =
     let at = turn (asked c.before.before) in (
       omega arith,
-      passed-move _ _ _ _ at.loop.inv.1 (begun at).pre.0.2 (omega arith) (record { from = omega arith; below = omega arith }) _ (omega arith),
+      passed_move _ _ _ _ at.loop.inv.1 (begun at).pre.0.2 (omega arith) (record { from = omega arith; below = omega arith }) _ (omega arith),
     )
 
 returns-3 : tie.Need-returns-3 invariant-loop decreases-loop
-returns-3 c = passed-says _ _ _ _ c.before.loop.invariant.1 (omega arith) _
+returns-3 c = passed_says _ _ _ _ c.before.loop.invariant.1 (omega arith) _
 
 pub managed-spec : {M : Type 1} → Rattle.managed_search.proofs.managed.Statement.statement M
 managed-spec =

@@ -1,19 +1,19 @@
 -- `seats::held` meets its contract: there is no grant, or its record is read field by field.
 -- Assumes nothing.
-use Rattle.facts.proofs.Words.{◌≡◌, sym, ap, ◌∙◌, refl, needs, now}
+use Rattle.facts.proofs.Words.{◌≡◌, sym, ap, ◌∙◌, refl, rules, now}
 use Rattle.facts.specs.{word}
-use Rattle.layout.specs.{ioPlace, ioIn}
+use Rattle.layout.specs.{io_place_lem, io_in}
 use Rattle.seats.proofs.held.Tie as tie
 
 -- the record stands at the seat's place, and says this client
-client : (c : tie.After-handle) → let a = c.before.before.before.args in c.handle.result.0 ≡ word (now a.t) (ioPlace a.s.0)
+client : (c : tie.After-handle) → let a = c.before.before.before.args in c.handle.result.0 ≡ word (now a.t) (io_place_lem a.s.0)
 client c = c.handle.ensures ∙ ap (word (now c.before.before.before.args.t)) c.before.io-place.ensures.0
 
 returns : tie.Need-returns
 returns c = λ u. u (sym (client c.before.before) ∙ c.if1.true)
 
 returns-2 : tie.Need-returns-2
-unfolding ioIn
+unfolding io_in
 returns-2 c =
     let lines = c.before in
     let count = lines.before in
@@ -27,5 +27,5 @@ returns-2 c =
 pub held_spec : {M : Type 1} → Rattle.seats.proofs.held.Statement.statement M
 held_spec =
     tie.close
-    (tie.spec (λ c κs. search needs) (λ c κs. search needs) returns (λ c. search needs) (λ c κs. search needs) (λ c. search needs) (λ c κs. search needs)
-    (λ c. search needs) (λ c κs. search needs) (λ c. search needs) (λ c κs. search needs) returns-2)
+    (tie.spec (λ c κs. search rules) (λ c κs. search rules) returns (λ c. search rules) (λ c κs. search rules) (λ c. search rules) (λ c κs. search rules)
+    (λ c. search rules) (λ c κs. search rules) (λ c. search rules) (λ c κs. search rules) returns-2)

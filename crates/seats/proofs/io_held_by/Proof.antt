@@ -1,14 +1,14 @@
 -- `seats::io_held_by` meets its contract: the client is not 0, and is the one of the seat's record.
 -- Assumes nothing.
-use Rattle.facts.proofs.Words.{◌∙◌, needs}
-use Rattle.facts.proofs.{says-false, says-as, says_eq}
-use Rattle.seats.proofs.{io-said-by, io-by-said}
+use Rattle.facts.proofs.Words.{◌∙◌, rules}
+use Rattle.facts.proofs.{says_false, says_as, says_eq}
+use Rattle.seats.proofs.{io_said_by, io_by_said}
 use Rattle.seats.proofs.io_held_by.Tie as tie
 
 returns : tie.Need-returns
 returns c =
     let start = c.before.before.before in
-    says-false (λ x. let said = io-by-said _ _ start.requires.1 _ x in said.0 (said.1 ∙ c.if1.true))
+    says_false (λ x. let said = io_by_said _ _ start.requires.1 _ x in said.0 (said.1 ∙ c.if1.true))
 
 returns-2 : tie.Need-returns-2
 returns-2 c =
@@ -17,7 +17,7 @@ returns-2 c =
     let known = placed.before.before in
     let start = known.before.before in
     let handle = rw placed.io-place.ensures.0 at read.handle.ensures in
-    says-as (rw handle (says_eq _ _)) (io-said-by _ _ start.requires.1 _ placed.before.if1.false) (λ x. (io-by-said _ _ start.requires.1 _ x).1)
+    says_as (rw handle (says_eq _ _)) (io_said_by _ _ start.requires.1 _ placed.before.if1.false) (λ x. (io_by_said _ _ start.requires.1 _ x).1)
 
 pub io-held-by-spec : {M : Type 1} → Rattle.seats.proofs.io_held_by.Statement.statement M
-io-held-by-spec = tie.close (tie.spec returns (λ c κs. search needs) (λ c κs. search needs) returns-2)
+io-held-by-spec = tie.close (tie.spec returns (λ c κs. search rules) (λ c κs. search rules) returns-2)

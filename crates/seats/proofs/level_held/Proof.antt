@@ -1,19 +1,19 @@
 -- `seats::level_held` meets its contract: there is no grant, or its record is read field by field.
 -- Assumes nothing.
-use Rattle.facts.proofs.Words.{◌≡◌, sym, ap, ◌∙◌, refl, needs, now}
+use Rattle.facts.proofs.Words.{◌≡◌, sym, ap, ◌∙◌, refl, rules, now}
 use Rattle.facts.specs.{word}
-use Rattle.layout.specs.{irqPlace, irqIn}
+use Rattle.layout.specs.{irq_place_lem, irq_in}
 use Rattle.seats.proofs.level_held.Tie as tie
 
 -- the record stands at the seat's place, and says this client
-client : (c : tie.After-handle) → let a = c.before.before.before.args in c.handle.result.0 ≡ word (now a.t) (irqPlace a.s.0)
+client : (c : tie.After-handle) → let a = c.before.before.before.args in c.handle.result.0 ≡ word (now a.t) (irq_place_lem a.s.0)
 client c = c.handle.ensures ∙ ap (word (now c.before.before.before.args.t)) c.before.irq-place.ensures.0
 
 returns : tie.Need-returns
 returns c = λ u. u (sym (client c.before.before) ∙ c.if1.true)
 
 returns-2 : tie.Need-returns-2
-unfolding irqIn
+unfolding irq_in
 returns-2 c =
     let read = c.before in
     let level = read.before in
@@ -26,5 +26,5 @@ returns-2 c =
 pub level-held-spec : {M : Type 1} → Rattle.seats.proofs.level_held.Statement.statement M
 level-held-spec =
     tie.close
-    (tie.spec (λ c κs. search needs) (λ c κs. search needs) returns (λ c. search needs) (λ c κs. search needs) (λ c. search needs) (λ c κs. search needs)
-    (λ c κs. search needs) returns-2)
+    (tie.spec (λ c κs. search rules) (λ c κs. search rules) returns (λ c. search rules) (λ c κs. search rules) (λ c. search rules) (λ c κs. search rules)
+    (λ c κs. search rules) returns-2)

@@ -1,13 +1,13 @@
 -- `service_checks::begin` meets its contract: each check's answer says which of the first checks it is, or that none applies.
 -- Assumes nothing.
-use Rattle.facts.proofs.Words.{◌≡◌, refl, List, ℕ, arith, length, now, needs}
+use Rattle.facts.proofs.Words.{◌≡◌, refl, List, ℕ, arith, length, now, rules}
 use Rattle.facts.specs.{Live}
 use Rattle.layout.specs.{Accepted}
-use Rattle.layout.proofs.{size_in, sockets-in, clients-in}
-use Rattle.layout.proofs.Of.{live-listed}
+use Rattle.layout.proofs.{size_in, sockets_in_lem, clients_in_lem}
+use Rattle.layout.proofs.Of.{live_listed}
 use Rattle.client_record.specs.{ListedAt}
 use Rattle.service_checks.specs.{NamesSocket}
-use Rattle.service_checks.proofs.{by_length, by-handle, by-socket, by-card}
+use Rattle.service_checks.proofs.{by_length, by_handle, by_socket, by_card}
 use Rattle.service_checks.proofs.begin.Tie as tie
 
 -- where the call began, its table and its packet
@@ -24,43 +24,43 @@ abbrev handle : tie.After-sized → ℕ
 handle c = (start c).args.h.0
 
 -- the packet's length is right
-abbrev call-of-length : tie.After-enum-told → tie.After-sized
-call-of-length c = c.before.before
+abbrev call_of_length : tie.After-enum-told → tie.After-sized
+call_of_length c = c.before.before
 
-length-right : (c : tie.After-enum-told) → length (packet (call-of-length c)) ≡ (start (call-of-length c)).args.n
-length-right c = let k = c.before.before in rw c.enum_told.given.1 at k.sized.ensures
+length_right : (c : tie.After-enum-told) → length (packet (call_of_length c)) ≡ (start (call_of_length c)).args.n
+length_right c = let k = c.before.before in rw c.enum_told.given.1 at k.sized.ensures
 
 -- the client is live: the place that it is listed in
-abbrev search-of-client : tie.After-known-told → tie.After-client-at
-search-of-client c = c.before.before.before
+abbrev search_of_client : tie.After-known-told → tie.After-client-at
+search_of_client c = c.before.before.before
 
-abbrev length-of-client : tie.After-known-told → tie.After-enum-told
-length-of-client c = (search-of-client c).before
+abbrev length_of_client : tie.After-known-told → tie.After-enum-told
+length_of_client c = (search_of_client c).before
 
-abbrev call-of-client : tie.After-known-told → tie.After-sized
-call-of-client c = call-of-length (length-of-client c)
+abbrev call_of_client : tie.After-known-told → tie.After-sized
+call_of_client c = call_of_length (length_of_client c)
 
-client-listed : (c : tie.After-known-told) → ListedAt (table (call-of-client c)) (handle (call-of-client c)) c.before.i.given.0.0
-client-listed c = let tried = c.before.before.before in rw c.before.i.given.1 at tried.client-at.ensures
+client_listed : (c : tie.After-known-told) → ListedAt (table (call_of_client c)) (handle (call_of_client c)) c.before.i.given.0.0
+client_listed c = let tried = c.before.before.before in rw c.before.i.given.1 at tried.client-at.ensures
 
-client-live : (c : tie.After-known-told) (a : Accepted (table (call-of-client c))) → Live a.facts (handle (call-of-client c))
-client-live c a = live-listed (table (call-of-client c)) a _ _ (client-listed c).listed (client-listed c).handle
+client_live : (c : tie.After-known-told) (a : Accepted (table (call_of_client c))) → Live a.facts (handle (call_of_client c))
+client_live c a = live_listed (table (call_of_client c)) a _ _ (client_listed c).listed (client_listed c).handle
 
 -- the socket is named
-abbrev check-of-socket : tie.After-known-told2 → tie.After-socket-named
-check-of-socket c = c.before.before.before
+abbrev check_of_socket : tie.After-known-told2 → tie.After-socket-named
+check_of_socket c = c.before.before.before
 
-abbrev client-of-socket : tie.After-known-told2 → tie.After-known-told
-client-of-socket c = (check-of-socket c).before
+abbrev client_of_socket : tie.After-known-told2 → tie.After-known-told
+client_of_socket c = (check_of_socket c).before
 
-abbrev call-of-socket : tie.After-known-told2 → tie.After-sized
-call-of-socket c = call-of-client (client-of-socket c)
+abbrev call_of_socket : tie.After-known-told2 → tie.After-sized
+call_of_socket c = call_of_client (client_of_socket c)
 
 abbrev socket : tie.After-known-told2 → ℕ
 socket c = c.before.socket.given.0.0.0
 
-socket-named : (c : tie.After-known-told2) → NamesSocket (table (call-of-socket c)) (packet (call-of-socket c)) (socket c)
-socket-named c = let tried = c.before.before.before in rw c.before.socket.given.1 at tried.socket-named.ensures
+socket_named_lem : (c : tie.After-known-told2) → NamesSocket (table (call_of_socket c)) (packet (call_of_socket c)) (socket c)
+socket_named_lem c = let tried = c.before.before.before in rw c.before.socket.given.1 at tried.socket-named.ensures
 
 returns : tie.Need-returns
 returns c a =
@@ -69,54 +69,54 @@ returns c a =
 
 client-at-requires : tie.Need-client-at-requires
 client-at-requires c κs =
-    let k = call-of-length c in
+    let k = call_of_length c in
     let a = (start k).pre.0 in
-    (size_in (table k) a, omega (arith, clients-in (table k) a, a.formed.clients-most))
+    (size_in (table k) a, omega (arith, clients_in_lem (table k) a, a.formed.clients_most))
 
 returns-2 : tie.Need-returns-2
 returns-2 c a =
     let tried = c.before.before in
-    let k = call-of-length tried.before in
-    by-handle a (packet k) (start k).args.n (handle k) (length-right tried.before) (start k).args.need
+    let k = call_of_length tried.before in
+    by_handle a (packet k) (start k).args.n (handle k) (length_right tried.before) (start k).args.need
     (rw c.enum-told3.given.1 at tried.client-at.ensures)
 
 socket-named-requires : tie.Need-socket-named-requires
 socket-named-requires c κs =
-    let k = call-of-client c in
-    (size_in (table k) (start k).pre.0, omega (arith, length-right (length-of-client c), (start k).pre.1))
+    let k = call_of_client c in
+    (size_in (table k) (start k).pre.0, omega (arith, length_right (length_of_client c), (start k).pre.1))
 
 returns-3 : tie.Need-returns-3
 returns-3 c a =
     let tried = c.before.before in
     let found = tried.before in
-    let k = call-of-client found in
-    by-socket a (packet k) (start k).args.n (handle k) (length-right (length-of-client found)) (client-live found a) (start k).args.need
+    let k = call_of_client found in
+    by_socket a (packet k) (start k).args.n (handle k) (length_right (length_of_client found)) (client_live found a) (start k).args.need
     (rw c.enum-told4.given.1 at tried.socket-named.ensures)
 
 card-asked-requires : tie.Need-card-asked-requires
 card-asked-requires c κs =
-    let k = call-of-socket c in
+    let k = call_of_socket c in
     let a = (start k).pre.0 in
-    (size_in (table k) a, omega (arith, (socket-named c).number, (socket-named c).counted, sockets-in (table k) a, a.formed.sockets-most))
+    (size_in (table k) a, omega (arith, (socket_named_lem c).number, (socket_named_lem c).counted, sockets_in_lem (table k) a, a.formed.sockets_most))
 
 returns-4 : tie.Need-returns-4
 returns-4 c a =
     let tried = c.before.before in
     let named = tried.before in
-    let found = client-of-socket named in
-    let k = call-of-client found in
-    by-card a (packet k) (start k).args.n (handle k) (length-right (length-of-client found)) (client-live found a) (socket-named named)
+    let found = client_of_socket named in
+    let k = call_of_client found in
+    by_card a (packet k) (start k).args.n (handle k) (length_right (length_of_client found)) (client_live found a) (socket_named_lem named)
     (start k).args.need (rw c.enum-told6.given.1 at tried.card-asked.ensures)
 
 returns-5 : tie.Need-returns-5
 returns-5 c =
     let tried = c.before.before in
     let named = tried.before in
-    let found = client-of-socket named in
+    let found = client_of_socket named in
     record {
-      size = length-right (length-of-client found);
-      client = client-listed found;
-      socket = socket-named named;
+      size = length_right (length_of_client found);
+      client = client_listed found;
+      socket = socket_named_lem named;
       seat = refl;
       card = rw c.enum-told5.given.1 at tried.card-asked.ensures;
     }
@@ -124,6 +124,6 @@ returns-5 c =
 pub begin-spec : {M : Type 1} → Rattle.service_checks.proofs.begin.Statement.statement M
 begin-spec =
     tie.close
-    (tie.spec (λ c κs. search needs) (λ c. search needs) (λ c. search needs) returns client-at-requires (λ c. search needs) (λ c. search needs)
-    returns-2 socket-named-requires (λ c. search needs) (λ c. search needs) returns-3 card-asked-requires (λ c. search needs) (λ c. search needs)
+    (tie.spec (λ c κs. search rules) (λ c. search rules) (λ c. search rules) returns client-at-requires (λ c. search rules) (λ c. search rules)
+    returns-2 socket-named-requires (λ c. search rules) (λ c. search rules) returns-3 card-asked-requires (λ c. search rules) (λ c. search rules)
     returns-4 returns-5)

@@ -1,6 +1,6 @@
 -- `table_clients::place_flaw` meets its contract: the numbers are those of the place.
 -- Assumes nothing.
-use Rattle.facts.proofs.Words.{needs}
+use Rattle.facts.proofs.Words.{rules}
 use Rattle.table_clients.proofs.place_flaw.Tie as tie
 
 returns : tie.Need-returns
@@ -14,6 +14,6 @@ returns c =
 pub place-flaw-spec : {M : Type 1} → Rattle.table_clients.proofs.place_flaw.Statement.statement M
 place-flaw-spec =
     tie.close
-    (tie.spec (λ c. search needs) (λ c. search needs) (λ c κs. search needs) (λ c. search needs) (λ c. search needs) (λ c. search needs)
-    (λ c κs. search needs) (λ c. search needs) (λ c. search needs) (λ c κs. search needs) (λ c. search needs) (λ c. search needs)
-    (λ c κs. search needs) (λ c κs. search needs) returns)
+    (tie.spec (λ c. search rules) (λ c. search rules) (λ c κs. search rules) (λ c. search rules) (λ c. search rules) (λ c. search rules)
+    (λ c κs. search rules) (λ c. search rules) (λ c. search rules) (λ c κs. search rules) (λ c. search rules) (λ c. search rules)
+    (λ c κs. search rules) (λ c κs. search rules) returns)

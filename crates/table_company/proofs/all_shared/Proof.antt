@@ -1,8 +1,8 @@
 -- `table_company::all_shared` meets its contract. The loop's invariant: the grants passed are shared.
 -- Assumes nothing.
 use Rattle.facts.proofs.Words.{◌-◌, arith}
-use Rattle.facts.proofs.{says-true, says-yes, says-false-by}
-use Rattle.table_read.proofs.{SoFar, so-far-none, so_far_more}
+use Rattle.facts.proofs.{says_true, says_yes, says_false_by}
+use Rattle.table_read.proofs.{SoFar, so_far_none, so_far_more}
 use Rattle.table_company.specs.{SharedAt}
 use Rattle.table_company.proofs.all_shared.Tie as tie
 
@@ -21,11 +21,11 @@ shared-at-requires c κs = let pre = (start c.before).pre in (pre.0, omega (arit
 loop-again : tie.Need-loop-preserved invariant-loop decreases-loop
 loop-again c =
     let this = c.before.before in
-    so_far_more this.before.loop.invariant this.loop-test.true (says-yes c.before.shared_at.ensures c.if1.false)
+    so_far_more this.before.loop.invariant this.loop-test.true (says_yes c.before.shared_at.ensures c.if1.false)
 
 pub all-shared-spec : {M : Type 1} → Rattle.table_company.proofs.all_shared.Statement.statement M
 all-shared-spec =
     tie.close
-    (tie.spec invariant-loop decreases-loop (λ c. so-far-none) shared-at-requires
-    (λ c. says-false-by c.before.shared_at.ensures c.if1.true (λ all. all _ c.before.before.loop-test.true)) (λ c. omega arith)
-    (λ c. omega arith) loop-again (λ c. says-true (λ s l. c.before.loop.invariant.each s (omega (arith, l, c.loop-test.false)))))
+    (tie.spec invariant-loop decreases-loop (λ c. so_far_none) shared-at-requires
+    (λ c. says_false_by c.before.shared_at.ensures c.if1.true (λ all. all _ c.before.before.loop-test.true)) (λ c. omega arith)
+    (λ c. omega arith) loop-again (λ c. says_true (λ s l. c.before.loop.invariant.each s (omega (arith, l, c.loop-test.false)))))

@@ -1,10 +1,10 @@
 -- `table_company::apart` meets its contract: what is reached of the seats passed, or-ed together, is 0 exactly if nothing of any is.
 -- Assumes nothing.
-use Rattle.facts.proofs.Words.{◌≡◌, sym, ◌∙◌, ◌-◌, ◌≤◌, arith, needs, now}
-use Rattle.facts.proofs.{says-true, says-as, says_eq}
-use Rattle.table_read.proofs.{Flawless, flawless-none, flawless-more}
+use Rattle.facts.proofs.Words.{◌≡◌, sym, ◌∙◌, ◌-◌, ◌≤◌, arith, rules, now}
+use Rattle.facts.proofs.{says_true, says_as, says_eq}
+use Rattle.table_read.proofs.{Flawless, flawless_none, flawless_more}
 use Rattle.table_company.specs.{reached}
-use Rattle.table_company.proofs.{reached-by}
+use Rattle.table_company.proofs.{reached_by}
 use Rattle.table_company.proofs.apart.Tie as tie
 
 abbrev invariant-loop : tie.invariant-loop
@@ -31,20 +31,20 @@ loop-again c =
     let k = turn c in
     let a = (counted k).before.before.args in
     let row = (chosen k).row-against.ensures.0 in
-    let is = reached-by (now a.held) a.s.0 k.loop.u _ _ _ row (last k).wrapping-add-u16.ensures c.over.ensures in
-    (omega arith, flawless-more c.over.result k.loop.inv.1 (says-as (says_eq _ _) (λ z. sym is ∙ z) (λ z. is ∙ z)))
+    let is = reached_by (now a.held) a.s.0 k.loop.u _ _ _ row (last k).wrapping-add-u16.ensures c.over.ensures in
+    (omega arith, flawless_more c.over.result k.loop.inv.1 (says_as (says_eq _ _) (λ z. sym is ∙ z) (λ z. is ∙ z)))
 
 returns-2 : tie.Need-returns-2 invariant-loop decreases-loop
 returns-2 c =
     let k = c.before in
-    says-as k.loop.invariant.1.says (λ a one u l. a u (omega (arith, l, c.loop-test.false)))
+    says_as k.loop.invariant.1.says (λ a one u l. a u (omega (arith, l, c.loop-test.false)))
     (λ r u l. r (omega (arith, (counted k).if1.false)) u (omega (arith, l, k.loop.invariant.0)))
 
 pub apart-spec : {M : Type 1} → Rattle.table_company.proofs.apart.Statement.statement M
 apart-spec =
     tie.close
-    (tie.spec invariant-loop decreases-loop (λ c. omega arith) (λ c. omega arith) (λ c. omega arith) (λ c. says-true (λ one. absurd (omega (arith, one, c.if1.true))))
-    (λ c. omega arith) (λ c. omega arith) (λ c. omega arith) (λ c κs. search needs) (λ c. omega arith) (λ c. omega arith) (λ c. omega arith)
-    (λ c. omega arith) (λ c. omega arith) (λ c. omega arith) (λ c κs. search needs) (λ c. (omega arith, flawless-none _)) (λ c. omega arith)
+    (tie.spec invariant-loop decreases-loop (λ c. omega arith) (λ c. omega arith) (λ c. omega arith) (λ c. says_true (λ one. absurd (omega (arith, one, c.if1.true))))
+    (λ c. omega arith) (λ c. omega arith) (λ c. omega arith) (λ c κs. search rules) (λ c. omega arith) (λ c. omega arith) (λ c. omega arith)
+    (λ c. omega arith) (λ c. omega arith) (λ c. omega arith) (λ c κs. search rules) (λ c. (omega arith, flawless_none _)) (λ c. omega arith)
     (λ c. omega arith) (λ c. omega arith) (λ c. omega arith) (λ c. omega arith) (λ c. omega arith) (λ c. omega arith) (λ c. omega arith)
-    (λ c κs. search needs) (λ c. omega arith) (λ c. omega arith) loop-again returns-2)
+    (λ c κs. search rules) (λ c. omega arith) (λ c. omega arith) loop-again returns-2)

@@ -1,8 +1,8 @@
 -- `table_company::enter` meets its contract: four numbers are written, which stand apart from those of the seats below.
 -- Assumes nothing.
-use Rattle.facts.proofs.Words.{length, ◌+◌, ◌<◌, arith, needs, now}
-use Rattle.table_company.specs.{unsharedAt}
-use Rattle.table_company.proofs.{lengths, entered-are}
+use Rattle.facts.proofs.Words.{length, ◌+◌, ◌<◌, arith, rules, now}
+use Rattle.table_company.specs.{unshared_at}
+use Rattle.table_company.proofs.{lengths, entered_are}
 use Rattle.table_company.proofs.enter.Tie as tie
 
 returns : tie.Need-returns
@@ -12,11 +12,11 @@ returns c =
     let rows = now a.held in
     let new = c.Numbers-of in (
       (lengths rows a.s.0 new.result).3,
-      entered-are rows a.s.0 new.result start.requires.0.1 start.requires.1.0 (now a.t) start.requires.1.1 new.ensures,
+      entered_are rows a.s.0 new.result start.requires.0.1 start.requires.1.0 (now a.t) start.requires.1.1 new.ensures,
     )
 
 -- there is room for what is written, and the rows keep their length
-room : (c : tie.After-numbers-of) → let a = c.before.before.before.args in unsharedAt + a.s.0 < length (now a.held)
+room : (c : tie.After-numbers-of) → let a = c.before.before.before.args in unshared_at + a.s.0 < length (now a.held)
 room c = let pre = c.before.before.before.requires in omega (arith, pre.0.1, pre.1.0)
 
 slice-write-held-2 : tie.Need-slice-write-held-2
@@ -31,5 +31,5 @@ slice-write-held-4 c = let a = c.before.before.before.args in omega (arith, room
 pub enter_spec : {M : Type 1} → Rattle.table_company.proofs.enter.Statement.statement M
 enter_spec =
     tie.close
-    (tie.spec (λ c κs. search needs) (λ c. search needs) (λ c. search needs) (λ c. search needs) (λ c. search needs) slice-write-held-2
-    (λ c. search needs) (λ c. search needs) slice-write-held-3 (λ c. search needs) (λ c. search needs) slice-write-held-4 (λ c. search needs) returns)
+    (tie.spec (λ c κs. search rules) (λ c. search rules) (λ c. search rules) (λ c. search rules) (λ c. search rules) slice-write-held-2
+    (λ c. search rules) (λ c. search rules) slice-write-held-3 (λ c. search rules) (λ c. search rules) slice-write-held-4 (λ c. search rules) returns)

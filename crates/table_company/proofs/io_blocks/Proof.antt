@@ -1,11 +1,11 @@
 -- `table_company::io_blocks` meets its contract: there is no grant, or its blocks are those of its ports.
 -- Assumes nothing.
-use Rattle.facts.proofs.Words.{subst, arith, needs, now}
+use Rattle.facts.proofs.Words.{subst, arith, rules, now}
 use Rattle.facts.specs.{IoGrant}
 use Rattle.table_read.specs.{Covers}
 use Rattle.seats.specs.declared.IoSeat.TheVariants.{Held}
 use Rattle.seats.specs.{HeldIs}
-use Rattle.seats.proofs.{held_fits, held-port}
+use Rattle.seats.proofs.{held_fits, held_port}
 use Rattle.table_company.specs.{AnswersInBlock}
 use Rattle.table_company.proofs.io_blocks.Tie as tie
 
@@ -26,10 +26,10 @@ blocks-of-requires : tie.Need-blocks-of-requires
 blocks-of-requires c κs =
     let k = looked c in
     let fits = held_fits _ _ _ (there c) (λ i. omega (arith, k.before.shared-slice-known.given i)) in
-    (fits.0, held-port _ _ _ (there c) (start k).pre.2, fits.1)
+    (fits.0, held_port _ _ _ (there c) (start k).pre.2, fits.1)
 
 returns-2 : tie.Need-returns-2
 returns-2 c u = subst (λ (x : IoGrant). Covers c.blocks-of.result (AnswersInBlock x.ports)) (there c.before).1 c.blocks-of.ensures
 
 pub io-blocks-spec : {M : Type 1} → Rattle.table_company.proofs.io_blocks.Statement.statement M
-io-blocks-spec = tie.close (tie.spec (λ c κs. search needs) (λ c. search needs) (λ c. search needs) returns blocks-of-requires returns-2)
+io-blocks-spec = tie.close (tie.spec (λ c κs. search rules) (λ c. search rules) (λ c. search rules) returns blocks-of-requires returns-2)

@@ -1,10 +1,10 @@
 -- `table_company::numbers_of` meets its contract: there is no grant, or its numbers are read.
 -- Assumes nothing.
-use Rattle.facts.proofs.Words.{◌≡◌, refl, ap, ◌∙◌, subst, cond, ◌+◌, ◌-◌, ◌^◌, ◌≤◌, ◌<◌, pow_pos, pow_mono, arith, needs, now}
-use Rattle.facts.specs.{IoGrant, allPorts, mostAsked, mostLines}
+use Rattle.facts.proofs.Words.{◌≡◌, refl, ap, ◌∙◌, subst, cond, ◌+◌, ◌-◌, ◌^◌, ◌≤◌, ◌<◌, pow_pos, pow_mono, arith, rules, now}
+use Rattle.facts.specs.{IoGrant, all_ports, most_asked, most_lines}
 use Rattle.seats.specs.declared.IoSeat.TheVariants.{Held}
 use Rattle.seats.specs.{HeldIs}
-use Rattle.seats.proofs.{held_fits, held-lines}
+use Rattle.seats.proofs.{held_fits, held_lines}
 use Rattle.table_company.proofs.numbers_of.Tie as tie
 
 -- where the call began, and where there is a grant
@@ -18,11 +18,11 @@ there : (c : tie.After-known-told) → let a = (start (looked c)).args in HeldIs
 there c = subst (HeldIs _ _) c.before.held2.given.1 (looked c).held.ensures
 
 -- its numbers have 16 bits
-fits : (c : tie.After-known-told) → let x = c.before.held2.given.0.0 in (x.base < allPorts) × (x.count ≤ mostAsked)
+fits : (c : tie.After-known-told) → let x = c.before.held2.given.0.0 in (x.base < all_ports) × (x.count ≤ most_asked)
 fits c = held_fits _ _ _ (there c) (λ i. omega (arith, (looked c).before.shared-slice-known.given i))
 
-lines : (c : tie.After-known-told) → c.before.held2.given.0.0.lines ≤ mostLines
-lines c = held-lines _ _ _ (there c) (start (looked c)).requires.2
+lines : (c : tie.After-known-told) → c.before.held2.given.0.0.lines ≤ most_lines
+lines c = held_lines _ _ _ (there c) (start (looked c)).requires.2
 
 power : (c : tie.After-power) → (1 ≤ c.power.result) × (c.power.result ≤ 65536)
 power c =
@@ -57,6 +57,6 @@ returns-2 c =
 pub numbers-of-spec : {M : Type 1} → Rattle.table_company.proofs.numbers_of.Statement.statement M
 numbers-of-spec =
     tie.close
-    (tie.spec (λ c κs. search needs) (λ c. search needs) (λ c. search needs) returns (λ c κs. lines c) (λ c. (power c).0)
+    (tie.spec (λ c κs. search rules) (λ c. search rules) (λ c. search rules) returns (λ c κs. lines c) (λ c. (power c).0)
     (λ c. omega (arith, (fits c.before.before).1)) (λ c. omega (arith, (fits c.before.before.before).0))
-    (λ c. omega (arith, (power c.before.before).1)) (λ c κs. search needs) returns-2)
+    (λ c. omega (arith, (power c.before.before).1)) (λ c κs. search rules) returns-2)

@@ -1,13 +1,13 @@
 -- `table_ios::fewest_lines` meets its contract: none of the seats passed has a card that decodes fewer.
 -- Assumes nothing.
-use Rattle.facts.proofs.Words.{◌+◌, ◌-◌, ◌≤◌, arith, needs}
+use Rattle.facts.proofs.Words.{◌+◌, ◌-◌, ◌≤◌, arith, rules}
 use Rattle.facts.specs.{byte}
-use Rattle.layout.specs.{ioPlace, IoUsed, ioLinesAt}
+use Rattle.layout.specs.{io_place_lem, IoUsed, io_lines_at}
 use Rattle.table_read.proofs.{All, all_none, all_more}
 use Rattle.table_ios.proofs.fewest_lines.Tie as tie
 
 abbrev invariant-loop : tie.invariant-loop
-invariant-loop t sockets fewest₀ s₀ fewest s = All s (λ i. IoUsed t i → fewest ≤ byte t (ioPlace i + ioLinesAt))
+invariant-loop t sockets fewest₀ s₀ fewest s = All s (λ i. IoUsed t i → fewest ≤ byte t (io_place_lem i + io_lines_at))
 
 abbrev decreases-loop : tie.decreases-loop
 decreases-loop t sockets fewest₀ s₀ fewest s = sockets - s
@@ -34,5 +34,5 @@ returns c = λ s l u. let k = c.before in k.loop.invariant s (omega (arith, (cou
 pub fewest-lines-spec : {M : Type 1} → Rattle.table_ios.proofs.fewest_lines.Statement.statement M
 fewest-lines-spec =
     tie.close
-    (tie.spec invariant-loop decreases-loop (λ c κs. omega (arith, c.before.requires.0)) (λ c. all_none _) (λ c κs. search needs) (λ c κs. search needs)
+    (tie.spec invariant-loop decreases-loop (λ c κs. omega (arith, c.before.requires.0)) (λ c. all_none _) (λ c κs. search rules) (λ c κs. search rules)
     (λ c. omega arith) (λ c. omega arith) loop-again returns)

@@ -1,18 +1,18 @@
 -- `table_ios::ios_sound` meets its contract. The loop's invariant: the records of the seats passed are sound, the set has
 -- each block in which their grants answer, and where no block was in common they keep company.
 -- Assumes nothing.
-use Rattle.facts.proofs.Words.{◌≡◌, ◌+◌, refl, by_cases, dec_lt, List, ℕ, ◌-◌, ◌/◌, ◌≤◌, ◌<◌, arith, now, needs}
-use Rattle.facts.specs.{mostSeats, mostRanges}
-use Rattle.facts.proofs.{says-true, says-as, says-yes, says-false-by}
-use Rattle.layout.specs.{Zero, socketsIn, iosAt, ioSize, ioPlace, IoPlaceSound, IoPairSound}
-use Rattle.table_read.proofs.{All, all_none, SoFar, so-far-none, so_far_more}
+use Rattle.facts.proofs.Words.{◌≡◌, ◌+◌, refl, by_cases, dec_lt, List, ℕ, ◌-◌, ◌/◌, ◌≤◌, ◌<◌, arith, now, rules}
+use Rattle.facts.specs.{most_seats, most_ranges}
+use Rattle.facts.proofs.{says_true, says_as, says_yes, says_false_by}
+use Rattle.layout.specs.{Zero, sockets_in, ios_at, io_size, io_place_lem, IoPlaceSound, IoPairSound}
+use Rattle.table_read.proofs.{All, all_none, SoFar, so_far_none, so_far_more}
 use Rattle.seats.specs.{SeatSound, IosSound}
 use Rattle.table_ios.specs.{RowsServe}
 use Rattle.table_company.specs.{CompaniesSound, BlocksOf}
-use Rattle.io_answering.specs.{mostGaps}
+use Rattle.io_answering.specs.{most_gaps}
 use Rattle.io_answering.proofs.{none_yet}
-use Rattle.table_company.proofs.{blocks_more, companies-more}
-use Rattle.seats.proofs.{zero-sound, sound-zero}
+use Rattle.table_company.proofs.{blocks_more, companies_more}
+use Rattle.seats.proofs.{zero_sound, sound_zero}
 use Rattle.table_ios.proofs.ios_sound.Tie as tie
 
 -- what a turn of the loop begins with
@@ -20,7 +20,7 @@ record Passed (t : List ℕ) (sockets passed common near s : ℕ) : Type 0 where
   pub sound : SoFar sockets (IoPlaceSound t) s
   pub blocks : All s (λ u. BlocksOf t u passed)
   pub kept : common ≡ 0 → CompaniesSound t s
-  pub near-most : near ≤ mostRanges
+  pub near_most : near ≤ most_ranges
 
 abbrev invariant-loop : tie.invariant-loop
 invariant-loop t sockets rows passed₀ common₀ near₀ s₀ passed common near s = Passed t sockets passed common near s
@@ -38,8 +38,8 @@ counted c = c.before.before
 abbrev first : tie.After-byte invariant-loop decreases-loop → tie.Start invariant-loop decreases-loop
 first c = begun c.before.before
 
-few : (c : tie.After-byte invariant-loop decreases-loop) → c.byte.result ≤ mostSeats
-few c = omega (arith, c.byte.ensures.0, (first c).requires.1.sockets-most)
+few : (c : tie.After-byte invariant-loop decreases-loop) → c.byte.result ≤ most_seats
+few c = omega (arith, c.byte.ensures.0, (first c).requires.1.sockets_most)
 
 -- where the rows of the gaps were made, for the fewest lines of any card: they serve each
 abbrev made : tie.At-loop invariant-loop decreases-loop → tie.After-gap-rows invariant-loop decreases-loop
@@ -67,36 +67,36 @@ near c = c.before.before.before
 abbrev turn : tie.Else3 invariant-loop decreases-loop → tie.In-loop invariant-loop decreases-loop
 turn c = (near c).before
 
-below : (c : tie.In-loop invariant-loop decreases-loop) → c.before.loop.s < socketsIn (now (start c.before).args.t)
+below : (c : tie.In-loop invariant-loop decreases-loop) → c.before.loop.s < sockets_in (now (start c.before).args.t)
 below c = omega (arith, c.loop-test.true, (counted (passed c.before)).byte.ensures.0)
 
-seated : (c : tie.In-loop invariant-loop decreases-loop) → c.before.loop.s < mostSeats
-seated c = omega (arith, below c, (start c.before).pre.1.sockets-most)
+seated : (c : tie.In-loop invariant-loop decreases-loop) → c.before.loop.s < most_seats
+seated c = omega (arith, below c, (start c.before).pre.1.sockets_most)
 
 place : (c : tie.Else3 invariant-loop decreases-loop) → let k = (turn c).before in IoPlaceSound (now (start k).args.t) k.loop.s
-place c = says-yes c.before.io-place-sound.ensures c.if3.false
+place c = says_yes c.before.io-place-sound.ensures c.if3.false
 
 -- records from a seat on that are all zero are sound
-zeros : (b : List ℕ) (n : ℕ) → Zero b (ioPlace n) (ioPlace mostSeats) → (s : ℕ) → n ≤ s → s < mostSeats → SeatSound (IoPlaceSound b) (IoPairSound b) s
-zeros b n z = zero-sound b n (ioPlace mostSeats) ioSize ioPlace (omega arith) (λ s f. omega arith) (λ s l. omega arith) z
+zeros : (b : List ℕ) (n : ℕ) → Zero b (io_place_lem n) (io_place_lem most_seats) → (s : ℕ) → n ≤ s → s < most_seats → SeatSound (IoPlaceSound b) (IoPairSound b) s
+zeros b n z = zero_sound b n (io_place_lem most_seats) io_size io_place_lem (omega arith) (λ s f. omega arith) (λ s l. omega arith) z
 
 returns : tie.Need-returns invariant-loop decreases-loop
-returns c = says-true (λ s l. zeros _ 0 (c.before.zero.ensures.holds c.if1.true) s (omega arith) l)
+returns c = says_true (λ s l. zeros _ 0 (c.before.zero.ensures.holds c.if1.true) s (omega arith) l)
 
 returns-2 : tie.Need-returns-2 invariant-loop decreases-loop
 returns-2 c =
     let k = c.before.before in
-    says-false-by c.before.zero2.ensures c.if2.true
-    (sound-zero (now (first k).args.t) _ _ ioSize ioPlace (λ i. (i - iosAt) / ioSize)
+    says_false_by c.before.zero2.ensures c.if2.true
+    (sound_zero (now (first k).args.t) _ _ io_size io_place_lem (λ i. (i - ios_at) / io_size)
     (λ i f l. (omega arith, omega arith, record { from = omega arith; below = omega arith })) (λ s g. omega (arith, g.socket, k.byte.ensures.0)))
 
 gap-rows-requires : tie.Need-gap-rows-requires invariant-loop decreases-loop
 gap-rows-requires c κs =
-    let pre = (first (counted c.before.before)).pre in ((pre.0, pre.1.ranges-most, pre.3), none_yet (mostGaps + mostGaps) _ refl (omega arith))
+    let pre = (first (counted c.before.before)).pre in ((pre.0, pre.1.ranges_most, pre.3), none_yet (most_gaps + most_gaps) _ refl (omega arith))
 
 range-near-requires : tie.Need-range-near-requires invariant-loop decreases-loop
 range-near-requires c κs =
-    let pre = (start c.before).pre in (pre.0, seated c, pre.1.ranges-most, c.before.loop.invariant.near-most)
+    let pre = (start c.before).pre in (pre.0, seated c, pre.1.ranges_most, c.before.loop.invariant.near_most)
 
 io-place-sound-requires : tie.Need-io-place-sound-requires invariant-loop decreases-loop
 io-place-sound-requires c κs =
@@ -116,14 +116,14 @@ loop-again c =
     record {
       sound = so_far_more inv.sound this.loop-test.taken (place k);
       blocks = blocks_more _ _ _ _ inv.blocks own;
-      kept = companies-more _ _ _ _ _ inv.blocks own inv.kept;
-      near-most = (near k).range-near.ensures.0;
+      kept = companies_more _ _ _ _ _ inv.blocks own inv.kept;
+      near_most = (near k).range-near.ensures.0;
     }
 
 returns-3 : tie.Need-returns-3 invariant-loop decreases-loop
 returns-3 c =
     let lent = c.before.before in
-    says-false-by c.before.io-place-sound.ensures c.if3.true (λ all. (all _ (seated lent.before.before)).place)
+    says_false_by c.before.io-place-sound.ensures c.if3.true (λ all. (all _ (seated lent.before.before)).place)
 
 -- the records of all seats are sound, where those of sockets keep company
 module _ (k : tie.At-loop invariant-loop decreases-loop) (end : (counted (passed k)).byte.result ≤ k.loop.s) where
@@ -134,12 +134,12 @@ module _ (k : tie.At-loop invariant-loop decreases-loop) (end : (counted (passed
   all_sound kept s l =
       let past = passed k in
       by_cases (dec_lt s sockets) (λ m. record { place = k.loop.inv.sound.each s (omega (arith, m, end)); company = kept s m })
-      (λ n. zeros _ _ (says-yes past.before.zero2.ensures past.if2.left) s (omega (arith, n)) l)
+      (λ n. zeros _ _ (says_yes past.before.zero2.ensures past.if2.left) s (omega (arith, n)) l)
 
 returns-4 : tie.Need-returns-4 invariant-loop decreases-loop
 returns-4 c =
     let k = c.before.before in
-    says-true (all_sound k (omega (arith, c.before.loop-test.false)) (λ s l. k.loop.invariant.kept c.if4.true s (omega (arith, l, c.before.loop-test.false))))
+    says_true (all_sound k (omega (arith, c.before.loop-test.false)) (λ s l. k.loop.invariant.kept c.if4.true s (omega (arith, l, c.before.loop-test.false))))
 
 companies-kept-requires : tie.Need-companies-kept-requires invariant-loop decreases-loop
 companies-kept-requires c κs =
@@ -150,14 +150,14 @@ returns-5 : tie.Need-returns-5 invariant-loop decreases-loop
 returns-5 c =
     let all-passed = c.before.before in
     let k = all-passed.before in
-    says-as c.companies-kept.ensures (all_sound k (omega (arith, all-passed.loop-test.false)))
+    says_as c.companies-kept.ensures (all_sound k (omega (arith, all-passed.loop-test.false)))
     (λ all s l. (all s (omega (arith, l, few (counted (passed k))))).company)
 
 pub ios-sound-spec : {M : Type 1} → Rattle.table_ios.proofs.ios_sound.Statement.statement M
 ios-sound-spec =
     tie.close
     (tie.spec invariant-loop decreases-loop (λ c κs. omega arith) returns (λ c κs. omega arith) (λ c. omega (arith, few c)) (λ c. omega (arith, few c))
-    (λ c κs. (omega (arith, few c), omega arith)) returns-2 (λ c κs. let pre = (first (counted c)).pre in (pre.0, pre.1)) (λ c. search needs)
-    gap-rows-requires (λ c. record { sound = so-far-none; blocks = all_none _; kept = λ e s l. absurd (omega arith); near-most = omega arith })
+    (λ c κs. (omega (arith, few c), omega arith)) returns-2 (λ c κs. let pre = (first (counted c)).pre in (pre.0, pre.1)) (λ c. search rules)
+    gap-rows-requires (λ c. record { sound = so_far_none; blocks = all_none _; kept = λ e s l. absurd (omega arith); near_most = omega arith })
     range-near-requires io-place-sound-requires returns-3 io-blocks-requires (λ c. omega arith) (λ c. omega arith) loop-again returns-4
     companies-kept-requires returns-5)

@@ -1,7 +1,7 @@
 -- `table_ios::ports_sound` meets its contract: each test decides a field of the record.
 -- Assumes nothing.
-use Rattle.facts.proofs.Words.{arith, needs}
-use Rattle.facts.proofs.{says-false, says-as}
+use Rattle.facts.proofs.Words.{arith, rules}
+use Rattle.facts.proofs.{says_false, says_as}
 use Rattle.table_ios.proofs.ports_sound.Tie as tie
 
 -- where the lines passed, the port count did, and where the call began
@@ -21,11 +21,11 @@ returns-6 : tie.Need-returns-6
 returns-6 c =
     let power = c.before.before.before in
     let decoded = rw power.power.ensures at c.before.if5.false in
-    says-as c.ports-managed.ensures (λ m. search needs) (λ p. p.managed)
+    says_as c.ports-managed.ensures (λ m. search rules) (λ p. p.managed)
 
 pub ports-sound-spec : {M : Type 1} → Rattle.table_ios.proofs.ports_sound.Statement.statement M
 ports-sound-spec =
     tie.close
-    (tie.spec (λ c. says-false (λ p. omega (arith, c.if1.true, p.base))) (λ c. says-false (λ p. omega (arith, c.if2.true, p.port)))
-    (λ c. says-false (λ p. omega (arith, c.if3.true, p.line))) (λ c. says-false (λ p. omega (arith, c.if4.true, p.lines)))
-    (λ c κs. c.if4.false) (λ c. says-false (λ p. omega (arith, c.before.before.power.ensures, c.if5.true, p.decoded))) ports-managed-requires returns-6)
+    (tie.spec (λ c. says_false (λ p. omega (arith, c.if1.true, p.base))) (λ c. says_false (λ p. omega (arith, c.if2.true, p.port)))
+    (λ c. says_false (λ p. omega (arith, c.if3.true, p.line))) (λ c. says_false (λ p. omega (arith, c.if4.true, p.lines)))
+    (λ c κs. c.if4.false) (λ c. says_false (λ p. omega (arith, c.before.before.power.ensures, c.if5.true, p.decoded))) ports-managed-requires returns-6)

@@ -1,7 +1,7 @@
 -- `table_read::eights_zero` meets its contract. The loop's invariant: `all` is zero exactly if the bytes passed are.
 -- Assumes nothing.
 use Rattle.facts.proofs.Words.{◌+◌, ◌*◌, ◌-◌, ◌≤◌, arith}
-use Rattle.table_read.proofs.{Gathered, gathered_none, gathered-joined, gathered-eight, gathered-says}
+use Rattle.table_read.proofs.{Gathered, gathered_none, gathered_joined, gathered_eight, gathered_says}
 use Rattle.table_read.proofs.eights_zero.Tie as tie
 
 abbrev invariant-loop : tie.invariant-loop
@@ -15,11 +15,11 @@ loop-again c =
     let turn = c.before.before in (
       omega arith,
       rw c.eight.ensures
-          (gathered-joined _ _ _ _ _ _ (omega arith) (omega arith) turn.loop.invariant.1 (gathered-eight _ _ _ (omega arith))),
+          (gathered_joined _ _ _ _ _ _ (omega arith) (omega arith) turn.loop.invariant.1 (gathered_eight _ _ _ (omega arith))),
     )
 
 returns : tie.Need-returns invariant-loop decreases-loop
-returns c = gathered-says _ _ _ _ _ (omega arith) c.before.loop.invariant.1
+returns c = gathered_says _ _ _ _ _ (omega arith) c.before.loop.invariant.1
 
 pub eights-zero-spec : {M : Type 1} → Rattle.table_read.proofs.eights_zero.Statement.statement M
 eights-zero-spec =

@@ -2,7 +2,7 @@
 -- The measure is what is left of one. Assumes nothing.
 use Rattle.facts.proofs.Words.{◌-◌, ◌≤◌, arith}
 use Rattle.table_read.proofs.Quarters.{Quarters}
-use Rattle.table_read.proofs.{quarters-none, quarters-more, quarters-says}
+use Rattle.table_read.proofs.{quarters_none, quarters_more, quarters_says}
 use Rattle.table_read.proofs.four_zero.Tie as tie
 
 abbrev invariant-loop : tie.invariant-loop
@@ -20,14 +20,14 @@ abbrev turn : tie.After-shared-slice-known2 invariant-loop decreases-loop → ti
 turn c = c.before.before.before
 
 loop-again : tie.Need-loop-preserved invariant-loop decreases-loop
-loop-again c = (omega arith, quarters-more _ _ _ _ _ _ _ _ _ _ (turn (halfway c)).loop.inv.1)
+loop-again c = (omega arith, quarters_more _ _ _ _ _ _ _ _ _ _ (turn (halfway c)).loop.inv.1)
 
 returns : tie.Need-returns invariant-loop decreases-loop
-returns c = quarters-says _ _ _ _ _ _ _ _ _ _ c.before.loop.invariant.1 _ (omega arith)
+returns c = quarters_says _ _ _ _ _ _ _ _ _ _ c.before.loop.invariant.1 _ (omega arith)
 
 pub four-zero-spec : {M : Type 1} → Rattle.table_read.proofs.four_zero.Statement.statement M
 four-zero-spec =
     tie.close
-    (tie.spec invariant-loop decreases-loop (λ c. (omega arith, quarters-none _ _ _ _ _))
+    (tie.spec invariant-loop decreases-loop (λ c. (omega arith, quarters_none _ _ _ _ _))
     (λ c. omega arith) (λ c. omega arith) (λ c. omega arith) (λ c. omega arith) (λ c. omega arith) (λ c. omega arith) (λ c. omega arith)
     (λ c. omega arith) (λ c. omega arith) (λ c. omega arith) loop-again returns)

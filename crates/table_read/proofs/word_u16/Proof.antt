@@ -1,6 +1,6 @@
 -- `table_read::word_u16` meets its contract: what a slice of bytes holds is below 256, so the number has two bytes.
 -- Assumes nothing.
-use Rattle.facts.proofs.Words.{◌+◌, needs, arith}
+use Rattle.facts.proofs.Words.{◌+◌, rules, arith}
 use Rattle.table_read.proofs.word_u16.Tie as tie
 
 cast-low : tie.Need-overflow-cast-low
@@ -20,4 +20,4 @@ add-result c =
 pub word-u16-spec : {M : Type 1} → Rattle.table_read.proofs.word_u16.Statement.statement M
 word-u16-spec =
     tie.close
-    (tie.spec (λ c. search needs) cast-low (λ c. search needs) (λ c. search needs) cast-high mul-result add-result (λ c. search needs))
+    (tie.spec (λ c. search rules) cast-low (λ c. search rules) (λ c. search rules) cast-high mul-result add-result (λ c. search rules))

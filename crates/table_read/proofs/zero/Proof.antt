@@ -1,7 +1,7 @@
 -- `table_read::zero` meets its contract. The loop's invariant: `all` is zero exactly if the bytes passed are. The measure is what is left of them.
 -- Assumes nothing.
 use Rattle.facts.proofs.Words.{◌-◌, ◌≤◌, arith}
-use Rattle.table_read.proofs.{Gathered, gathered_none, gathered-more, gathered-says}
+use Rattle.table_read.proofs.{Gathered, gathered_none, gathered_more, gathered_says}
 use Rattle.table_read.proofs.zero.Tie as tie
 
 abbrev invariant-loop : tie.invariant-loop
@@ -14,10 +14,10 @@ loop-holds : tie.Need-loop-init invariant-loop decreases-loop
 loop-holds c = (omega arith, omega arith, gathered_none _ _ _ (omega arith))
 
 loop-again : tie.Need-loop-preserved invariant-loop decreases-loop
-loop-again c = (omega arith, omega arith, gathered-more _ _ _ _ _ (omega arith) (omega arith) c.before.before.loop.invariant.2)
+loop-again c = (omega arith, omega arith, gathered_more _ _ _ _ _ (omega arith) (omega arith) c.before.before.loop.invariant.2)
 
 returns : tie.Need-returns invariant-loop decreases-loop
-returns c = gathered-says _ _ _ _ _ (omega arith) c.before.loop.invariant.2
+returns c = gathered_says _ _ _ _ _ (omega arith) c.before.loop.invariant.2
 
 pub zero-spec : {M : Type 1} → Rattle.table_read.proofs.zero.Statement.statement M
 zero-spec =

@@ -1,6 +1,6 @@
 -- `table_write::close_up` meets its contract: the records move down, and the last is cleared.
 -- Assumes nothing.
-use Rattle.facts.proofs.Words.{needs}
+use Rattle.facts.proofs.Words.{rules}
 use Rattle.table_write.proofs.{closes}
 use Rattle.table_write.proofs.close_up.Tie as tie
 
@@ -12,4 +12,4 @@ returns c =
     closes moved.before.before.before.requires.0 moved.move_down.ensures cleared.clear.ensures
 
 pub close-up-spec : {M : Type 1} → Rattle.table_write.proofs.close_up.Statement.statement M
-close-up-spec = tie.close (tie.spec (λ c. search needs) (λ c κs. search needs) (λ c κs. search needs) (λ c. search needs) returns)
+close-up-spec = tie.close (tie.spec (λ c. search rules) (λ c κs. search rules) (λ c κs. search rules) (λ c. search rules) returns)

@@ -1,6 +1,6 @@
 -- `table_write::make_room` meets its contract: the records move up, and the number is written.
 -- Assumes nothing.
-use Rattle.facts.proofs.Words.{needs}
+use Rattle.facts.proofs.Words.{rules}
 use Rattle.table_write.proofs.{makes}
 use Rattle.table_write.proofs.make_room.Tie as tie
 
@@ -14,4 +14,4 @@ returns c =
 pub make-room-spec : {M : Type 1} → Rattle.table_write.proofs.make_room.Statement.statement M
 make-room-spec =
     tie.close
-    (tie.spec (λ c. search needs) (λ c. search needs) (λ c κs. search needs) (λ c. search needs) (λ c. search needs) (λ c. search needs) returns)
+    (tie.spec (λ c. search rules) (λ c. search rules) (λ c κs. search rules) (λ c. search rules) (λ c. search rules) (λ c. search rules) returns)

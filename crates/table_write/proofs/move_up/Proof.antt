@@ -3,7 +3,7 @@
 use Rattle.facts.proofs.Words.{◌≡◌, ap, ◌∙◌, subst, inl, ℕ, ◌+◌, ◌-◌, ◌≤◌, arith}
 use Rattle.facts.specs.{byte}
 use Rattle.table_write.specs.{MovedUp}
-use Rattle.table_write.proofs.{filled_none, filled-less}
+use Rattle.table_write.proofs.{filled_none, filled_less}
 use Rattle.table_write.proofs.move_up.Tie as tie
 
 abbrev invariant-loop : tie.invariant-loop
@@ -19,7 +19,7 @@ loop-again c =
     let l = turn.loop in
     let back : l.i - 1 ≡ l.i - 1 + a.far - a.far = omega arith in
     let same = l.invariant.2.other (l.i - 1) (inl (omega arith)) ∙ ap (byte a.t.now) back in
-    (omega arith, omega arith, filled-less l.invariant.2 (omega arith) (omega arith) (omega arith) same)
+    (omega arith, omega arith, filled_less l.invariant.2 (omega arith) (omega arith) (omega arith) same)
 
 returns : tie.Need-returns invariant-loop decreases-loop
 returns c =

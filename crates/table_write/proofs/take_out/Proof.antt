@@ -1,6 +1,6 @@
 -- `table_write::take_out` meets its contract: the records close up, and the number is written.
 -- Assumes nothing.
-use Rattle.facts.proofs.Words.{needs}
+use Rattle.facts.proofs.Words.{rules}
 use Rattle.table_write.proofs.{takes}
 use Rattle.table_write.proofs.take_out.Tie as tie
 
@@ -14,4 +14,4 @@ returns c =
 pub take-out-spec : {M : Type 1} → Rattle.table_write.proofs.take_out.Statement.statement M
 take-out-spec =
     tie.close
-    (tie.spec (λ c. search needs) (λ c κs. search needs) (λ c. search needs) (λ c. search needs) (λ c. (returns c).size) returns)
+    (tie.spec (λ c. search rules) (λ c κs. search rules) (λ c. search rules) (λ c. search rules) (λ c. (returns c).size) returns)

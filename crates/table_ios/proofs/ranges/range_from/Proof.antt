@@ -1,11 +1,11 @@
 -- `table_ios::ranges::range_from` meets its contract: it answers a place of a range.
 -- Assumes nothing.
 use Rattle.facts.proofs.Words.{◌+◌, ◌≤◌, arith}
-use Rattle.facts.specs.{mostRanges}
+use Rattle.facts.specs.{most_ranges}
 use Rattle.table_ios.proofs.ranges.range_from.Tie as tie
 
 abbrev invariant-loop : tie.invariant-loop
-invariant-loop t p low₀ many₀ low many = low + many ≤ mostRanges
+invariant-loop t p low₀ many₀ low many = low + many ≤ most_ranges
 
 abbrev decreases-loop : tie.decreases-loop
 decreases-loop t p low₀ many₀ low many = many

@@ -1,6 +1,6 @@
 -- `table_ios::ranges::range_near` meets its contract: there is no grant, its card doesn't decode all lines, or a range is looked for.
 -- Assumes nothing.
-use Rattle.facts.proofs.Words.{subst, ap, arith, needs, now}
+use Rattle.facts.proofs.Words.{subst, ap, arith, rules, now}
 use Rattle.facts.specs.{IoGrant}
 use Rattle.seats.specs.declared.IoSeat.TheVariants.{Held}
 use Rattle.seats.specs.{HeldIs}
@@ -37,4 +37,4 @@ returns-3 c =
 pub range-near-spec : {M : Type 1} → Rattle.table_ios.proofs.ranges.range_near.Statement.statement M
 range-near-spec =
     tie.close
-    (tie.spec (λ c κs. search needs) (λ c. search needs) (λ c. search needs) returns returns-2 (λ c κs. search needs) returns-3)
+    (tie.spec (λ c κs. search rules) (λ c. search rules) (λ c. search rules) returns returns-2 (λ c κs. search rules) returns-3)

@@ -1,6 +1,6 @@
 -- `table_ios::ranges::range_with` meets its contract: a range that has the ports was found, or the answer is no range's place.
 -- Assumes nothing.
-use Rattle.facts.proofs.Words.{arith, needs}
+use Rattle.facts.proofs.Words.{arith, rules}
 use Rattle.table_ios.proofs.ranges.range_with.Tie as tie
 
 -- where the first range was asked, and where the call began
@@ -23,5 +23,5 @@ returns-4 c =
 pub range-with-spec : {M : Type 1} → Rattle.table_ios.proofs.ranges.range_with.Statement.statement M
 range-with-spec =
     tie.close
-    (tie.spec (λ c κs. search needs) (λ c. (c.before.before.before.pre.2, λ l. c.before.in-range.ensures.holds c.if1.taken)) (λ c. search needs)
-    (λ c κs. search needs) (λ c. search needs) returns-2 (λ c κs. search needs) (λ c κs. search needs) returns-3 returns-4)
+    (tie.spec (λ c κs. search rules) (λ c. (c.before.before.before.pre.2, λ l. c.before.in-range.ensures.holds c.if1.taken)) (λ c. search rules)
+    (λ c κs. search rules) (λ c. search rules) returns-2 (λ c κs. search rules) (λ c κs. search rules) returns-3 returns-4)

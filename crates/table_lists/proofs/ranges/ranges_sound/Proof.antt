@@ -1,9 +1,9 @@
 -- `table_lists::ranges::ranges_sound` meets its contract: the ranges passed follow one another, and the last lies within the ports.
 -- Assumes nothing.
 use Rattle.facts.proofs.Words.{◌-◌, arith}
-use Rattle.facts.proofs.{says-false, says-yes, says-false-by}
-use Rattle.table_lists.proofs.{Passed, passed_none, passed-more, passed-says, sound-within}
-use Rattle.table_lists.proofs.Following.{sound-follows}
+use Rattle.facts.proofs.{says_false, says_yes, says_false_by}
+use Rattle.table_lists.proofs.{Passed, passed_none, passed_more, passed_says, sound_within}
+use Rattle.table_lists.proofs.Following.{sound_follows}
 use Rattle.table_lists.proofs.ranges.ranges_sound.Tie as tie
 
 abbrev invariant-loop : tie.invariant-loop
@@ -13,23 +13,23 @@ abbrev decreases-loop : tie.decreases-loop
 decreases-loop t ranges low₀ flaws₀ i₀ low flaws i = ranges - i
 
 returns : tie.Need-returns invariant-loop decreases-loop
-returns c = says-false-by c.before.range-follows.ensures c.if1.true (sound-follows _ _ _ _ c.before.before.before.loop.invariant (omega arith))
+returns c = says_false_by c.before.range-follows.ensures c.if1.true (sound_follows _ _ _ _ c.before.before.before.loop.invariant (omega arith))
 
 loop-again : tie.Need-loop-preserved invariant-loop decreases-loop
 loop-again c =
     let followed = c.before.before in
     let asked = followed.before in
-    passed-more _ _ _ _ asked.before.before.loop.invariant _ _ (omega arith) (says-yes asked.range-follows.ensures followed.if1.false)
+    passed_more _ _ _ _ asked.before.before.loop.invariant _ _ (omega arith) (says_yes asked.range-follows.ensures followed.if1.false)
     c.before.mark-flaw.ensures
     c.range-end.ensures
 
 returns-2 : tie.Need-returns-2 invariant-loop decreases-loop
-returns-2 c = says-false (λ s. omega (arith, sound-within _ _ _ _ c.before.before.loop.invariant s))
+returns-2 c = says_false (λ s. omega (arith, sound_within _ _ _ _ c.before.before.loop.invariant s))
 
 returns-3 : tie.Need-returns-3 invariant-loop decreases-loop
 returns-3 c =
     let left = c.before.before in
-    passed-says _ _ _ _ left.loop.invariant (omega arith) (λ at. omega (arith, left.before.before.shared-slice-known.given at))
+    passed_says _ _ _ _ left.loop.invariant (omega arith) (λ at. omega (arith, left.before.before.shared-slice-known.given at))
     (omega arith)
 
 pub ranges-sound-spec : {M : Type 1} → Rattle.table_lists.proofs.ranges.ranges_sound.Statement.statement M

@@ -1,7 +1,7 @@
 -- `table_test::sockets::sockets_sound` meets its contract: each part decides a field of the record.
 -- Assumes nothing.
-use Rattle.facts.proofs.Words.{needs, now}
-use Rattle.facts.proofs.{says-as, says-yes, says-false-by}
+use Rattle.facts.proofs.Words.{rules, now}
+use Rattle.facts.proofs.{says_as, says_yes, says_false_by}
 use Rattle.seats.specs.{IosSound}
 use Rattle.table_test.proofs.sockets.sockets_sound.Tie as tie
 
@@ -13,13 +13,13 @@ abbrev begun : tie.Else1 → tie.Start
 begun c = c.before.before.before
 
 ios : (c : tie.Else2) → IosSound (now (begun (carded c)).args.t)
-ios c = says-yes c.before.ios-sound.ensures c.if2.false
+ios c = says_yes c.before.ios-sound.ensures c.if2.false
 
 returns : tie.Need-returns
-returns c = says-false-by c.before.cards-sound.ensures c.if1.true (λ p. p.cards)
+returns c = says_false_by c.before.cards-sound.ensures c.if1.true (λ p. p.cards)
 
 returns-2 : tie.Need-returns-2
-returns-2 c = says-false-by c.before.ios-sound.ensures c.if2.true (λ p. p.ios)
+returns-2 c = says_false_by c.before.ios-sound.ensures c.if2.true (λ p. p.ios)
 
 irqs-sound-requires : tie.Need-irqs-sound-requires
 irqs-sound-requires c κs =
@@ -29,9 +29,9 @@ irqs-sound-requires c κs =
 returns-3 : tie.Need-returns-3
 returns-3 c =
     let first = carded c.before in
-    says-as c.irqs-sound.ensures
+    says_as c.irqs-sound.ensures
     (λ irqs. record {
-      cards = says-yes first.before.cards-sound.ensures first.if1.left;
+      cards = says_yes first.before.cards-sound.ensures first.if1.left;
       ios = ios c.before;
       irqs = irqs;
     })
@@ -40,4 +40,4 @@ returns-3 c =
 pub sockets-sound-spec : {M : Type 1} → Rattle.table_test.proofs.sockets.sockets_sound.Statement.statement M
 sockets-sound-spec =
     tie.close
-    (tie.spec (λ c κs. search needs) returns (λ c κs. search needs) returns-2 irqs-sound-requires returns-3)
+    (tie.spec (λ c κs. search rules) returns (λ c κs. search rules) returns-2 irqs-sound-requires returns-3)
