@@ -1,4 +1,6 @@
 // A caller of the entries, as the console's firmware is one: what its calls bring about is a run.
+#![tactic(auto)]
+
 ghost use Rattle.history.specs.Events.{FreshCame, CallCame, CardInCame, CardOutCame, BootCame, SharersCame};
 ghost use Rattle.caller.specs.Visits.{planned, EndingIs};
 
@@ -43,7 +45,7 @@ fn card_out(table: &mut [u8], socket: u32) -> u32
 const SUCCESS: u32 = 0;
 
 // What the entries answered.
-#[derive(Drop)]
+#[derive(Clone, Copy)]
 pub struct VisitAnswers {
     pub booted: u64,
     pub inserted: u32,
@@ -53,7 +55,7 @@ pub struct VisitAnswers {
 }
 
 // The code of a cs_fresh that was refused; or all answers.
-#[derive(Drop)]
+#[derive(Clone, Copy)]
 pub enum Ending {
     Refused(u32),
     Done(VisitAnswers),

@@ -1,4 +1,6 @@
 // A client: where it is listed, its masks, which attributes are allowed.
+#![tactic(auto)]
+
 ghost use Rattle.std.specs.Prelude.{◌≡◌, ◌<◌, ◌≤◌, length};
 ghost use Rattle.facts.specs.Table;
 ghost use Rattle.facts.specs.Says.{Says};
@@ -30,7 +32,7 @@ pub fn attributes_allowed(a: usize) -> bool
 }
 
 // What a search for a client finds: the place in which it is listed.
-#[derive(Drop)]
+#[derive(Clone, Copy)]
 pub enum ClientFound {
     At(usize),
     Nobody,

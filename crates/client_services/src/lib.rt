@@ -1,4 +1,6 @@
 // RegisterClient and DeregisterClient, on a table that is the image of a well-formed set.
+#![tactic(auto)]
+
 ghost use Rattle.std.specs.Prelude.{◌≡◌, ◌<◌, ◌≤◌, length};
 ghost use Rattle.facts.specs.Table;
 ghost use Rattle.facts.specs.Says.{Says};
@@ -29,7 +31,7 @@ const ASKED_ATTRIBUTES_AT: usize = 0;
 const ASKED_EVENTS_AT: usize = 2;
 
 // The attributes and the event mask that a registration asks for.
-#[derive(Drop)]
+#[derive(Clone, Copy)]
 pub enum ClientAsked {
     Good(usize, usize),
     Bad,
@@ -51,7 +53,7 @@ fn asks(p: &[u8]) -> ClientAsked
 }
 
 // The place and the handle of the next client.
-#[derive(Drop)]
+#[derive(Clone, Copy)]
 pub enum Room {
     Next(usize, Handle),
     Full,
@@ -140,7 +142,7 @@ fn mask_held(t: &[u8], i: usize) -> bool
 }
 
 // Whether the client listed in the place i, whose handle is h, holds a grant or a mask.
-#[derive(Drop)]
+#[derive(Clone, Copy)]
 pub enum Held {
     Nothing,
     Something,

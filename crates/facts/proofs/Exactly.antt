@@ -1,13 +1,20 @@
 -- An I/O or IRQ request whose earlier checks pass is refused exactly when no resource fits. Assumes nothing.
-use Rattle.facts.proofs.Words.{◌≡◌, ap, sym, ◌∙◌, ◌⊎◌, inl, inr, ⊎_elim, ◌≢◌, ◌↔◌, List, [], ◌∷◌, ℕ, arith}
-use Rattle.facts.specs.{Code, Success, BadBase, BadIrq, InUse, number_of, Facts, ◌gives◌, Outcome, Passed, Decided, RequestIrq}
+use Rattle.facts.proofs.Words.{◌≡◌, ap, sym, ◌∙◌, ◌⊎◌, inl, inr, ⊎_elim, ◌≢◌, ◌↔◌, List, [], ◌∷◌, ◌++◌, ℕ, arith}
+use Rattle.facts.specs.{Code, Success, BadBase, BadIrq, InUse, number_of, Facts, Check, ◌gives◌, Outcome, Passed, Decided, RequestIrq}
 use Rattle.facts.specs.{NoLevelFits, irq_ahead_checks, level_checks, RequestIo, NotAllManaged, InTheWay, NoCandidate, base_asked_lem, io_ahead_checks}
 use Rattle.facts.specs.{base_checks, ExactlyWhen, io_asked, irq_asked}
 use Rattle.facts.proofs.Joining.{taken_fits}
-use Rattle.facts.proofs.Checks.{ahead_decided}
+
+-- where the checks ahead pass, the rest decide
+ahead_decided : (ahead own : List Check) (code : Code) {kept done : Type 0} → Passed ahead → Decided (ahead ++ own) code kept done
+    → Decided own code kept done
+ahead_decided [] own code p d = d
+ahead_decided (c ∷ cs) own code p (inl (inl r, k)) = absurd (p.0 r.0)
+ahead_decided (c ∷ cs) own code p (inl (inr r, k)) = ahead_decided cs own code p.1 (inl (r.1, k))
+ahead_decided (c ∷ cs) own code p (inr r) = ahead_decided cs own code p.1 (inr (r.0.1, r.1))
 
 -- a code is not another with another number
-pub not_both : {A : Type 0} {code : Code} (k k' : Code) → number_of k ≢ number_of k' → code ≡ k → code ≡ k' → A
+not_both : {A : Type 0} {code : Code} (k k' : Code) → number_of k ≢ number_of k' → code ≡ k → code ≡ k' → A
 not_both k k' d e e' = absurd (d (ap number_of (sym e ∙ e')))
 
 -- a check alone: it gives its code exactly if it applies

@@ -106,12 +106,10 @@ module _ (F : Facts) (h : ℕ) (p : List ℕ) (o : Outcome) (w : WellFormed F) w
             named.0,
             record {
               seat = t;
-              stands = record {
-                range = g;
-                held = e;
-                meets = subst (λ (b : ℕ). Meet (ports_at (io_asked p) b) g.ports) named.1 m;
-                unshared = inr d;
-              };
+              range = g;
+              held = e;
+              meets = subst (λ (b : ℕ). Meet (ports_at (io_asked p) b) g.ports) named.1 m;
+              unshared = inr d;
             },
           ))
       company (inr chosen) t g e m = absurd (chosen.1.fits.meets_none t g e m)

@@ -13,12 +13,24 @@ use Rattle.facts.specs.{LevelTaken, with_irq, RequestIo, BaseTaken, io_request_c
 use Rattle.facts.specs.{stopped, record_checks, Service, register_client, deregisterClient, adjustResourceInfo, requestIrq, releaseIrq, requestIo}
 use Rattle.facts.specs.{releaseIo, requestSocketMask, releaseSocketMask, service_number, rule_of, Call, IoAsked, IrqAsked, io_asked, irq_asked}
 use Rattle.facts.specs.Boot.{Boot}
-use Rattle.facts.proofs.Checks.{first_unique, first_not_passed}
 use Rattle.facts.proofs.Sets.{apart_over, found}
 use Rattle.facts.proofs.Resources.{width_one}
 
+-- the first check that applies is one, and where one applies they don't all pass
+pub first_unique : (cs : List Check) (k k' : Code) → FirstGiven cs k → FirstGiven cs k' → k ≡ k'
+first_unique [] k k' r r' = absurd r
+first_unique (c ∷ cs) k k' (inl r) (inl r') = r.1 ∙ sym r'.1
+first_unique (c ∷ cs) k k' (inl r) (inr r') = absurd (r'.0 r.0)
+first_unique (c ∷ cs) k k' (inr r) (inl r') = absurd (r.0 r'.0)
+first_unique (c ∷ cs) k k' (inr r) (inr r') = first_unique cs k k' r.1 r'.1
+
+pub first_not_passed : (cs : List Check) (k : Code) → FirstGiven cs k → Passed cs → ⊥
+first_not_passed [] k r p = r
+first_not_passed (c ∷ cs) k (inl r) p = p.0 r.0
+first_not_passed (c ∷ cs) k (inr r) p = first_not_passed cs k r.1 p.1
+
 -- two, each of one kind or the other, and never of different kinds
-pub both_ways : {A A' B B' E : Type 0} → (A → B' → ⊥) → (B → A' → ⊥) → (A → A' → E) → (B → B' → E) → A ⊎ B → A' ⊎ B' → E
+both_ways : {A A' B B' E : Type 0} → (A → B' → ⊥) → (B → A' → ⊥) → (A → A' → E) → (B → B' → E) → A ⊎ B → A' ⊎ B' → E
 both_ways f g h k (inl a) (inl a') = h a a'
 both_ways f g h k (inl a) (inr b') = absurd (f a b')
 both_ways f g h k (inr b) (inl a') = absurd (g b a')
@@ -224,11 +236,6 @@ module _ (F : Facts) (h : ℕ) (p : List ℕ) where
   service_unique apart releaseIo = leaves_coincide (io_release_checks F h p)
   service_unique apart requestSocketMask = leaves_coincide (request_mask_checks F h p)
   service_unique apart releaseSocketMask = leaves_coincide (release_mask_checks F h p)
-
-  -- a call with a service's number is ruled by that service's rule
-  pub service_ruled : (s : Service) (o : Outcome) → Call (service_number s) F h p o → rule_of s F h p o
-  service_ruled s o (inl (n, r)) = subst (λ (t : Service). rule_of t F h p o) (number_injective n.service s n.number_is) r
-  service_ruled s o (inr r) = absurd (r.0 (record { service = s; number_is = refl }))
 
   -- a call: its number is one service's, or none's
   pub call_unique : Apart 0 F.ranges → (number : ℕ) → Coincide (Call number F h p)

@@ -1,6 +1,5 @@
 -- The first of those that fit. Assumes nothing.
 use Rattle.std.specs.Prelude.{◌⊎◌, ◌↔◌, ℕ, ◌≤◌}
-use Rattle.std.proofs.Math.Option.{Option, none, some}
 
 -- x comes before y: early ones before others, then the lowest
 abbrev pub Before : (ℕ → Type 0) → ℕ → ℕ → Type 0
@@ -15,8 +14,3 @@ pub record Chosen (Fit Early : ℕ → Type 0) (x : ℕ) : Type 0 where
 pub record Lowest (Fit : ℕ → Type 0) (x : ℕ) : Type 0 where
   pub fits : Fit x
   pub least : (y : ℕ) → Fit y → x ≤ y
-
--- the lowest of all that fit, or none, if there is none
-abbrev pub LowestOrNone : (ℕ → Type 0) → Option ℕ → Type 0
-LowestOrNone Fit none = (x : ℕ) → Fit x → ⊥
-LowestOrNone Fit (some x) = Lowest Fit x

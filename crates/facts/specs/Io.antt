@@ -72,17 +72,13 @@ NotAllManaged F q =
 abbrev pub BothShare : IoAsked → HeldPorts → Type 0
 BothShare q x = (q.shared ≡ true) × (x.shared ≡ true)
 
--- "It meets a live grant, and First Shared is set or the two don't both share": what is held at the seat s is such a grant's
-pub record InTheWayAt (F : Facts) (q : IoAsked) (s : Seat) : Type 0 where
-  pub range : HeldPorts
-  pub held : Held F s range
-  pub meets : Meet (ports_at q q.base) range.ports
-  pub unshared : (q.first ≡ true) ⊎ (BothShare q range → ⊥)
-
--- at some seat it is: "IN_USE."
+-- "It meets a live grant, and First Shared is set or the two don't both share: IN_USE."
 pub record InTheWay (F : Facts) (q : IoAsked) : Type 0 where
   pub seat : Seat
-  pub stands : InTheWayAt F q seat
+  pub range : HeldPorts
+  pub held : Held F seat range
+  pub meets : Meet (ports_at q q.base) range.ports
+  pub unshared : (q.first ≡ true) ⊎ (BothShare q range → ⊥)
 
 -- the smallest power of two not below n
 pub record SmallestPower (n a : ℕ) : Type 0 where
@@ -128,13 +124,9 @@ with_io F s g =
       irq = F.irq;
     }
 
--- the checks of the packet alone
-abbrev pub io_packet_checks : List ℕ → List Check → List Check
-io_packet_checks p own = (IoAttributesBad p gives BadAttribute) ∷ (IoSizeBad p gives BadSize) ∷ own
-
 -- the checks ahead of the base; "the socket has an I/O grant, IN_USE"
 abbrev pub own_io_checks : Facts → List ℕ → List Check → List Check
-own_io_checks F p base = io_packet_checks p (((F.io (seat_of (socket_of p)) ≢ none) gives InUse) ∷ base)
+own_io_checks F p base = (IoAttributesBad p gives BadAttribute) ∷ (IoSizeBad p gives BadSize) ∷ ((F.io (seat_of (socket_of p)) ≢ none) gives InUse) ∷ base
 
 abbrev pub io_ahead_checks : Facts → ℕ → List ℕ → List Check → List Check
 io_ahead_checks F h p base = request_checks request_io_length F h p (own_io_checks F p base)

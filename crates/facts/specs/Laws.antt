@@ -1,6 +1,5 @@
 -- The laws of the rules: what is proved of every service and of the host's calls. Assumes nothing.
 use Rattle.std.specs.Prelude.{◌≡◌, ◌⊎◌, ◌≢◌, ◌↔◌, List, [], ◌∷◌, Bool, ℕ, ◌+◌, ◌*◌, ◌/◌, ◌≤◌, ◌<◌, length, take, drop}
-use Rattle.std.proofs.Math.Option.{none, some}
 use Rattle.facts.specs.declared.Code.{Code}
 use Rattle.facts.specs.declared.Code.TheVariants.{Success, BadBase, BadIrq, BadArgLength, InUse}
 use Rattle.facts.specs.declared.Record.{Record}
@@ -12,7 +11,6 @@ use Rattle.facts.specs.Checks.{Outcome, Kept, Passed}
 use Rattle.facts.specs.Sockets.{CardOutcome, CardTo}
 use Rattle.facts.specs.Irq.{Count, Sharers, RequestIrq, irq_asked, Fits, NoLevelFits, LevelTaken, irq_ahead_checks}
 use Rattle.facts.specs.Io.{RequestIo, io_asked, NotAllManaged, InTheWay, NoCandidate, base_asked_lem, io_ahead_checks}
-use Rattle.facts.specs.Way.{SocketInTheWay, WayAnswer, WhoIsInTheWay}
 use Rattle.facts.specs.Boot.{Booted, Boot, record_size, record_of, records_in, records_of, end_of, records_added}
 use Rattle.facts.specs.Services.{Call}
 
@@ -92,25 +90,3 @@ pub record ExactlyWhen : Type 0 where
       → (o.code ≡ InUse) ↔ NoCandidate F (io_asked p)
   pub io_chosen_refused : (F : Facts) (h : ℕ) (p : List ℕ) (o : Outcome) → Passed (io_ahead_checks F h p []) → base_asked_lem p ≡ 0 → RequestIo F h p o
       → (o.code ≢ Success) ↔ NoCandidate F (io_asked p)
-
--- K5: who is in the way
-pub record WayLaws : Type 0 where
-  pub one_way : (F : Facts) (h : ℕ) (p : List ℕ) → Coincide (WhoIsInTheWay F h p)
-  -- "For base 0, or refused, it answers none"
-  pub way_chosen : (F : Facts) (h : ℕ) (p : List ℕ) (w : WayAnswer) → WhoIsInTheWay F h p w → base_asked_lem p ≡ 0 → w.socket ≡ none
-  pub way_refused : (F : Facts) (h : ℕ) (p : List ℕ) (w : WayAnswer) → WhoIsInTheWay F h p w → w.code ≢ Success → w.socket ≡ none
-  -- "its refusals are RequestIO's but for IN_USE": where RequestIO with these inputs doesn't answer IN_USE, both answer one code
-  pub way_code : (F : Facts) (h : ℕ) (p : List ℕ) (o : Outcome) (w : WayAnswer) → RequestIo F h p o → WhoIsInTheWay F h p w → o.code ≢ InUse
-      → w.code ≡ o.code
-  -- where it isn't refused and the base is named, RequestIO answers IN_USE exactly if it answers a socket, and SUCCESS exactly if it answers none
-  pub way_in_use : (F : Facts) (h : ℕ) (p : List ℕ) (o : Outcome) (w : WayAnswer) → RequestIo F h p o → WhoIsInTheWay F h p w → w.code ≡ Success
-      → base_asked_lem p ≢ 0 → (o.code ≡ InUse) ↔ (w.socket ≢ none)
-  pub way_success : (F : Facts) (h : ℕ) (p : List ℕ) (o : Outcome) (w : WayAnswer) → RequestIo F h p o → WhoIsInTheWay F h p w → w.code ≡ Success
-      → base_asked_lem p ≢ 0 → (o.code ≡ Success) ↔ (w.socket ≡ none)
-  -- the socket answered is in the way, and no lower one is
-  pub way_stands : (F : Facts) (h : ℕ) (p : List ℕ) (w : WayAnswer) (s : ℕ) → WhoIsInTheWay F h p w → w.socket ≡ some s → SocketInTheWay F p s
-  pub way_lowest : (F : Facts) (h : ℕ) (p : List ℕ) (w : WayAnswer) (s t : ℕ) → WhoIsInTheWay F h p w → w.socket ≡ some s → t < s
-      → SocketInTheWay F p t → ⊥
-  -- it is one of the table's
-  pub way_below : (F : Facts) (h : ℕ) (p : List ℕ) (w : WayAnswer) (s : ℕ) → WellFormed F → WhoIsInTheWay F h p w → w.socket ≡ some s
-      → s < F.sockets

@@ -14,7 +14,6 @@ pub mod Sockets
 pub mod Resources
 pub mod Irq
 pub mod Io
-pub mod Way
 pub mod Boot
 pub mod Services
 pub mod Laws
@@ -32,7 +31,7 @@ pub use declared.IoAsked.{IoAsked}
 pub use declared.IrqAsked.{IrqAsked}
 pub use Codes.{number_of, packed, placed}
 pub use Sets.{◌∈◌, without, put}
-pub use Choice.{Before, Chosen, Lowest, LowestOrNone}
+pub use Choice.{Before, Chosen, Lowest}
 pub use Table.{most_sockets, most_clients, most_issued, all_levels, most_ranges, all_ports, most_lines, all_events, most_asked, Client, Level, Range, IoGrant, HeldPorts, Held}
 pub use Table.{IrqGrant, Facts, fresh, Seat, seat_of, socket_at, most_seats}
 pub use Ports.{MeetsHeld, Within, Meet, Has, Managed, AllManaged, Answers, AnswersManaged, WhollyUnreserved, Overlap}
@@ -57,12 +56,11 @@ pub use Irq.{ShareBit, IrqAttributesBad, IrqInfoBad, dynamic_of, manner_asked_le
 pub use Irq.{LevelTaken, with_irq, with_pulse, assigning, own_irq_checks, irq_ahead_checks, level_checks, irq_request_checks, irq_grant, GrantsIrq, RequestIrq}
 pub use Irq.{IrqHeld, release_irq_length, irq_release_checks, ReleaseIrq, sharer, sharers_below, Count, sharers_checks, Sharers}
 pub use Io.{request_io_length, base_asked_lem, count_asked_lem, io_attributes, second_count, lines_asked_lem, IoShared, IoFirstShared, io_asked, ports_at}
-pub use Io.{IoAttributesBad, IoSizeBad, NotAllManaged, BothShare, InTheWayAt, InTheWay, SmallestPower, Candidate, NoCandidate, CandidateTaken, BaseTaken, with_io}
-pub use Io.{io_packet_checks, own_io_checks, io_ahead_checks, base_checks, io_request_checks, io_grant, GrantsIo, RequestIo, IoHeld, release_io_length, io_release_checks}
+pub use Io.{IoAttributesBad, IoSizeBad, NotAllManaged, BothShare, InTheWay, SmallestPower, Candidate, NoCandidate, CandidateTaken, BaseTaken, with_io}
+pub use Io.{own_io_checks, io_ahead_checks, base_checks, io_request_checks, io_grant, GrantsIo, RequestIo, IoHeld, release_io_length, io_release_checks}
 pub use Io.{ReleaseIo}
-pub use Way.{GrantInTheWay, OwnGrant, SocketInTheWay, way_checks, WayAnswer, socket_number, WayTold, WhoIsInTheWay}
 pub use Boot.{record_size, record_of, records_in, record_checks, record_added, records_added, Booted, stopped, ended, refused, added, records_of, end_of}
 pub use Boot.{BootBytes}
 pub use Services.{Service, register_client, deregisterClient, adjustResourceInfo, requestIrq, releaseIrq, requestIo, releaseIo, requestSocketMask}
 pub use Services.{releaseSocketMask, service_number, rule_of, Serves, Call}
-pub use Laws.{Coincide, RefusalKeeps, ServiceLaws, HostLaws, BytesLaws, ExactlyWhen, WayLaws}
+pub use Laws.{Coincide, RefusalKeeps, ServiceLaws, HostLaws, BytesLaws, ExactlyWhen}

@@ -1,22 +1,24 @@
 // The words of document 01 that code and definitions share: handles, sockets, codes, manners, a packet's width, what it asks
 // for and a boot record. What a table says, which sets of facts are well formed and what each call does with them is in specs/.
+#![tactic(auto)]
+
 ghost use Rattle.std.specs.Prelude.{◌≡◌};
 ghost use Rattle.facts.specs.Codes.{number_of};
 
 // A client's handle: 16 bits, as the binding has it.
-#[derive(Drop)]
+#[derive(Clone, Copy)]
 pub struct Handle(pub u16);
 
 // A socket's number: one byte of a packet, or a number that the host gives.
-#[derive(Drop)]
+#[derive(Clone, Copy)]
 pub struct Socket(pub usize);
 
 // A seat: where a grant or a mask stands. Today each socket has one, which has its number; with functions, each function of a socket will have one.
-#[derive(Drop)]
+#[derive(Clone, Copy)]
 pub struct Seat(pub usize);
 
 // The fifteen codes.
-#[derive(Drop)]
+#[derive(Clone, Copy)]
 pub enum Code {
     Success,
     BadAttribute,
@@ -36,7 +38,7 @@ pub enum Code {
 }
 
 // The four manners in which an IRQ level is held.
-#[derive(Drop)]
+#[derive(Clone, Copy)]
 pub enum Manner {
     Exclusive,
     TimeMultiplexed,
@@ -45,14 +47,14 @@ pub enum Manner {
 }
 
 // The two widths of AdjustResourceInfo's packet for I/O.
-#[derive(Drop)]
+#[derive(Clone, Copy)]
 pub enum Width {
     Short,
     Wide,
 }
 
 // A record of the boot list: its resource type and attributes, its base or level, its port count.
-#[derive(Drop)]
+#[derive(Clone, Copy)]
 pub struct Record {
     pub resource: u8,
     pub attributes: u8,
@@ -66,7 +68,7 @@ pub const IO_RESOURCE: u8 = 1;
 pub const IRQ_RESOURCE: u8 = 2;
 
 // What RequestIO's packet asks for: so many ports at a base (0: at any), decoded by so many lines; whether to share them, and only as the first to.
-#[derive(Drop)]
+#[derive(Clone, Copy)]
 pub struct IoAsked {
     pub base: usize,
     pub count: usize,
@@ -76,7 +78,7 @@ pub struct IoAsked {
 }
 
 // What RequestIRQ's packet asks for: one of the levels that it names, a bit for each, in a manner; whether only as the first to share it.
-#[derive(Drop)]
+#[derive(Clone, Copy)]
 pub struct IrqAsked {
     pub manner: Manner,
     pub named: usize,
@@ -84,7 +86,7 @@ pub struct IrqAsked {
 }
 
 // What an Add or a Remove of a range names.
-#[derive(Drop)]
+#[derive(Clone, Copy)]
 pub struct RangeAsked {
     pub base: u32,
     pub count: u32,

@@ -174,12 +174,12 @@ answering_cases =
       managed_granted =
           named_granted ready.io refl all_added.ranges 0xF8 0x06 8 10 (omega arith) (omega arith) (omega arith)
           ((λ l. omega arith) nor (λ n. n (λ q w. all_managed q (omega (arith, w.below)))) nor (λ n. n (λ q a. all_managed q a.below)))
-          (λ e. none-ne-some _ e.stands.held);
+          (λ e. none-ne-some _ e.held);
       all_lines_granted =
           named_granted ready.io refl boards_ports.ranges 0xF8 0x06 8 16 (omega arith) (omega arith) (omega arith)
           ((λ l. omega arith) nor (λ n. n (λ q w. upper_managed q (omega (arith, w.from)) (omega (arith, w.below))))
           nor (λ n. n (λ q a. let same = at_home (omega arith) a in upper_managed q (omega (arith, same, a.own_in.from)) a.below)))
-          (λ e. none-ne-some _ e.stands.held);
+          (λ e. none-ne-some _ e.held);
       multiple_passed = first_given ready.io refl boards_ports.ranges 0x00 0x00 8 4 (omega arith) (omega arith) refl 0x10 ten_first;
       none_left = none_refused ready.io refl alike.ranges 0x00 0x00 16 14 (omega arith) (omega arith) refl all_barred;
       repeated_kept =

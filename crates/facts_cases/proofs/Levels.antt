@@ -5,8 +5,8 @@ use Rattle.facts.specs.{BadIrq, Manner, DynamicLevel, Facts, Level, IrqGrant, bi
 use Rattle.facts.specs.{level_added, reserve_bit, Fits, Named, NoLevelFits, NoLevelJoined, LevelTaken, RequestIrq, IrqAttributesBad, IrqInfoBad}
 use Rattle.facts.specs.{irq_ahead_checks, level_checks, irq_grant, Joining, Joins, manner_asked_lem, assigning, with_irq, IrqAsked, irq_asked}
 use Rattle.facts_cases.specs.{Exactly, done, refused, ready, two_levels, granting_irq, irq_packet}
-use Rattle.facts.proofs.{first_past, passed_both, put_is, request_irq_unique}
-use Rattle.facts_cases.proofs.Permitted.{exactly, as_left, as_kept, ◌then◌, ◌nor◌, alone_chosen}
+use Rattle.facts.proofs.{put_is, request_irq_unique}
+use Rattle.facts_cases.proofs.Permitted.{exactly, as_left, as_kept, ◌then◌, ◌nor◌, passed-after, given-after, alone_chosen}
 
 -- what is done where the level l is taken
 abbrev pub granted : Facts → ℕ → List ℕ → ℕ → Outcome
@@ -18,14 +18,14 @@ module _ (F : Facts) (h : ℕ) (p : List ℕ) (ahead : Passed (irq_ahead_checks 
   irq_done l fits taken =
       exactly (request_irq_unique F h p)
       (inr (
-        passed_both (irq_ahead_checks F h p []) (level_checks F (irq_asked p)) ahead ((λ none_fits. none_fits l fits) then tt),
+        passed-after (irq_ahead_checks F h p []) (level_checks F (irq_asked p)) ahead ((λ none_fits. none_fits l fits) then tt),
         (refl, record { level = l; taken = taken; leaves = as_left _ }),
       ))
 
   irq_refused : NoLevelFits F (irq_asked p) → Exactly (RequestIrq F h p) (refused BadIrq p F)
   irq_refused none_fits =
       exactly (request_irq_unique F h p)
-      (inl (first_past (irq_ahead_checks F h p []) (level_checks F (irq_asked p)) BadIrq ahead (inl (none_fits, refl)), as_kept BadIrq p F))
+      (inl (given-after (irq_ahead_checks F h p []) (level_checks F (irq_asked p)) BadIrq ahead (inl (none_fits, refl)), as_kept BadIrq p F))
 
 -- a held level doesn't fit a manner that its grant's doesn't go together with
 pub held_fits_not : {F : Facts} {p : IrqAsked} {l : ℕ} {g : IrqGrant} (s : ℕ) → F.irq s ≡ some g → g.level ≡ l

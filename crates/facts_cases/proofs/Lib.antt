@@ -5,7 +5,6 @@ pub mod Levels
 pub mod Cases
 pub mod Joining
 pub mod Answering
-pub mod Way
 pub use Permitted.{as_left, as_kept, ◌then◌, ◌nor◌, listed_alone}
 pub use Levels.{alone_taken, bits-A3}
 pub use Cases.{cases}

@@ -1,6 +1,6 @@
--- What is permitted: words for checks one after the other, and a choice alone. Assumes nothing.
-use Rattle.facts.proofs.Words.{◌≡◌, refl, ◌⊎◌, inr, ⊎_elim, iff_rfl, List, [], ◌∷◌, ℕ, le_refl}
-use Rattle.facts.specs.{Code, Facts, ◌∈◌, Outcome, Kept, Leaves, Chosen, Coincide}
+-- What is permitted: laws of checks that pass, and of a choice alone. Assumes nothing.
+use Rattle.facts.proofs.Words.{◌≡◌, refl, ◌⊎◌, inr, ⊎_elim, iff_rfl, List, [], ◌∷◌, ◌++◌, ℕ, le_refl}
+use Rattle.facts.specs.{Code, Facts, ◌∈◌, Check, Outcome, FirstGiven, Passed, Kept, Leaves, Chosen, Coincide}
 use Rattle.facts_cases.specs.{Exactly, refused}
 
 infixr 3 ◌nor◌
@@ -27,6 +27,15 @@ f nor g = ⊎_elim f g
 -- a check that doesn't apply, and then the first that does
 pub ◌past◌ : {A B C : Type 0} → (A → ⊥) → B → C ⊎ ((A → ⊥) × B)
 f past g = inr (f, g)
+
+-- checks after others that pass
+pub passed-after : (cs own : List Check) → Passed cs → Passed own → Passed (cs ++ own)
+passed-after [] own p q = q
+passed-after (c ∷ cs) own p q = (p.0, passed-after cs own p.1 q)
+
+pub given-after : (cs own : List Check) (k : Code) → Passed cs → FirstGiven own k → FirstGiven (cs ++ own) k
+given-after [] own k p g = g
+given-after (c ∷ cs) own k p g = p.0 past given-after cs own k p.1 g
 
 -- what is in a list of one is that one
 pub listed_alone : {A : Type 0} {x y : A} → x ∈ (y ∷ []) → x ≡ y

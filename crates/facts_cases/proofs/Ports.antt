@@ -1,13 +1,13 @@
--- Ports that meet or don't, and the base that RequestIO gives where one range is managed: for N1 to N4, N8 and N9, and for K2 and K5. Assumes nothing.
-use Rattle.facts.proofs.Words.{◌≡◌, refl, by_cases, sym, ◌∙◌, ◌≢◌, inl, inr, ⊎_elim, List, [], ◌∷◌, true, false≢true, Option, none, some, Ports}
+-- Ports that meet or don't, and the base that RequestIO gives where one range is managed: for N1 to N4, N8 and N9. Assumes nothing.
+use Rattle.facts.proofs.Words.{◌≡◌, refl, by_cases, sym, ◌∙◌, ◌≢◌, inl, inr, ⊎_elim, List, [], ◌∷◌, true≢false, Option, none, some, Ports}
 use Rattle.facts.proofs.Words.{none-ne-some, some-injective, ℕ, ◌+◌, ◌-◌, ◌*◌, ◌^◌, ◌≤◌, ◌<◌, min, mod-eq_of_lt, dec_le, arith, pow_mono}
-use Rattle.facts.specs.{Code, BadBase, InUse, Check, ◌gives◌, Passed, FirstGiven, with_word, BaseTaken, CandidateTaken, NoCandidate, NotAllManaged}
-use Rattle.facts.specs.{InTheWay, Live, fresh, new_client, seat_of, socket_of, request_checks, request_io_length, base_asked_lem, io_packet_checks, base_checks}
-use Rattle.facts.specs.{Facts, Range, IoGrant, Seat, HeldPorts, put, Meet, Has, Managed, Answers, Candidate, SmallestPower, RequestIo, io_asked}
-use Rattle.facts.specs.{io_grant, with_io}
-use Rattle.facts_cases.specs.{Exactly, done, refused, lines_packet, ports, ready, granting_io, half_held, request_packet, io_packet}
-use Rattle.facts.proofs.{first_past, passed_both, put_is, smallest_power_unique, request_io_unique}
-use Rattle.facts_cases.proofs.Permitted.{exactly, as_left, as_kept, ◌then◌, ◌nor◌, ◌past◌, listed_alone, alone_chosen}
+use Rattle.facts.specs.{Code, BadBase, InUse, Passed, FirstGiven, with_word, BaseTaken, CandidateTaken, NoCandidate, NotAllManaged, InTheWay}
+use Rattle.facts.specs.{base_asked_lem, io_ahead_checks, base_checks, Facts, Range, IoGrant, Meet, Has, Managed, Answers, Candidate, SmallestPower, RequestIo}
+use Rattle.facts.specs.{io_asked}
+use Rattle.facts_cases.specs.{Exactly, done, refused, lines_packet, ports, ready, granting_io, half_held, io_packet}
+use Rattle.facts.proofs.{put_is, smallest_power_unique, request_io_unique}
+use Rattle.facts_cases.proofs.Permitted.{exactly, as_left, as_kept, ◌then◌, ◌nor◌, ◌past◌, passed-after, given-after, listed_alone}
+use Rattle.facts_cases.proofs.Permitted.{alone_chosen}
 
 -- ranges that lie below two to the smaller count of lines meet only in an equal port
 pub meet_equal : {a b : Ports} → a.base + a.count ≤ 2 ^ min a.lines b.lines → b.base + b.count ≤ 2 ^ min a.lines b.lines
@@ -42,45 +42,6 @@ io_table io rs =
       irq = ready.irq;
     }
 
--- the checks that RequestIO and K5's question make first: of the client, of the socket, and of the packet alone
-abbrev pub first_checks : Facts → List ℕ → List Check
-first_checks F p = request_checks request_io_length F 1 p (io_packet_checks p [])
-
--- attributes that have only sharing bits, and First Shared only with Shared
-abbrev pub SharingBits : ℕ → Type 0
-SharingBits attributes = (attributes < 4) × (attributes ≢ 2)
-
--- the client 1 is live, as on the table `ready`
-pub one_live : (F : Facts) → F.clients ≡ ready.clients → Live F 1
-one_live F listed = record { client = new_client (fresh 3) 4 0; listed = rw listed (inl refl); handle = refl }
-
--- the first checks pass for this client and a socket with a card in
-pub first_passed : (F : Facts) (s low high count attributes lines : ℕ) → F.clients ≡ ready.clients → (s < F.sockets) × SharingBits attributes
-    → F.card s ≡ true → (1 ≤ lines) × (lines ≤ 16) → (1 ≤ count) × (count ≤ 2 ^ lines)
-    → Passed (first_checks F (request_packet s low high count attributes lines))
-first_passed F s low high count attributes lines listed good card lined counted =
-    (omega arith)
-    then (λ e. e (one_live F listed))
-    then ((λ e. omega (arith, good)) nor (λ e. e refl))
-    then (λ e. false≢true (sym e ∙ card))
-    then ((λ e. omega (arith, good)) nor (λ e. e.1 (omega (arith, good, e.0))) nor (λ e. omega (arith, lined)) nor (λ e. omega (arith, lined)))
-    then ((λ e. omega (arith, counted)) nor (λ e. omega (arith, counted)) nor (λ e. e refl))
-    then tt
-
--- where the first checks pass, RequestIO is refused as its other checks say, and grants where these pass, too
-module _ (F : Facts) (p : List ℕ) (first : Passed (first_checks F p)) where
-  abbrev others : List Check
-  others = ((F.io (seat_of (socket_of p)) ≢ none) gives InUse) ∷ base_checks F (io_asked p)
-
-  pub io_refused : (k : Code) → FirstGiven others k → Exactly (RequestIo F 1 p) (refused k p F)
-  io_refused k g = exactly (request_io_unique F 1 p) (inl (first_past (first_checks F p) others k first g, as_kept k p F))
-
-  pub io_granted : (b : ℕ) → Passed others → BaseTaken F (io_asked p) b
-      → Exactly (RequestIo F 1 p) (done 1 (with_word p 2 b) (with_io F (seat_of (socket_of p)) (some (io_grant 1 (io_asked p) b))))
-  io_granted b passed taken =
-      exactly (request_io_unique F 1 p)
-      (inr (passed_both (first_checks F p) others first passed, (refl, record { base = b; taken = taken; leaves = as_left _ })))
-
 -- RequestIO there, of the socket 1, which has no grant
 module _ (io : ℕ → Option IoGrant) (free : io 1 ≡ none) (rs : List Range) (low high count lines : ℕ) (lined : (1 ≤ lines) × (lines ≤ 16))
     (counted : (1 ≤ count) × (count ≤ 2 ^ lines)) where
@@ -90,16 +51,32 @@ module _ (io : ℕ → Option IoGrant) (free : io 1 ≡ none) (rs : List Range) 
   abbrev packet : List ℕ
   packet = lines_packet 1 low high count lines
 
-  first : Passed (first_checks table packet)
-  first = first_passed table 1 low high count 0x00 lines refl (omega arith) refl lined counted
+  -- the checks ahead of the base pass
+  ahead : Passed (io_ahead_checks table 1 packet [])
+  ahead =
+      (omega arith)
+      then (λ e. e (record { client = _; listed = inl refl; handle = refl }))
+      then (omega arith nor omega arith)
+      then true≢false
+      then ((λ e. omega arith) nor (λ e. omega arith) nor (λ e. omega (arith, lined)) nor (λ e. omega (arith, lined)))
+      then ((λ e. omega (arith, counted)) nor (λ e. omega (arith, counted)) nor (λ e. e refl))
+      then (λ e. e free)
+      then tt
 
-  -- it is refused as the base's checks say, and granted where they pass
+  -- so it is refused as the base's checks say, and granted where they pass
   base_refused : (k : Code) → FirstGiven (base_checks table (io_asked packet)) k → Exactly (RequestIo table 1 packet) (refused k packet table)
-  base_refused k g = io_refused table packet first k ((λ e. e free) past g)
+  base_refused k g =
+      exactly (request_io_unique table 1 packet)
+      (inl (given-after (io_ahead_checks table 1 packet []) (base_checks table (io_asked packet)) k ahead g, as_kept k packet table))
 
   base_granted : (b : ℕ) → Passed (base_checks table (io_asked packet)) → BaseTaken table (io_asked packet) b
       → Exactly (RequestIo table 1 packet) (done 1 (with_word packet 2 b) (granting_io 1 (ports b count lines) table))
-  base_granted b passed taken = io_granted table packet first b ((λ e. e free) then passed) taken
+  base_granted b passed taken =
+      exactly (request_io_unique table 1 packet)
+      (inr (
+        passed-after (io_ahead_checks table 1 packet []) (base_checks table (io_asked packet)) ahead passed,
+        (refl, record { base = b; taken = taken; leaves = as_left _ }),
+      ))
 
   -- a base that is named and isn't all managed is refused; one that is, and in nobody's way, is granted
   pub named_refused : base_asked_lem packet ≢ 0 → NotAllManaged table (io_asked packet) → Exactly (RequestIo table 1 packet) (refused BadBase packet table)
@@ -163,15 +140,12 @@ module _ (io : ℕ → Option IoGrant) (r : Range) (n : ℕ) (sized : (4 < n) ×
       first_given io free (r ∷ []) 0x00 0x00 n 16 (omega arith) (omega arith) refl 0x308
       (alone_chosen c (λ b c'. only b c'.times (candidate_multiple b c') (candidate_in b c') c'.meets_none))
 
--- where the socket 0 alone has a grant, that is what is held
-pub only_held : (x y : HeldPorts) (s : Seat) → put ready.io 0 (some x) s ≡ some y → y ≡ x
-only_held x y s held =
-    ⊎_elim (λ e. some-injective y x (sym held ∙ e.1)) (λ e. absurd (none-ne-some y (sym e.1 ∙ held)))
-    (put_is ready.io 0 (some x) s)
-
 -- N8's held half: 308 meets it not, and 300 does
 pub half_meets_none : MeetsNone half_held.io (ports 0x308 8 16)
-half_meets_none s g live m = let m' = rw (only_held _ g s live) at m in omega (arith, meet_equal (omega arith) (omega arith) m')
+half_meets_none s g live m =
+    ⊎_elim
+    (λ e. let m' = rw (← (some-injective _ g (sym e.1 ∙ live))) at m in omega (arith, meet_equal (omega arith) (omega arith) m'))
+    (λ e. none-ne-some g (sym e.1 ∙ live)) (put_is ready.io 0 (half_held.io 0) s)
 
 pub half_leaves_308 : (b t : ℕ) → b ≡ t * 8 → (0x300 ≤ b) × (b + 8 ≤ 0x310) → MeetsNone half_held.io (ports b 8 16) → b ≡ 0x308
 half_leaves_308 b t e inside meets_none = omega (arith, not_300)

@@ -6,7 +6,7 @@ use Rattle.facts.specs.Table.{Facts}
 use Rattle.facts.specs.WellFormed.{WellFormed}
 use Rattle.facts.specs.Resources.{AdjustResourceInfo, with_ranges}
 use Rattle.facts.specs.Io.{RequestIo}
-use Rattle.facts_cases.specs.Cases.{Exactly, done, refused, ports, range, ready, granting_io, request_packet}
+use Rattle.facts_cases.specs.Cases.{Exactly, done, refused, ports, range, ready, granting_io}
 
 -- "2F8, which belongs to our main board and was never managed": all ports but these eight are; and all ports, once they are added
 abbrev pub boards_ports : Facts
@@ -21,7 +21,7 @@ alike = with_ranges ready (record { base = 0x300; count = 16; reserved = true } 
 
 -- RequestIO's packet, not shared: the socket, the two bytes of BasePort1, NumPorts1, IOAddrLines
 abbrev pub lines_packet : ℕ → ℕ → ℕ → ℕ → ℕ → List ℕ
-lines_packet s low high count lines = request_packet s low high count 0x00 lines
+lines_packet s low high count lines = s ∷ 0x00 ∷ low ∷ high ∷ count ∷ 0x00 ∷ 0x00 ∷ 0x00 ∷ 0x00 ∷ 0x00 ∷ lines ∷ []
 
 -- AdjustResourceInfo's short packet: Remove of 8 ports at the base 2F8
 abbrev pub remove_packet : List ℕ

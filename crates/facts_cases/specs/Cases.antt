@@ -69,13 +69,9 @@ one_sharer = granting_irq 0 3 DynamicLevel two_levels
 abbrev pub two_sharers : Facts
 two_sharers = granting_irq 1 3 DynamicLevel one_sharer
 
--- "300, 16 managed"
-abbrev pub sixteen_managed : Facts
-sixteen_managed = managing (range 0x300 16) ready
-
--- "300 to 307 held", by the socket 0
+-- "300, 16 managed, 300 to 307 held", by the socket 0
 abbrev pub half_held : Facts
-half_held = granting_io 0 (ports 0x300 8 16) sixteen_managed
+half_held = granting_io 0 (ports 0x300 8 16) (managing (range 0x300 16) ready)
 
 -- "302 to 30C managed"
 abbrev pub eleven_managed : Facts
@@ -106,13 +102,9 @@ time_multiplexed s assigned = irq_packet s 0x01 assigned 0xA3 0x00
 abbrev pub dynamic : ℕ → ℕ → List ℕ
 dynamic s assigned = irq_packet s 0x02 assigned 0xA3 0x00
 
--- RequestIO's packet: the socket, the two bytes of BasePort1, NumPorts1, Attributes1, IOAddrLines
-abbrev pub request_packet : ℕ → ℕ → ℕ → ℕ → ℕ → ℕ → List ℕ
-request_packet s low high count attributes lines = s ∷ 0x00 ∷ low ∷ high ∷ count ∷ attributes ∷ 0x00 ∷ 0x00 ∷ 0x00 ∷ 0x00 ∷ lines ∷ []
-
--- the same at 16 lines, not shared
+-- RequestIO's packet at 16 lines, not shared: the socket, the two bytes of BasePort1, NumPorts1
 abbrev pub io_packet : ℕ → ℕ → ℕ → ℕ → List ℕ
-io_packet s low high count = request_packet s low high count 0x00 16
+io_packet s low high count = s ∷ 0x00 ∷ low ∷ high ∷ count ∷ 0x00 ∷ 0x00 ∷ 0x00 ∷ 0x00 ∷ 0x00 ∷ 0x10 ∷ []
 
 -- RegisterClient's packet: attributes 4, event mask 0
 abbrev pub client_packet : List ℕ

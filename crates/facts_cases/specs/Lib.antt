@@ -2,9 +2,7 @@
 pub mod Answering
 pub mod Cases
 pub mod Joining
-pub mod Way
 pub use Answering.{boards_ports, all_added, alike, lines_packet, remove_packet, AnsweringCases}
 pub use Cases.{Exactly, done, refused, ports, range, managing, ready, two_levels, granting_irq, granting_io, three_held, both_held, one_sharer, two_sharers}
-pub use Cases.{sixteen_managed, half_held, unheld_range, one_client, no_client, irq_packet, request_packet, io_packet, client_packet, add_packet, first_packet}
+pub use Cases.{half_held, unheld_range, one_client, no_client, irq_packet, io_packet, client_packet, add_packet, first_packet}
 pub use Joining.{either, sharing, first_shared, alone, five_held, both_shared, JoiningCases}
-pub use Way.{tells, tells_none, refuses, sharing_io, shared_held, shared_twice, halves_held, shared_packet, first_shared_packet, WayCases}

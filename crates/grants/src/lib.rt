@@ -1,4 +1,6 @@
 // A seat's grants: entered or given back, and whether they are this client's. Whatever the bytes say, one record is written.
+#![tactic(auto)]
+
 ghost use Rattle.std.specs.Prelude.{◌≡◌, ◌<◌, length};
 ghost use Rattle.facts.specs.Table;
 ghost use Rattle.layout.specs.Layout.{table_size};
@@ -33,7 +35,7 @@ pub fn enter_ports(
 }
 
 // "BAD_BASE unless this client holds that base and count on this socket."
-#[derive(Drop)]
+#[derive(Clone, Copy)]
 pub enum Ports {
     Held,
     Other,
@@ -72,7 +74,7 @@ pub fn enter_level(t: &mut [u8], seat: Seat, h: Handle, level: usize, manner: us
 }
 
 // The manner in which this client holds this level at the seat, or it doesn't.
-#[derive(Drop)]
+#[derive(Clone, Copy)]
 pub enum Level {
     Held(Manner),
     Other,

@@ -1,9 +1,9 @@
 -- A call of RequestIRQ or RequestIO whose earlier checks pass is refused exactly when no resource fits. Assumes nothing.
 use Rattle.facts.proofs.Words.{◌≡◌, refl, ap, sym, subst, ◌⊎◌, inl, inr, ⊎_elim, ◌≢◌, List, ℕ, T, WellFormed}
 use Rattle.facts.specs.{Code, Success, Facts, Check, Outcome, Passed, Ruled, RequestIrq, GrantsIrq, Fits, assigned_irq, irq_request_checks, RequestIo}
-use Rattle.facts.specs.{GrantsIo, Candidate, BaseTaken, base_asked_lem, io_request_checks, Service, requestIrq, requestIo, service_number, rule_of}
+use Rattle.facts.specs.{GrantsIo, Candidate, BaseTaken, base_asked_lem, io_request_checks, Service, requestIrq, requestIo, service_number, rule_of, Call}
 use Rattle.facts.specs.{io_asked, irq_asked}
-use Rattle.facts.proofs.{service_ruled, no_success, none_succeeds, ruled_then_success, exactly_when}
+use Rattle.facts.proofs.{number_injective, no_success, none_succeeds, ruled_then_success, exactly_when}
 use Rattle.layout.specs.{Accepted}
 use Rattle.history.specs.{call, Ours, RefusedExactly}
 use Rattle.history.proofs.Answered.{stepped}
@@ -12,8 +12,11 @@ use Rattle.history.proofs.Grants.{base_answered, level_answered}
 -- what a call of a service answers on an accepted table is what its rule permits of the facts
 ruled_by : (v : Service) (h : ℕ) (p : List ℕ) (k : Code) (a : ℕ) (q b b' : List ℕ) (t : Accepted b) → Ours (call (service_number v) h p k a q) b b'
     → (G : Facts) × rule_of v t.facts h p (record { code = k; handle = a; packet = q; facts = G })
-ruled_by v h p k a q b b' t x =
-    let s = stepped t (call (service_number v) h p k a q) tt x in (s.after, service_ruled t.facts h p v _ s.rule)
+ruled_by v h p k a q b b' t x = let s = stepped t (call (service_number v) h p k a q) tt x in (s.after, served _ s.rule)
+  where
+    served : (o : Outcome) → Call (service_number v) t.facts h p o → rule_of v t.facts h p o
+    served o (inl (n, r)) = subst (λ (u : Service). rule_of u t.facts h p o) (number_injective n.service v n.number_is) r
+    served o (inr r) = absurd (r.0 (record { service = v; number_is = refl }))
 
 -- what a request that is granted passed and took
 module _ (F : Facts) (h : ℕ) (p : List ℕ) (o : Outcome) (success : o.code ≡ Success) where

@@ -131,6 +131,7 @@ one_port_apart base zero = tt
 one_port_apart base (suc n) = (omega arith, omega arith, one_port_apart (base + 1) n)
 
 pub one_port_below : (base n : ℕ) (r : Range) → r ∈ one_port base n → r.base + r.count ≤ base + n
+one_port_below base zero r m = elim m [ ]
 one_port_below base (suc n) r (inl e) = omega (arith, ap (λ (x : Range). x.base) e, ap (λ (x : Range). x.count) e)
 one_port_below base (suc n) r (inr m) = omega (arith, one_port_below (base + 1) n r m)
 

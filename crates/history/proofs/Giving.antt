@@ -22,6 +22,7 @@ bytes [] t at = omega arith
 bytes (x ∷ p) t at = marked_or_not (ltb x 256) (ltb-true x 256) (bytes p) t at
   where
     marked_or_not : (below : Bool) → (below ≡ true → x < 256) → (T (all_bytes p) → Bytes p) → T (cond below (all_bytes p) false) → Bytes (x ∷ p)
+    marked_or_not false e later t _ = elim t [ ]
     marked_or_not true e later t zero = e refl
     marked_or_not true e later t (suc at) = later t at
 

@@ -23,5 +23,6 @@ module _ {A : Type 0} (P : A → Type 0) where
   Each (x ∷ xs) = P x × Each xs
 
   pub each_in : (xs : List A) → Each xs → (x : A) → x ∈ xs → P x
+  each_in [] e x m = elim m [ ]
   each_in (y ∷ xs) e x (inl q) = subst P (sym q) e.0
   each_in (y ∷ xs) e x (inr m) = each_in xs e.1 x m

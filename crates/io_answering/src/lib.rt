@@ -1,5 +1,7 @@
 // Where a card answers: at its own ports and at every port that its lines don't tell from one of them. Whether all of these are managed, by the gaps
 // between the managed ranges.
+#![tactic(auto)]
+
 ghost use Rattle.std.specs.Prelude.{◌≡◌, ◌+◌, ◌≤◌, ◌<◌, length};
 ghost use Rattle.facts.specs.Table;
 ghost use Rattle.facts.specs.Says.{Says};

@@ -1,5 +1,7 @@
 // The bars of a table: for each live grant the bases at which ports that are asked for meet it, and for each gap between the managed ranges those at
 // which their card answers in it.
+#![tactic(auto)]
+
 ghost use Rattle.std.specs.Prelude.{◌≡◌, ◌+◌, ◌≤◌, ◌<◌, length, replicate};
 ghost use Rattle.facts.specs.Table;
 ghost use Rattle.layout.specs.Sound.{Accepted};
@@ -12,7 +14,7 @@ use layout::{ALL_PORTS, MOST_LINES, MOST_SEATS};
 use seats::IoSeat;
 
 // A bar as it stands in the rows: where it starts, its period less one, and how many bases it has.
-#[derive(Drop)]
+#[derive(Clone, Copy)]
 pub struct Bar {
     pub start: u16,
     pub ones: u16,

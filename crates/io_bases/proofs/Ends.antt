@@ -1,6 +1,6 @@
 -- Each way to the base that is taken is the rule's. Assumes nothing.
 use Rattle.facts.proofs.Words.{◌≡◌, refl, inl, inr, ◌≢◌, ℕ, ◌≤◌, ◌<◌, arith}
-use Rattle.facts.specs.{BadBase, InUse, Facts, FirstGiven, Passed, IoAsked, NotAllManaged, GrantInTheWay, NoCandidate, CandidateTaken}
+use Rattle.facts.specs.{BadBase, InUse, Facts, FirstGiven, Passed, IoAsked, NotAllManaged, InTheWay, NoCandidate, CandidateTaken}
 use Rattle.facts.specs.{BaseTaken, base_checks}
 
 module _ (F : Facts) (q : IoAsked) where
@@ -9,19 +9,13 @@ module _ (F : Facts) (q : IoAsked) where
     pub unmanaged : NotAllManaged F q → FirstGiven (base_checks F q) BadBase
     unmanaged x = inl ((named, x), refl)
 
-    -- a socket's grant is in the way, or none is
     module _ (managed : NotAllManaged F q → ⊥) where
-      pub held : (s : ℕ) → GrantInTheWay F q s → FirstGiven (base_checks F q) InUse
-      held s g = inr ((λ y. managed y.1), inl ((named, record { seat = g.seat; stands = g.stands }), refl))
+      pub held : InTheWay F q → FirstGiven (base_checks F q) InUse
+      held x = inr ((λ y. managed y.1), inl ((named, x), refl))
 
-      pub free : ((s : ℕ) → GrantInTheWay F q s → ⊥) → (x : ℕ) → x ≡ q.base → Passed (base_checks F q) × BaseTaken F q x
-      free clear x e = (
-        (
-          (λ y. managed y.1),
-          ((λ y. clear _ (record { seat = y.1.seat; socket = refl; stands = y.1.stands })), ((λ y. named y.0), tt)),
-        ),
-        inl (named, e),
-      )
+      pub free : (InTheWay F q → ⊥) → (x : ℕ) → x ≡ q.base → Passed (base_checks F q) × BaseTaken F q x
+      free clear x e =
+          (((λ y. managed y.1), ((λ y. clear y.1), ((λ y. named y.0), tt))), inl (named, e))
 
   -- base 0
   module _ (zero : q.base ≡ 0) where

@@ -1,10 +1,13 @@
--- What the bytes say of the ports at a named base: whether they are managed. Assumes nothing.
-use Rattle.facts.proofs.Words.{inr, ⊎_elim, List, ℕ, ◌+◌, ◌<◌, dec_lt, arith}
+-- What the bytes say of the ports at a named base: whether they are managed, and what is in their way. Assumes nothing.
+use Rattle.facts.proofs.Words.{◌≡◌, sym, ◌∙◌, subst, ◌⊎◌, inr, ⊎_elim, List, Bool, true, false, not, none, some, some-injective}
+use Rattle.facts.proofs.Words.{none-ne-some, ℕ, ◌+◌, ◌<◌, dec_lt, arith, true≢false, Says}
 use Rattle.layout.proofs.Of
-use Rattle.facts.specs.{IoAsked, Within, ports_at, NotAllManaged, all_ports}
-use Rattle.facts.proofs.{told, own_answers}
-use Rattle.layout.specs.{Accepted}
+use Rattle.facts.specs.{Facts, IoAsked, HeldPorts, Within, Meet, ports_at, NotAllManaged, BothShare, InTheWay, all_ports, most_seats}
+use Rattle.facts.proofs.{says_true, says_false, told, own_answers}
+use Rattle.layout.specs.{Accepted, facts_in}
+use Rattle.table_read.proofs.Some.{Some}
 use Rattle.io_answering.specs.{AllManagedIn}
+use Rattle.io_bases.specs.{StandsAt}
 
 -- whether the ports that are named are managed, and wherever their card answers
 module _ (b : List ℕ) (q : IoAsked) (a : Accepted b) (within : all_ports < q.base + q.count → ⊥) where
@@ -24,3 +27,45 @@ module _ (b : List ℕ) (q : IoAsked) (a : Accepted b) (within : all_ports < q.b
   pub all_managed : AllManagedIn b (ports_at q q.base) → NotAllManaged a.facts q → ⊥
   all_managed f =
       ⊎_elim within (⊎_elim (λ n. n (λ p w. Of.managed_said b a p (f.own p w))) (λ n. n (λ p y. Of.managed_said b a p (f.answers p y))))
+
+-- what is held at a seat
+module _ (F : Facts) (q : IoAsked) (s : ℕ) where
+  pub none_stands : F.io s ≡ none → StandsAt F q s → ⊥
+  none_stands e x = none-ne-some x.range (sym e ∙ x.held)
+
+  module _ (y : HeldPorts) (held : F.io s ≡ some y) where
+    same : (x : StandsAt F q s) → x.range ≡ y
+    same x = some-injective x.range y (sym x.held ∙ held)
+
+    pub meets_stands : (Meet (ports_at q q.base) y.ports → ⊥) → StandsAt F q s → ⊥
+    meets_stands n x = n (subst (λ (z : HeldPorts). Meet (ports_at q q.base) z.ports) (same x) x.meets)
+
+    -- it is met: then it is in the way, or both share
+    module _ (met : Meet (ports_at q q.base) y.ports) where
+      pub unshared_stands : (q.first ≡ true) ⊎ (BothShare q y → ⊥) → StandsAt F q s
+      unshared_stands u = record { range = y; held = held; meets = met; unshared = u }
+
+      pub shared_says : q.first ≡ false → q.shared ≡ true → (r : Bool) → y.shared ≡ r → Says (not r) (StandsAt F q s)
+      shared_says first shared false e = says_true (unshared_stands (inr (λ both. true≢false (sym both.1 ∙ e))))
+      shared_says first shared true e =
+          says_false (λ x.
+          ⊎_elim (λ f. true≢false (sym f ∙ first)) (λ n. n (shared, subst (λ (z : HeldPorts). z.shared ≡ true) (sym (same x)) e)) x.unshared)
+
+-- a live grant is in the way exactly if what is held at some seat is
+module _ (b : List ℕ) (q : IoAsked) (a : Accepted b) where
+  said : a.facts ≡ facts_in b
+  said = Of.facts_in_lem b a
+
+  pub way-said : (s : ℕ) → StandsAt (facts_in b) q s → InTheWay a.facts q
+  way-said s x =
+      let y = subst (λ (F : Facts). StandsAt F q s) (sym said) x in
+      record { seat = s; range = y.range; held = y.held; meets = y.meets; unshared = y.unshared }
+
+  pub said_way : InTheWay a.facts q → Some most_seats (StandsAt (facts_in b) q)
+  said_way w =
+      let f = a.formed.ios w.seat w.range w.held in (
+        w.seat,
+        omega (arith, f.socket, a.formed.sockets_most),
+        subst (λ (F : Facts). StandsAt F q w.seat) said
+            (record { range = w.range; held = w.held; meets = w.meets; unshared = w.unshared }),
+      )

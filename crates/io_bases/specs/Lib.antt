@@ -1,3 +1,3 @@
 -- What the contracts of `io_bases` cite. Assumes nothing.
 pub mod Bases
-pub use Bases.{PortsAre, BaseIs}
+pub use Bases.{AskedFits, PortsAre, StandsAt, WayIs, BaseIs}

@@ -1,4 +1,6 @@
 // The base that a request for I/O ports without a base takes, on a table that is the image of a well-formed set.
+#![tactic(auto)]
+
 ghost use Rattle.std.specs.Prelude.{◌≡◌, ◌≤◌, ◌<◌};
 ghost use Rattle.facts.specs.Table;
 ghost use Rattle.facts.specs.Says.{Says};
@@ -68,14 +70,14 @@ fn reach(t: &[u8], i: usize, most: usize, want: usize) -> usize
 }
 
 // What a search among the candidates finds.
-#[derive(Drop)]
+#[derive(Clone, Copy)]
 pub enum TakenBase {
     Base(usize),
     Nothing,
 }
 
 // What it found, and the stretch of bases that it knows to be barred.
-#[derive(Drop)]
+#[derive(Clone, Copy)]
 pub struct Found {
     pub taken: TakenBase,
     pub known: Stretch,

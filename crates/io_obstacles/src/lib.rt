@@ -1,5 +1,7 @@
 // What bars the bases that a request could take: for each live grant a stretch of them, which repeats, and for each gap between the managed ranges
 // another; and the search that leaps from the end of one to the next.
+#![tactic(auto)]
+
 ghost use Rattle.std.specs.Prelude.{◌≡◌, ◌+◌, ◌^◌, ◌<◌, ◌≤◌};
 ghost use Rattle.facts.specs.Table;
 ghost use Rattle.io_obstacles.specs.Bars.{around, Power, Multiple, FirstMultiple, StretchFits, RowsFit, LiesShort, LiesInRows, Leaps, Opened};
@@ -12,7 +14,7 @@ use layout::{ALL_PORTS, MOST_LINES, MOST_RANGES, MOST_SEATS};
 const AROUND: u32 = 131072;
 
 // A stretch of bases: so many from a start on, and again after each period. The period is a power of two; less one, its bits are all ones.
-#[derive(Drop)]
+#[derive(Clone, Copy)]
 pub struct Stretch {
     pub start: u32,
     pub ones: u32,
@@ -146,7 +148,7 @@ pub fn everywhere(s: Stretch) -> bool
 }
 
 // Whether gaps bar a base. A card that decodes all lines answers at its own ports alone, and for it they don't count.
-#[derive(Drop)]
+#[derive(Clone, Copy)]
 pub enum Gaps {
     Counted,
     Ignored,
@@ -165,7 +167,7 @@ pub fn gaps_for(lines: usize) -> Gaps
 
 // What a search looks for: so many ports, at multiples of the step; which bars count, those whose periods are no longer than the limit and one; which of
 // them come again soonest, those whose periods are no longer than `few` and one; and whether the gaps' bars count.
-#[derive(Drop)]
+#[derive(Clone, Copy)]
 pub struct Wanted {
     pub count: usize,
     pub step: usize,
@@ -210,7 +212,7 @@ fn leap_all(grants: &[u16], gaps: &[u16], wanted: Wanted, base: usize) -> usize
 }
 
 // Where a search came to, and the stretch that it knows to be barred.
-#[derive(Drop)]
+#[derive(Clone, Copy)]
 pub struct Search {
     pub base: usize,
     pub known: Stretch,

@@ -1,7 +1,5 @@
 -- What the checks of the packets of RequestIO and ReleaseIO answer. Assumes nothing.
-use Rattle.std.specs.Prelude.{◌≡◌, ◌≢◌, List, ℕ, ◌≤◌, ◌<◌}
-use Rattle.facts.specs.declared.IoAsked.{IoAsked}
-use Rattle.facts.specs.Table
+use Rattle.std.specs.Prelude.{◌≡◌, ◌≢◌, List, ℕ}
 use Rattle.facts.specs.Io.{IoAttributesBad, IoSizeBad, second_count}
 use Rattle.io_packets.specs.declared.Attributes.{Attributes}
 use Rattle.io_packets.specs.declared.Attributes.TheVariants as attributes
@@ -24,10 +22,3 @@ SizesAre p sizes.Bad = IoSizeBad p
 abbrev pub SecondIs : List ℕ → Second → Type 0
 SecondIs p second.Absent = second_count p ≡ 0
 SecondIs p second.Asked = second_count p ≢ 0
-
--- what is asked keeps the bounds of a packet whose attributes and sizes are good
-pub record AskedFits (q : IoAsked) : Type 0 where
-  pub base : q.base < Table.all_ports
-  pub port : 1 ≤ q.count
-  pub ports : q.count < 256
-  pub lines : q.lines ≤ Table.most_lines

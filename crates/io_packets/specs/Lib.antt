@@ -1,3 +1,3 @@
 -- What the contracts of `io_packets` cite. Assumes nothing.
 pub mod Asking
-pub use Asking.{AttributesAre, SizesAre, SecondIs, AskedFits}
+pub use Asking.{AttributesAre, SizesAre, SecondIs}

@@ -1,4 +1,6 @@
 // The packets of RequestIO and ReleaseIO: what they ask for.
+#![tactic(auto)]
+
 ghost use Rattle.std.specs.Prelude.{◌≡◌, ◌<◌, ◌≤◌, length};
 ghost use Rattle.facts.specs.Table;
 ghost use Rattle.facts.specs.Says.{Says};
@@ -85,7 +87,7 @@ fn first_alone(p: &[u8]) -> bool
 
 // Whether attributes and lines are ones that a request may have: "attribute bits outside section 5.52's list, First Shared without Shared, or lines
 // outside 1 to 16, BAD_ATTRIBUTE".
-#[derive(Drop)]
+#[derive(Clone, Copy)]
 pub enum Attributes {
     Good,
     Bad,
@@ -112,7 +114,7 @@ pub fn attributes_asked(p: &[u8]) -> Attributes
 }
 
 // "NumPorts2 not 0": whether a second range is asked for.
-#[derive(Drop)]
+#[derive(Clone, Copy)]
 pub enum Second {
     Absent,
     Asked,
@@ -130,7 +132,7 @@ pub fn second_asked(p: &[u8]) -> Second
 }
 
 // "NumPorts1 0 or over two to the lines, or NumPorts2 not 0, BAD_SIZE"
-#[derive(Drop)]
+#[derive(Clone, Copy)]
 pub enum Sizes {
     Good,
     Bad,

@@ -1,4 +1,6 @@
 // Ports: when two ranges meet, and when they overlap.
+#![tactic(auto)]
+
 ghost use Rattle.std.specs.Prelude.{◌≡◌, ◌+◌, ◌^◌, ◌<◌, ◌≤◌, min, max};
 ghost use Rattle.facts.specs.Says.{Says};
 ghost use Rattle.facts.specs.Table.{all_ports, most_lines};

@@ -1,18 +1,19 @@
 // RequestIO and ReleaseIO, on a table that is the image of a well-formed set.
+#![tactic(auto)]
+
 ghost use Rattle.std.specs.Prelude.{◌≡◌, ◌<◌, length};
 ghost use Rattle.facts.specs.Table;
 ghost use Rattle.facts.specs.Packets.{with_word};
 ghost use Rattle.facts.specs.Io.{request_io_length};
 ghost use Rattle.layout.specs.Layout.{table_size, mark};
 ghost use Rattle.layout.specs.Sound.{Accepted};
-ghost use Rattle.io_packets.specs.Asking.{AskedFits};
+ghost use Rattle.io_bases.specs.Bases.{AskedFits};
 ghost use Rattle.io_services.specs.Granting.{asked_entered, BaseFits, Granted, RequestServed, ReleaseServed};
 
 use facts::{Code, Handle, IoAsked, Seat};
 use grants::Ports;
-use io_asking::Asking;
 use io_bases::Base;
-use io_packets::{BASE_AT, LENGTH, Second};
+use io_packets::{Attributes, BASE_AT, LENGTH, Second, Sizes};
 use layout::MARKED;
 use seats::{IoSeat, NOBODY};
 use service_answers::Answer;
@@ -62,12 +63,19 @@ pub fn request(t: &mut [u8], h: Handle, p: &mut [u8]) -> Answer
     requires { Accepted t.old }
     ensures { RequestServed h.0 p.old p.new t.old t.new result }
 {
-    let asking = io_asking::begin(t, h, p);
-    match asking {
-        Asking::At(seat, asked) => {
+    let begun = service_checks::begin(t, h, p, LENGTH, CardNeed::Needed);
+    match begun {
+        Begun::At(_, seat) => {
+            let Attributes::Good = io_packets::attributes_asked(p) else {
+                return Answer::Refused(Code::BadAttribute);
+            };
+            let Sizes::Good = io_packets::sizes_asked(p) else {
+                return Answer::Refused(Code::BadSize);
+            };
             let IoSeat::Free = seats::held(t, seat) else {
                 return Answer::Refused(Code::InUse);
             };
+            let asked = io_packets::asked(p);
             if asked.base == 0 {
                 let chosen = io_bases::chosen(t, asked);
                 return settle(t, seat, h, asked, chosen, p);
@@ -75,7 +83,7 @@ pub fn request(t: &mut [u8], h: Handle, p: &mut [u8]) -> Answer
             let named = io_bases::named(t, asked);
             settle(t, seat, h, asked, named, p)
         }
-        Asking::Refused(code) => Answer::Refused(code),
+        Begun::Refused(code) => Answer::Refused(code),
     }
 }
 

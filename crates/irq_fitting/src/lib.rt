@@ -1,4 +1,6 @@
 // The level that a request for an IRQ takes, on a table that is the image of a well-formed set.
+#![tactic(auto)]
+
 ghost use Rattle.std.specs.Prelude.{◌≢◌, ◌<◌};
 ghost use Rattle.facts.specs.Table;
 ghost use Rattle.facts.specs.Says.{Says};
@@ -25,7 +27,7 @@ fn goes(asked: IrqAsked, held: Manner) -> bool
 
 // The levels that grants hold, a bit for each: those where a grant stands in the way of the request, and those where one goes together with it. For a request
 // as dynamic level, where level 3 is held as exclusive and level 5 as dynamic level, the first set is 2^3, and the second 2^5.
-#[derive(Drop)]
+#[derive(Clone, Copy)]
 pub struct Levels {
     pub way: usize,
     pub together: usize,
@@ -86,7 +88,7 @@ fn level_fits(t: &[u8], asked: IrqAsked, way: usize, l: usize) -> bool
 }
 
 // The levels that fit, a bit for each: those that aren't reserved, and those that are.
-#[derive(Drop)]
+#[derive(Clone, Copy)]
 pub struct Fitting {
     pub unreserved: usize,
     pub reserved: usize,
@@ -143,7 +145,7 @@ fn lowest(set: usize) -> u32
 }
 
 // The level that a request takes, or none fits.
-#[derive(Drop)]
+#[derive(Clone, Copy)]
 pub enum TakenLevel {
     Level(usize),
     Nothing,

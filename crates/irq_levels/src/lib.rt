@@ -1,4 +1,6 @@
 // IRQ levels: which there are, the manners in which they are held, their types, and which go together.
+#![tactic(auto)]
+
 ghost use Rattle.std.specs.Prelude.{◌≡◌, ◌≤◌};
 ghost use Rattle.facts.specs.Says.{Says};
 ghost use Rattle.facts.specs.Levels.{Together, type_of};
@@ -89,7 +91,7 @@ pub fn apart(m: Manner) -> u64
 }
 
 // Whether a level that is named is one of a table's levels.
-#[derive(Drop)]
+#[derive(Clone, Copy)]
 pub enum LevelNumber {
     Below(usize),
     Over,

@@ -1,4 +1,6 @@
 // The packets of RequestIRQ and ReleaseIRQ: what they ask for, and what a grant writes.
+#![tactic(auto)]
+
 ghost use Rattle.std.specs.Prelude.{◌≡◌, ◌≢◌, ◌<◌, length};
 ghost use Rattle.facts.specs.Table;
 ghost use Rattle.facts.specs.Says.{Says};
@@ -106,7 +108,7 @@ fn dynamic_unable(p: &[u8]) -> bool
 }
 
 // Whether the attributes are ones that a request may have.
-#[derive(Drop)]
+#[derive(Clone, Copy)]
 pub enum Attributes {
     Good,
     Bad,
@@ -166,7 +168,7 @@ fn mask_of_none(p: &[u8]) -> bool
 }
 
 // Whether IRQInfo1 and IRQInfo2 are ones that a request may have.
-#[derive(Drop)]
+#[derive(Clone, Copy)]
 pub enum Info {
     Good,
     Bad,

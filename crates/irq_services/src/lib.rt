@@ -1,4 +1,6 @@
 // RequestIRQ and ReleaseIRQ, on a table that is the image of a well-formed set.
+#![tactic(auto)]
+
 ghost use Rattle.std.specs.Prelude.{◌<◌, length};
 ghost use Rattle.layout.specs.Sound.{Accepted};
 ghost use Rattle.irq_services.specs.Granting.{KindIs, RequestServed, ReleaseServed};
@@ -46,7 +48,7 @@ pub fn request(t: &mut [u8], h: Handle, p: &mut [u8]) -> Answer
 }
 
 // Whether the type bits are those of a manner.
-#[derive(Drop)]
+#[derive(Clone, Copy)]
 pub enum Kind {
     Same,
     Other,

@@ -1,4 +1,6 @@
 // The number of sharers of an IRQ level, on a table that is the image of a well-formed set.
+#![tactic(auto)]
+
 ghost use Rattle.std.specs.Prelude.{◌≡◌, ◌≤◌, ◌<◌, length};
 ghost use Rattle.facts.specs.Table;
 ghost use Rattle.facts.specs.Irq;
@@ -43,7 +45,7 @@ fn count(t: &[u8], level: usize) -> usize
 }
 
 // What the question for sharers answers: their number, or the code of a refusal.
-#[derive(Drop)]
+#[derive(Clone, Copy)]
 pub enum SharerCount {
     Number(u16),
     Refused(Code),

@@ -1,5 +1,5 @@
 -- The ways in which an entry ends, each with its permitted answer. Assumes nothing.
-use Rattle.facts.proofs.Words.{◌≡◌, refl, sym, inl, inr, ◌≢◌, List, Bool, none, ℕ, ◌+◌, ◌≤◌}
+use Rattle.facts.proofs.Words.{◌≡◌, refl, sym, inl, inr, ◌≢◌, List, Bool, ℕ, ◌+◌, ◌≤◌}
 use Rattle.managed_boot.specs.Booting as boot
 use Rattle.facts.specs.{UnsupportedService, GeneralFailure, number_of, Facts, Bytes, Service, register_client, deregisterClient, adjustResourceInfo}
 use Rattle.facts.specs.{requestIrq, releaseIrq, requestIo, releaseIo, requestSocketMask, releaseSocketMask, Serves, service_number, rule_of, Call}
@@ -11,12 +11,12 @@ use Rattle.service_answers.specs.{code_of, handle_of}
 use Rattle.layout.proofs.{kept, stays}
 use Rattle.managed_boot.specs.declared.Booted.{Booted}
 use Rattle.managed_boot.specs.{place_of, Boots}
-use Rattle.promises.specs.{CallAnswers, CardAnswers, SharersAnswers, WayAnswers, BootAnswers}
+use Rattle.promises.specs.{CallAnswers, CardAnswers, SharersAnswers, BootAnswers}
 
 -- no well-formed set has these bytes
-module _ (b : List ℕ) (unformed : Accepted b → ⊥) where
+module _ (b : List ℕ) (none : Accepted b → ⊥) where
   stands : TableRefused b b GeneralFailure
-  stands = record { unformed = unformed; code_is = refl; table = refl }
+  stands = record { unformed = none; code_is = refl; table = refl }
 
   pub call_unformed : (n h : ℕ) (p : List ℕ) (r : ℕ) → Bytes p → r ≡ number_of GeneralFailure → CallAnswers n h b b p p r
   call_unformed n h p r bytes e = record { code = GeneralFailure; answered = 0; packs = e; bytes = bytes; permitted = inr (stands, refl, refl) }
@@ -29,9 +29,6 @@ module _ (b : List ℕ) (unformed : Accepted b → ⊥) where
 
   pub sharers_unformed : (l r : ℕ) → r ≡ number_of GeneralFailure → SharersAnswers l b r
   sharers_unformed l r e = record { code = GeneralFailure; count = 0; packs = e; permitted = inr (stands, refl) }
-
-  pub way_unformed : (h : ℕ) (p : List ℕ) (r : ℕ) → r ≡ number_of GeneralFailure → WayAnswers h b p r
-  way_unformed h p r e = record { code = GeneralFailure; socket = none; packs = e; permitted = inr (stands, refl) }
 
 -- n is no service's number
 pub record NoService (n : ℕ) : Type 0 where

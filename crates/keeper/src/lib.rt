@@ -1,7 +1,9 @@
 // The C boundary: numbers and lent bytes. Any bytes, service number, handle and packet get an answer.
+#![tactic(auto)]
+
 ghost use Rattle.std.specs.Prelude.{◌≡◌, true, false};
 ghost use Rattle.facts.specs.Codes.{number_of};
-ghost use Rattle.promises.specs.Entries.{CallAnswers, CardAnswers, SharersAnswers, WayAnswers, FreshAnswers, BootAnswers};
+ghost use Rattle.promises.specs.Entries.{CallAnswers, CardAnswers, SharersAnswers, FreshAnswers, BootAnswers};
 
 use facts::{Code, Handle, Socket};
 use layout::TABLE_SIZE;
@@ -104,17 +106,6 @@ pub extern "C" fn cs_sharers(table: &[u8], level: u32) -> u32
         return unformed();
     };
     irq_sharers::pack(irq_sharers::of_level(table, level))
-}
-
-#[unsafe(no_mangle)]
-pub extern "C" fn cs_in_the_way(table: &[u8], handle: u16, packet: &[u8]) -> u32
-    ensures { WayAnswers handle table.now packet.now result }
-{
-    let Loaded::Formed = table_test::load(table) else {
-        return unformed();
-    };
-    let told = io_question::ask(table, Handle(handle), packet);
-    io_question::pack(told)
 }
 
 #[unsafe(no_mangle)]

@@ -1,4 +1,5 @@
 // The layout of the table's bytes: its limits, places and sizes by name. Definitions are in specs/, their laws in proofs/.
+#![tactic(auto)]
 
 // The limits.
 pub const MOST_SOCKETS: usize = 8;

@@ -1,4 +1,6 @@
 // AdjustResourceInfo, on a table that is the image of a well-formed set: each action, and the way to it.
+#![tactic(auto)]
+
 ghost use Rattle.std.specs.Prelude.{◌≡◌, length};
 ghost use Rattle.facts.specs.Resources;
 ghost use Rattle.facts.specs.Resources.{AddLevel, RemoveLevel, ShowLevel, AddRange, RemoveRange, ShowRange, AdjustResourceInfo};

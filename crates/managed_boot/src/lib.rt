@@ -1,5 +1,7 @@
 // The boot list: "a lent slice of resource records, added in order", on a table that is the image of a well-formed set. `walk` goes along the slice;
 // `boot` takes a list that is lent as bytes, some records at a time, out into an array and lends that to `walk`.
+#![tactic(auto)]
+
 ghost use Rattle.std.specs.Prelude.{◌≡◌, ◌+◌, ◌*◌, ◌/◌, ◌≤◌, min, length, take, drop};
 ghost use Rattle.facts.specs.Boot.{record_size, record_of, records_in};
 ghost use Rattle.facts.specs.Table;
@@ -97,7 +99,7 @@ fn add(t: &mut [u8], r: Record) -> Change
 }
 
 // Where a list ended: all of its records are added, or it stopped at a place with a code.
-#[derive(Drop)]
+#[derive(Clone, Copy)]
 pub enum Booted {
     All(usize),
     Stopped(usize, Code),

@@ -1,10 +1,12 @@
 // A change of what is managed: whether it was made, and the bits that Add and Remove allow.
+#![tactic(auto)]
+
 ghost use Rattle.managed_changes.specs.Changing.{ReserveIs, BitsAre};
 
 use facts::Code;
 
 // A change of what is managed is made, or refused with a code.
-#[derive(Drop)]
+#[derive(Clone, Copy)]
 pub enum Change {
     Made,
     Refused(Code),
@@ -13,7 +15,7 @@ pub enum Change {
 // "Add (1) allows only bit 6, reserve": the reserve mark that is asked for, or other bits.
 const RESERVE: u8 = 0x40;
 
-#[derive(Drop)]
+#[derive(Clone, Copy)]
 pub enum Reserve {
     Mark(u8),
     Other,
@@ -30,7 +32,7 @@ pub fn reserve_asked(attributes: u8) -> Reserve
 }
 
 // "Remove (0) no bit".
-#[derive(Drop)]
+#[derive(Clone, Copy)]
 pub enum Bits {
     Clear,
     Set,

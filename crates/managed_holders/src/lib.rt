@@ -1,4 +1,6 @@
 // Who holds a managed level, or a port of a managed range, on a table that is the image of a well-formed set.
+#![tactic(auto)]
+
 ghost use Rattle.std.specs.Prelude.{◌≡◌, ◌<◌, min, length};
 ghost use Rattle.facts.specs.Table;
 ghost use Rattle.layout.specs.Layout.{table_size};
@@ -11,7 +13,7 @@ use layout::MOST_SEATS;
 use seats::{IoSeat, IrqSeat};
 
 // The lowest handle of the holders, and the attributes that First and Next show of them.
-#[derive(Drop)]
+#[derive(Clone, Copy)]
 pub enum Holders {
     Lowest(Handle, u8),
     Nobody,

@@ -1,4 +1,6 @@
 // Managed IRQ levels, on a table that is the image of a well-formed set: added, removed, and which comes next.
+#![tactic(auto)]
+
 ghost use Rattle.std.specs.Prelude.{◌≡◌, ◌+◌, ◌<◌, length, set};
 ghost use Rattle.facts.specs.Table;
 ghost use Rattle.layout.specs.Layout.{table_size};
@@ -13,7 +15,7 @@ use managed_changes::{Bits, Change, Reserve};
 use managed_holders::Holders;
 
 // Whether a level is managed.
-#[derive(Drop)]
+#[derive(Clone, Copy)]
 pub enum Managing {
     Managed,
     Free,
@@ -78,7 +80,7 @@ pub fn remove(t: &mut [u8], level: u32, attributes: u8) -> Change
 }
 
 // The lowest managed level that isn't below a number.
-#[derive(Drop)]
+#[derive(Clone, Copy)]
 pub enum NextLevel {
     At(usize),
     End,

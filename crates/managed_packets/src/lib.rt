@@ -1,4 +1,6 @@
 // AdjustResourceInfo's packets: what they name and ask for, at either width, and what is written into them.
+#![tactic(auto)]
+
 ghost use Rattle.std.specs.Prelude.{◌≡◌, length};
 ghost use Rattle.facts.specs.Resources;
 ghost use Rattle.managed_packets.specs.Fields.{HeadIs, FormIs, AskedIs, FromIs, FitIs, Written, answer_of, attributes_shown_lem, handle_shown_lem};
@@ -43,7 +45,7 @@ const WIDE_LINES_AT: usize = 11;
 const MOST_SHOWN: usize = 255;
 
 // The action and the resource that a packet names: "Length under 2: BAD_ARG_LENGTH."
-#[derive(Drop)]
+#[derive(Clone, Copy)]
 pub enum Head {
     Names(u8, u8),
     Broken,
@@ -59,7 +61,7 @@ pub fn named(p: &[u8]) -> Head
 }
 
 // The width of an I/O packet: "I/O 7 or 12".
-#[derive(Drop)]
+#[derive(Clone, Copy)]
 pub enum Form {
     Of(Width),
     Neither,
@@ -121,7 +123,7 @@ pub fn from(action: u8, given: u32) -> usize
 }
 
 // Whether a packet of a width can show so many ports.
-#[derive(Drop)]
+#[derive(Clone, Copy)]
 pub enum Fit {
     Shown,
     TooMany,

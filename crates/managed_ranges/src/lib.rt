@@ -1,4 +1,6 @@
 // Managed ranges of I/O ports, on a table that is the image of a well-formed set.
+#![tactic(auto)]
+
 ghost use Rattle.std.specs.Prelude.{◌≡◌, ◌+◌, ◌<◌, ◌≤◌, length};
 ghost use Rattle.facts.specs.Table;
 ghost use Rattle.layout.specs.Layout.{table_size};
@@ -15,7 +17,7 @@ use layout::{
 use managed_changes::{Bits, Change, Reserve};
 
 // "both need lines of 16 for I/O".
-#[derive(Drop)]
+#[derive(Clone, Copy)]
 pub enum Lines {
     All,
     Other,
@@ -32,7 +34,7 @@ fn lined(lines: u8) -> Lines
 }
 
 // "ports 0 or over 65,536 BAD_SIZE".
-#[derive(Drop)]
+#[derive(Clone, Copy)]
 pub enum PortCount {
     Right,
     Wrong,
@@ -51,7 +53,7 @@ fn counted(count: u32) -> PortCount
 }
 
 // "a port past FFFF BAD_BASE".
-#[derive(Drop)]
+#[derive(Clone, Copy)]
 pub enum Reach {
     Within,
     Past,
@@ -68,7 +70,7 @@ fn reaches(base: u32, count: u32) -> Reach
 }
 
 // The ports that an Add or a Remove names, or the code of what is wrong with them.
-#[derive(Drop)]
+#[derive(Clone, Copy)]
 pub enum PortsNamed {
     Ports(usize, usize),
     Wrong(Code),
@@ -116,7 +118,7 @@ fn start(t: &[u8], i: usize) -> usize
 }
 
 // Where new ports belong, if none of them is managed: the ranges before and after that place are the nearest.
-#[derive(Drop)]
+#[derive(Clone, Copy)]
 pub enum NewPorts {
     Free(usize),
     Taken,
@@ -138,7 +140,7 @@ fn free(t: &[u8], base: usize, count: usize) -> NewPorts
 }
 
 // Whether there is room for one more.
-#[derive(Drop)]
+#[derive(Clone, Copy)]
 pub enum Room {
     Left,
     Full,
@@ -198,7 +200,7 @@ pub fn add(t: &mut [u8], r: RangeAsked) -> Change
 }
 
 // The place of the range with just that base and count.
-#[derive(Drop)]
+#[derive(Clone, Copy)]
 pub enum RangeFound {
     At(usize),
     Nowhere,
@@ -223,7 +225,7 @@ fn find(t: &[u8], base: usize, count: usize) -> RangeFound
 }
 
 // "Remove is IN_USE if a live grant holds or is repeated at any port of the range" (K2): whether a card that is granted ports answers at one of these.
-#[derive(Drop)]
+#[derive(Clone, Copy)]
 pub enum Cards {
     Silent,
     Answering,
@@ -276,7 +278,7 @@ pub fn remove(t: &mut [u8], r: RangeAsked) -> Change
 }
 
 // The range with the lowest base that isn't below a number: its base and its count.
-#[derive(Drop)]
+#[derive(Clone, Copy)]
 pub enum NextRange {
     At(usize, usize),
     End,

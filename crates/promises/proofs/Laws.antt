@@ -1,14 +1,13 @@
 -- The laws that specs/Laws states hold. Assumes nothing.
-use Rattle.facts.proofs.Words.{◌≡◌, refl, ap, ap₂, sym, ◌∙◌, subst, inl, inr, ⊎_elim, ◌≢◌, List, Bool, Option, ℕ, ◌*◌, ◌≤◌, arith, length, WellFormed}
+use Rattle.facts.proofs.Words.{◌≡◌, refl, ap, ap₂, sym, ◌∙◌, subst, inl, inr, ⊎_elim, ◌≢◌, List, Bool, ℕ, ◌*◌, ◌≤◌, arith, length, WellFormed}
 use Rattle.facts.specs.{Code, Success, number_of, Facts, fresh, Outcome, Count, Sharers, CardOutcome, CardTo, Booted, BootBytes, stopped, record_size}
-use Rattle.facts.specs.{records_in, records_of, end_of, records_added, Call, Coincide, packed, placed, WayAnswer, WhoIsInTheWay, socket_number, RequestIo}
-use Rattle.facts.specs.{requestIo, service_number}
-use Rattle.facts.proofs.{code_byte, service_laws, host_laws, bytes_laws, way_laws, service_ruled}
+use Rattle.facts.specs.{records_in, records_of, end_of, records_added, Call, Coincide, packed, placed}
+use Rattle.facts.proofs.{code_byte, service_laws, host_laws, bytes_laws}
 use Rattle.layout.specs.{image, Accepted, TableRefused}
-use Rattle.layout.specs.Served.{Served, ServedBy}
+use Rattle.layout.specs.Served.{Served}
 use Rattle.layout.proofs.{one_set}
-use Rattle.promises.specs.{CallPermitted, CardPermitted, SharersPermitted, WayPermitted, BootPermitted, CallAnswers, CardAnswers, SharersAnswers}
-use Rattle.promises.specs.{WayAnswers, FreshAnswers, BootAnswers, TakenApart, CallLaws, CardLaws, SharersLaws, WayLaws, WayBesideLaws, FreshLaws, BootLaws}
+use Rattle.promises.specs.{CallPermitted, CardPermitted, SharersPermitted, BootPermitted, CallAnswers, CardAnswers, SharersAnswers}
+use Rattle.promises.specs.{FreshAnswers, BootAnswers, TakenApart, CallLaws, CardLaws, SharersLaws, FreshLaws, BootLaws}
 use Rattle.promises.specs.Laws.{Laws}
 
 -- a code is below 65536, so what is packed with it can be taken apart
@@ -154,69 +153,6 @@ module _ (level : ℕ) (b : List ℕ) where
         taken_apart = λ r x. taken_apart r x.code x.count x.packs;
       }
 
--- cs_in_the_way
-module _ (handle : ℕ) (b p : List ℕ) where
-  abbrev answered : Code → Option ℕ → WayAnswer
-  answered k s = record { code = k; socket = s }
-
-  -- on the facts of an accepted table its rule holds
-  ruled : {r : ℕ} (x : WayAnswers handle b p r) (a : Accepted b) → WhoIsInTheWay a.facts handle p (answered x.code x.socket)
-  ruled x a =
-      ⊎_elim (λ s. subst (λ (F : Facts). WhoIsInTheWay F handle p (answered x.code x.socket)) (facts_one s.0 a) s.1)
-      (λ u. absurd (u.0.unformed a)) x.permitted
-
-  way_one : (r₁ r₂ : ℕ) → WayAnswers handle b p r₁ → WayAnswers handle b p r₂ → r₁ ≡ r₂
-  way_one r₁ r₂ x y = in_each_case x.permitted y.permitted
-    where
-      in_each_case : WayPermitted handle b p x.code x.socket → WayPermitted handle b p y.code y.socket → r₁ ≡ r₂
-      in_each_case (inl s) (inl t) =
-          let e = way_laws.one_way s.0.facts handle p (answered x.code x.socket) (answered y.code y.socket) s.1 (ruled y s.0) in
-          x.packs ∙ ap (λ (w : WayAnswer). packed w.code (socket_number w.socket)) e ∙ sym y.packs
-      in_each_case (inl s) (inr u) = absurd (u.0.unformed s.0)
-      in_each_case (inr u) (inl t) = absurd (u.0.unformed t.0)
-      in_each_case (inr u) (inr v) =
-          x.packs ∙ ap₂ (λ (k : Code) (s : Option ℕ). packed k (socket_number s)) (one_unformed u.0 v.0).0 (u.1 ∙ sym v.1) ∙ sym y.packs
-
-  way_laws_of : WayLaws handle b p
-  way_laws_of =
-      record {
-        one = way_one;
-        refusal = λ r x d. ⊎_elim (λ s. way_laws.way_refused s.0.facts handle p _ s.1 d) (λ u. u.1) x.permitted;
-        chosen = λ r x z. ⊎_elim (λ s. way_laws.way_chosen s.0.facts handle p _ s.1 z) (λ u. u.1) x.permitted;
-        unformed = λ r x none. ⊎_elim (λ s. absurd (none s.0)) (λ u. u.0.code_is) x.permitted;
-        taken_apart = λ r x. taken_apart r x.code (socket_number x.socket) x.packs;
-        below = λ r s x a. way_laws.way_below a.facts handle p _ s a.formed (ruled x a);
-        stands = λ r s x a. way_laws.way_stands a.facts handle p _ s (ruled x a);
-        lowest = λ r s t x a. way_laws.way_lowest a.facts handle p _ s t (ruled x a);
-      }
-
-  -- beside RequestIO: of one table and one packet both rules hold, or both calls find no table
-  way_beside : WayBesideLaws handle b p
-  way_beside =
-      record {
-        code = λ b₁ p₁ r r' x y d. ⊎_elim
-            (λ s. way_laws.way_code s.accepted.facts handle p _ _ (io_rule s) (ruled x s.accepted) d)
-            (λ u. same_unformed x.permitted u.0) y.permitted;
-        in_use = λ b₁ p₁ r r' x y e named. ⊎_elim
-            (λ s. way_laws.way_in_use s.accepted.facts handle p _ _ (io_rule s) (ruled x s.accepted) e named)
-            (λ u. absurd (not_unformed x.permitted e u.0)) y.permitted;
-        success = λ b₁ p₁ r r' x y e named. ⊎_elim
-            (λ s. way_laws.way_success s.accepted.facts handle p _ _ (io_rule s) (ruled x s.accepted) e named)
-            (λ u. absurd (not_unformed x.permitted e u.0)) y.permitted;
-      }
-    where
-      io_rule : {b₁ p₁ : List ℕ} {k : Code} {a : ℕ} (s : ServedBy (λ (F : Facts). Call (service_number requestIo) F handle p) b b₁ p₁ k a)
-          → RequestIo s.accepted.facts handle p (record { code = k; handle = a; packet = p₁; facts = s.after })
-      io_rule s = service_ruled s.accepted.facts handle p requestIo _ s.rule
-
-      same_unformed : {k k' : Code} {s : Option ℕ} {b₁ : List ℕ} → WayPermitted handle b p k s → TableRefused b b₁ k' → k ≡ k'
-      same_unformed (inl s) u = absurd (u.unformed s.0)
-      same_unformed (inr v) u = v.0.code_is ∙ sym u.code_is
-
-      not_unformed : {k k' : Code} {s : Option ℕ} {b₁ : List ℕ} → WayPermitted handle b p k s → k ≡ Success → TableRefused b b₁ k' → ⊥
-      not_unformed (inl s) e u = u.unformed s.0
-      not_unformed (inr v) e u = omega (arith, ap number_of (sym e ∙ v.0.code_is))
-
 -- cs_fresh
 module _ (sockets : ℕ) (b : List ℕ) where
   fresh_one : (b₁ b₂ : List ℕ) (r₁ r₂ : ℕ) → FreshAnswers sockets b b₁ r₁ → FreshAnswers sockets b b₂ r₂ → (r₁ ≡ r₂) × (b₁ ≡ b₂)
@@ -294,4 +230,4 @@ module _ (records b : List ℕ) where
       }
 
 pub laws : Laws
-laws = record { call = call_laws; card = card_laws; sharers = sharers_laws; way = way_laws_of; way_beside = way_beside; fresh = fresh_laws; boot = boot_laws }
+laws = record { call = call_laws; card = card_laws; sharers = sharers_laws; fresh = fresh_laws; boot = boot_laws }

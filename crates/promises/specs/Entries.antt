@@ -1,6 +1,5 @@
 -- What each public entry may answer and leave, for every table, number, handle and packet. Assumes nothing.
 use Rattle.std.specs.Prelude.{◌≡◌, ◌⊎◌, List, Bool, ℕ, ◌≤◌, length}
-use Rattle.std.proofs.Math.Option.{Option, none}
 use Rattle.facts.specs.declared.Code.{Code}
 use Rattle.facts.specs.declared.Code.TheVariants.{Success, GeneralFailure}
 use Rattle.facts.specs.Codes.{number_of}
@@ -8,7 +7,6 @@ use Rattle.facts.specs.Table
 use Rattle.facts.specs.Table.{Facts, fresh}
 use Rattle.facts.specs.Packets.{Bytes}
 use Rattle.facts.specs.Irq.{Sharers}
-use Rattle.facts.specs.Way.{WhoIsInTheWay, socket_number}
 use Rattle.facts.specs.Boot.{BootBytes, stopped}
 use Rattle.facts.specs.Services.{Call}
 use Rattle.facts.specs.Sockets.{CardTo}
@@ -54,18 +52,6 @@ pub record SharersAnswers (level : ℕ) (b : List ℕ) (r : ℕ) : Type 0 where
   pub count : ℕ
   pub packs : r ≡ packed code count
   pub permitted : SharersPermitted level b code count
-
--- cs_in_the_way: a code, and a socket or none; table and packet are only read
-abbrev pub WayPermitted : ℕ → List ℕ → List ℕ → Code → Option ℕ → Type 0
-WayPermitted handle b p code socket =
-    ((a : Accepted b) × WhoIsInTheWay a.facts handle p (record { code = code; socket = socket }))
-    ⊎ (TableRefused b b code × (socket ≡ none))
-
-pub record WayAnswers (handle : ℕ) (b p : List ℕ) (r : ℕ) : Type 0 where
-  pub code : Code
-  pub socket : Option ℕ
-  pub packs : r ≡ packed code (socket_number socket)
-  pub permitted : WayPermitted handle b p code socket
 
 -- "Fresh: a count of 1 to 8 and a buffer of 8,192 bytes, else GENERAL_FAILURE and no byte changed. .. The old bytes don't matter."
 pub record FreshAllowed (sockets : ℕ) (b : List ℕ) : Type 0 where

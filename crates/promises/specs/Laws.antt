@@ -1,20 +1,16 @@
 -- The laws of the public entries: a record for each. Assumes nothing.
-use Rattle.std.specs.Prelude.{◌≡◌, ◌≢◌, ◌↔◌, List, Bool, ℕ, ◌+◌, ◌*◌, ◌/◌, ◌%◌, ◌^◌, ◌≤◌, ◌<◌, length}
-use Rattle.std.proofs.Math.Option.{none, some}
+use Rattle.std.specs.Prelude.{◌≡◌, ◌≢◌, List, Bool, ℕ, ◌+◌, ◌*◌, ◌/◌, ◌%◌, ◌^◌, ◌≤◌, length}
 use Rattle.facts.specs.declared.Code.{Code}
-use Rattle.facts.specs.declared.Code.TheVariants.{Success, GeneralFailure, InUse}
+use Rattle.facts.specs.declared.Code.TheVariants.{Success, GeneralFailure}
 use Rattle.facts.specs.Codes.{number_of}
 use Rattle.facts.specs.Table
 use Rattle.facts.specs.Table.{fresh}
 use Rattle.layout.specs.Layout.{image}
 use Rattle.layout.specs.Sound.{Accepted}
 use Rattle.facts.specs.Boot.{record_size, records_in, records_added}
-use Rattle.facts.specs.Io.{base_asked_lem}
-use Rattle.facts.specs.Way.{SocketInTheWay, socket_number}
-use Rattle.facts.specs.Services.{requestIo, service_number}
-use Rattle.promises.specs.Entries.{CallAnswers, CardAnswers, SharersAnswers, WayAnswers, FreshAnswers, BootAnswers}
+use Rattle.promises.specs.Entries.{CallAnswers, CardAnswers, SharersAnswers, FreshAnswers, BootAnswers}
 
--- the number answered can be taken apart again: its low 16 bits are the code, the rest is the handle, the count or the socket + 1
+-- the number answered can be taken apart again: its low 16 bits are the code, the rest is the handle or the count
 abbrev pub TakenApart : ℕ → Code → ℕ → Type 0
 TakenApart r code number = (r % 65536 ≡ number_of code) × (r / 65536 ≡ number)
 
@@ -47,31 +43,6 @@ pub record SharersLaws (level : ℕ) (b : List ℕ) : Type 0 where
   pub most : (r : ℕ) (x : SharersAnswers level b r) → x.count ≤ Table.most_sockets
   pub taken_apart : (r : ℕ) (x : SharersAnswers level b r) → TakenApart r x.code x.count
 
--- cs_in_the_way
-pub record WayLaws (handle : ℕ) (b p : List ℕ) : Type 0 where
-  pub one : (r₁ r₂ : ℕ) → WayAnswers handle b p r₁ → WayAnswers handle b p r₂ → r₁ ≡ r₂
-  -- "For base 0, or refused, it answers none"
-  pub refusal : (r : ℕ) (x : WayAnswers handle b p r) → x.code ≢ Success → x.socket ≡ none
-  pub chosen : (r : ℕ) (x : WayAnswers handle b p r) → base_asked_lem p ≡ 0 → x.socket ≡ none
-  pub unformed : (r : ℕ) (x : WayAnswers handle b p r) → (Accepted b → ⊥) → x.code ≡ GeneralFailure
-  pub taken_apart : (r : ℕ) (x : WayAnswers handle b p r) → TakenApart r x.code (socket_number x.socket)
-  -- the socket answered is one of the table's and in the way, and no lower one is
-  pub below : (r s : ℕ) (x : WayAnswers handle b p r) (a : Accepted b) → x.socket ≡ some s → s < a.facts.sockets
-  pub stands : (r s : ℕ) (x : WayAnswers handle b p r) (a : Accepted b) → x.socket ≡ some s → SocketInTheWay a.facts p s
-  pub lowest : (r s t : ℕ) (x : WayAnswers handle b p r) (a : Accepted b) → x.socket ≡ some s → t < s → SocketInTheWay a.facts p t → ⊥
-
--- cs_in_the_way beside a cs_call of RequestIO with the same inputs
-pub record WayBesideLaws (handle : ℕ) (b p : List ℕ) : Type 0 where
-  -- "its refusals are RequestIO's but for IN_USE"
-  pub code : (b₁ p₁ : List ℕ) (r r' : ℕ) (x : WayAnswers handle b p r) (y : CallAnswers (service_number requestIo) handle b b₁ p p₁ r')
-      → y.code ≢ InUse → x.code ≡ y.code
-  -- where the question isn't refused and the base is named, RequestIO answers IN_USE exactly if the question answers a socket, and SUCCESS exactly if
-  -- it answers none
-  pub in_use : (b₁ p₁ : List ℕ) (r r' : ℕ) (x : WayAnswers handle b p r) (y : CallAnswers (service_number requestIo) handle b b₁ p p₁ r')
-      → x.code ≡ Success → base_asked_lem p ≢ 0 → (y.code ≡ InUse) ↔ (x.socket ≢ none)
-  pub success : (b₁ p₁ : List ℕ) (r r' : ℕ) (x : WayAnswers handle b p r) (y : CallAnswers (service_number requestIo) handle b b₁ p p₁ r')
-      → x.code ≡ Success → base_asked_lem p ≢ 0 → (y.code ≡ Success) ↔ (x.socket ≡ none)
-
 -- cs_fresh
 pub record FreshLaws (sockets : ℕ) (b : List ℕ) : Type 0 where
   pub one : (b₁ b₂ : List ℕ) (r₁ r₂ : ℕ) → FreshAnswers sockets b b₁ r₁ → FreshAnswers sockets b b₂ r₂ → (r₁ ≡ r₂) × (b₁ ≡ b₂)
@@ -100,7 +71,5 @@ pub record Laws : Type 0 where
   pub call : (service handle : ℕ) (b p : List ℕ) → CallLaws service handle b p
   pub card : (present : Bool) (socket : ℕ) (b : List ℕ) → CardLaws present socket b
   pub sharers : (level : ℕ) (b : List ℕ) → SharersLaws level b
-  pub way : (handle : ℕ) (b p : List ℕ) → WayLaws handle b p
-  pub way_beside : (handle : ℕ) (b p : List ℕ) → WayBesideLaws handle b p
   pub fresh : (sockets : ℕ) (b : List ℕ) → FreshLaws sockets b
   pub boot : (records b : List ℕ) → BootLaws records b

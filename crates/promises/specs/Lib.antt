@@ -2,5 +2,5 @@
 pub mod Entries
 pub mod Laws
 pub use Entries.{CallPermitted, CallAnswers, CardPermitted, CardAnswers, SharersPermitted, SharersAnswers, FreshAllowed, FreshAnswers, BootPermitted}
-pub use Entries.{BootAnswers, WayPermitted, WayAnswers}
-pub use Laws.{TakenApart, CallLaws, CardLaws, SharersLaws, WayLaws, WayBesideLaws, FreshLaws, BootLaws}
+pub use Entries.{BootAnswers}
+pub use Laws.{TakenApart, CallLaws, CardLaws, SharersLaws, FreshLaws, BootLaws}

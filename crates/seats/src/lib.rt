@@ -1,4 +1,6 @@
 // Seats: where the record of each grant stands, and what is held there. Whatever the bytes say, a seat is read once, into a value.
+#![tactic(auto)]
+
 ghost use Rattle.std.specs.Prelude.{◌≡◌, ◌+◌, ◌<◌, ◌≤◌, length};
 ghost use Rattle.facts.specs.Table;
 ghost use Rattle.facts.specs.Says.{Says};
@@ -33,7 +35,7 @@ pub fn irq_place(s: Seat) -> usize
 pub const NOBODY: u16 = 0;
 
 // A range of ports that is held: by this client, at these lines, shared or not.
-#[derive(Drop)]
+#[derive(Clone, Copy)]
 pub struct HeldPorts {
     pub client: Handle,
     pub base: usize,
@@ -43,7 +45,7 @@ pub struct HeldPorts {
 }
 
 // What a seat's I/O grant holds, or there is none.
-#[derive(Drop)]
+#[derive(Clone, Copy)]
 pub enum IoSeat {
     Held(HeldPorts),
     Free,
@@ -84,7 +86,7 @@ pub fn io_held_by(t: &[u8], s: Seat, client: Handle) -> bool
 }
 
 // A level that is held: by this client, in this manner.
-#[derive(Drop)]
+#[derive(Clone, Copy)]
 pub struct HeldLevel {
     pub client: Handle,
     pub level: usize,
@@ -92,7 +94,7 @@ pub struct HeldLevel {
 }
 
 // What a seat's IRQ grant holds, or there is none.
-#[derive(Drop)]
+#[derive(Clone, Copy)]
 pub enum IrqSeat {
     Held(HeldLevel),
     Free,

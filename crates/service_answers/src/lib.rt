@@ -1,4 +1,6 @@
 // What a service answers, and the number that C gets for it.
+#![tactic(auto)]
+
 ghost use Rattle.std.specs.Prelude.{◌≡◌};
 ghost use Rattle.facts.specs.Codes.{packed};
 ghost use Rattle.service_answers.specs.Answers.{code_of, handle_of};
@@ -6,7 +8,7 @@ ghost use Rattle.service_answers.specs.Answers.{code_of, handle_of};
 use facts::{Code, Handle};
 
 // What a service answers: a handle, or the code of a refusal.
-#[derive(Drop)]
+#[derive(Clone, Copy)]
 pub enum Answer {
     Done(Handle),
     Refused(Code),

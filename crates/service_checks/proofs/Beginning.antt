@@ -4,12 +4,25 @@ use Rattle.facts.proofs.Words.{eq-eqb, ne_eqb}
 use Rattle.layout.proofs.Of
 use Rattle.facts.specs.{Code, Success, BadArgLength, BadHandle, BadSocket, NoCard, Facts, Live, byte, Check, ◌gives◌, FirstGiven, Passed, Outcome, Ruled, Rule}
 use Rattle.facts.specs.{socket_of, BadSocketIn, release_checks, most_clients, most_seats, seat_of}
-use Rattle.facts.proofs.{first_ahead, first_past, passed_both}
 use Rattle.layout.specs.{image, sockets_in, marked, Accepted, LiveIn, ServedBy, cards_at, table_size}
 use Rattle.layout.proofs.{live_positive, refused_by, done_by}
 use Rattle.service_checks.specs.{NamesSocket, CardEnough, checks_ahead, BegunAt}
 use Rattle.service_checks.specs.declared.CardNeed.{CardNeed}
 use Rattle.service_checks.specs.declared.CardNeed.TheVariants.{Needed, Ignored}
+
+-- checks with others after them: the first that applies is one of them, or none of them applies
+first_of : (cs own : List Check) (k : Code) → FirstGiven cs k → FirstGiven (cs ++ own) k
+first_of [] own k f = absurd f
+first_of (c ∷ cs) own k (inl x) = inl x
+first_of (c ∷ cs) own k (inr x) = inr (x.0, first_of cs own k x.1)
+
+first_past : (cs own : List Check) (k : Code) → Passed cs → FirstGiven own k → FirstGiven (cs ++ own) k
+first_past [] own k x f = f
+first_past (c ∷ cs) own k x f = inr (x.0, first_past cs own k x.1 f)
+
+passed_both : (cs own : List Check) → Passed cs → Passed own → Passed (cs ++ own)
+passed_both [] own x y = y
+passed_both (c ∷ cs) own x y = (x.0, passed_both cs own x.1 y)
 
 -- what is known where a service goes on to its own checks
 module _ {b p : List ℕ} {n h i s : ℕ} {need : CardNeed} (a : Accepted b) (begun : BegunAt b p n h need i s) where
@@ -45,7 +58,7 @@ module _ {b : List ℕ} (a : Accepted b) (p : List ℕ) (n h : ℕ) where
   no_card_in = ((a.facts.card (socket_of p) ≡ false) gives NoCard) ∷ []
 
   of_three : (need : CardNeed) (k : Code) → FirstGiven three k → FirstGiven (checks_ahead need n a.facts h p) k
-  of_three Needed k f = first_ahead three no_card_in k f
+  of_three Needed k f = first_of three no_card_in k f
   of_three Ignored k f = f
 
   pub by_length : (need : CardNeed) → length p ≢ n → FirstGiven (checks_ahead need n a.facts h p) BadArgLength
@@ -86,10 +99,6 @@ module _ {b : List ℕ} (a : Accepted b) (p : List ℕ) (n h : ℕ) where
             passed_both three no_card_in three_passed ((λ f. true≢false (sym (eq-eqb _ 1 e) ∙ sym card_byte ∙ f)), tt)
         none_ahead Ignored e = three_passed
 
--- where a service goes on to its own checks, the first ones have passed
-pub ahead_passed : {b p : List ℕ} {n h i s : ℕ} {need : CardNeed} (a : Accepted b) → BegunAt b p n h need i s → Passed (checks_ahead need n a.facts h p)
-ahead_passed {b} {p} {n} {h} {i} {s} {need} a begun = none_ahead a p n h begun.size (live a begun) begun.socket need begun.card
-
 -- a service on a socket: whether it needs the card, the length of its packet, its own checks, and what is done where none applies
 pub record Service : Type 1 where
   pub need : CardNeed
@@ -119,11 +128,14 @@ module _ (S : Service) {b : List ℕ} (a : Accepted b) (h : ℕ) (p : List ℕ) 
   refused = refused_by (λ (F : Facts). checks_of S F h p) (λ (F : Facts). S.done F h p) b p a
 
   pub refused_ahead : (k : Code) → FirstGiven ahead k → Serves S h p b b p k 0
-  refused_ahead k f = refused k (first_ahead ahead own k f)
+  refused_ahead k f = refused k (first_of ahead own k f)
 
 module _ (S : Service) {b p : List ℕ} {h i s : ℕ} (a : Accepted b) (begun : BegunAt b p S.bytes h S.need i s) where
+  passed : Passed (ahead S a h p)
+  passed = none_ahead a p S.bytes h begun.size (live a begun) begun.socket S.need begun.card
+
   pub refused_own : (k : Code) → FirstGiven (own S a h p) k → Serves S h p b b p k 0
-  refused_own k f = refused S a h p k (first_past (ahead S a h p) (own S a h p) k (ahead_passed a begun) f)
+  refused_own k f = refused S a h p k (first_past (ahead S a h p) (own S a h p) k passed f)
 
   pub done_own : (b' p' : List ℕ) (G : Facts) → Passed (own S a h p)
       → S.done a.facts h p (record { code = Success; handle = h; packet = p'; facts = G })
@@ -131,4 +143,4 @@ module _ (S : Service) {b p : List ℕ} {h i s : ℕ} (a : Accepted b) (begun : 
       → Serves S h p b b' p' Success h
   done_own b' p' G x d e =
       done_by (λ (F : Facts). checks_of S F h p) (λ (F : Facts). S.done F h p) b p a b' p' h G
-      (passed_both (ahead S a h p) (own S a h p) (ahead_passed a begun) x) d e
+      (passed_both (ahead S a h p) (own S a h p) passed x) d e

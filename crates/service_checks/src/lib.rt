@@ -1,4 +1,6 @@
 // The checks that more than one service makes: the length of a packet, the client, the socket that is named and its card.
+#![tactic(auto)]
+
 ghost use Rattle.std.specs.Prelude.{◌≡◌, ◌<◌, length};
 ghost use Rattle.facts.specs.Table;
 ghost use Rattle.layout.specs.Layout.{table_size};
@@ -11,7 +13,7 @@ use facts::{Code, Handle, Seat, Socket};
 use layout::{CARDS_AT, MARKED, SOCKETS_IN};
 
 // Whether lent bytes are as many as are asked for.
-#[derive(Drop)]
+#[derive(Clone, Copy)]
 pub enum Size {
     Right,
     Wrong,
@@ -28,7 +30,7 @@ pub fn sized(p: &[u8], n: usize) -> Size
 }
 
 // Whether a socket is below the socket count.
-#[derive(Drop)]
+#[derive(Clone, Copy)]
 pub enum Counted {
     Below(Socket),
     Past,
@@ -51,7 +53,7 @@ const SOCKET_AT: usize = 0;
 
 const FUNCTION_AT: usize = 1;
 
-#[derive(Drop)]
+#[derive(Clone, Copy)]
 pub enum SocketNamed {
     At(Socket),
     Bad,
@@ -72,14 +74,14 @@ pub fn socket_named(t: &[u8], p: &[u8]) -> SocketNamed
 }
 
 // What a service asks of the card: a request needs one in the socket, a release does not.
-#[derive(Drop)]
+#[derive(Clone, Copy)]
 pub enum CardNeed {
     Needed,
     Ignored,
 }
 
 // Whether the card that a service needs is in the socket.
-#[derive(Drop)]
+#[derive(Clone, Copy)]
 pub enum Card {
     Enough,
     Missing,
@@ -102,7 +104,7 @@ fn card_asked(t: &[u8], socket: Socket, need: CardNeed) -> Card
 
 // How a service on a socket begins: the client's place in the list and the seat of the socket that the packet names, or
 // the code of the first check that refuses.
-#[derive(Drop)]
+#[derive(Clone, Copy)]
 pub enum Begun {
     At(usize, Seat),
     Refused(Code),

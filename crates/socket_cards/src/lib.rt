@@ -1,4 +1,6 @@
 // How many sockets a table may have; card in and card out, on a table that is the image of a well-formed set.
+#![tactic(auto)]
+
 ghost use Rattle.facts.specs.Table.{Facts};
 ghost use Rattle.facts.specs.Sockets.{CardTo};
 ghost use Rattle.layout.specs.Sound.{Accepted};
@@ -10,7 +12,7 @@ use layout::{CARDS_AT, MOST_SOCKETS};
 use service_checks::Counted;
 
 // Whether a table may have so many sockets.
-#[derive(Drop)]
+#[derive(Clone, Copy)]
 pub enum SocketCount {
     Allowed(u8),
     Outside,

@@ -1,4 +1,6 @@
 // RequestSocketMask and ReleaseSocketMask, on a table that is the image of a well-formed set.
+#![tactic(auto)]
+
 ghost use Rattle.std.specs.Prelude.{◌≡◌, ◌<◌, length};
 ghost use Rattle.facts.specs.Table;
 ghost use Rattle.facts.specs.Packets.{with_word};
@@ -21,7 +23,7 @@ const RELEASE_LENGTH: usize = 2;
 const EVENTS_AT: usize = 2;
 
 // The event mask that a request asks for: "bits 12 to 15 BAD_ATTRIBUTE".
-#[derive(Drop)]
+#[derive(Clone, Copy)]
 pub enum Events {
     Allowed(usize),
     Bad,
@@ -40,7 +42,7 @@ fn events_asked(p: &[u8]) -> Events
 }
 
 // Whether the client listed in the place `i` has a mask at the seat.
-#[derive(Drop)]
+#[derive(Clone, Copy)]
 pub enum SocketMask {
     Held,
     Free,

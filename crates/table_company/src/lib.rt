@@ -1,4 +1,6 @@
 // The I/O grants in rows, and the company that the grant at a seat keeps with those at the seats below it.
+#![tactic(auto)]
+
 ghost use Rattle.std.specs.Prelude.{◌≡◌, ◌+◌, ◌-◌, ◌^◌, ◌<◌, ◌≤◌, length, if◌then◌else◌};
 ghost use Rattle.std.specs.Int.Bits.{bit_and};
 ghost use Rattle.facts.specs.Table;
@@ -36,7 +38,7 @@ const ALL_BLOCKS: u64 = 18446744073709551615;
 const BLOCK_LINES: usize = 9;
 
 // The numbers of one seat.
-#[derive(Drop)]
+#[derive(Clone, Copy)]
 pub struct Numbers {
     pub base: u16,
     pub ones: u16,

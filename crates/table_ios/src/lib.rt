@@ -1,4 +1,6 @@
 // The I/O grants: a seat's record, and all of them together.
+#![tactic(auto)]
+
 mod ranges;
 
 ghost use Rattle.std.specs.Prelude.{◌≡◌, ◌<◌, ◌≤◌, length};

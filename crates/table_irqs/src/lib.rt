@@ -1,4 +1,6 @@
 // The IRQ grants: a seat's record, and the company that its grant keeps with those of the seats below it.
+#![tactic(auto)]
+
 ghost use Rattle.std.specs.Prelude.{◌≡◌, ◌+◌, ◌<◌, ◌≤◌, length};
 ghost use Rattle.facts.specs.Table;
 ghost use Rattle.facts.specs.Table.{socket_at};
@@ -60,7 +62,7 @@ fn irq_place_sound(t: &[u8], s: Seat) -> bool
 
 // The level that a grant holds: in its own manner, and in each manner that doesn't go with it. For level 5 held as dynamic level, whose number is 2, these
 // are the number 5 * 4 + 2, and 20, 21 and 23.
-#[derive(Drop)]
+#[derive(Clone, Copy)]
 pub struct Holding {
     pub own: u64,
     pub against: u64,

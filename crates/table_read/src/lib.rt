@@ -1,4 +1,6 @@
 // Reads lent bytes where they lie: numbers, bits, zeros, and the manner that a byte says. What every other crate reads by.
+#![tactic(auto)]
+
 ghost use Rattle.std.specs.Prelude.{◌≡◌, ◌+◌, ◌-◌, ◌*◌, ◌<◌, ◌≤◌, length};
 ghost use Rattle.facts.specs.Says.{Says};
 ghost use Rattle.facts.specs.Packets;

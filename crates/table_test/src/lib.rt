@@ -1,4 +1,6 @@
 // The test of the whole table: whether its bytes are the image of a well-formed set.
+#![tactic(auto)]
+
 mod sockets;
 
 ghost use Rattle.std.specs.Prelude.{◌≡◌, length};
@@ -67,7 +69,7 @@ fn sound(t: &[u8]) -> bool
 }
 
 // What looking at a table says of it.
-#[derive(Drop)]
+#[derive(Clone, Copy)]
 pub enum Loaded {
     Formed,
     Unformed,

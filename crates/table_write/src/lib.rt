@@ -1,4 +1,6 @@
 // Writes a table's bytes: numbers, a run of zeros, a record taken out, room for another, a fresh table.
+#![tactic(auto)]
+
 ghost use Rattle.std.specs.Prelude.{◌≡◌, ◌+◌, ◌<◌, ◌≤◌, length};
 ghost use Rattle.facts.specs.Table;
 ghost use Rattle.facts.specs.Packets.{byte, with_word, with_long};

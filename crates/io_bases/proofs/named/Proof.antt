@@ -2,8 +2,7 @@
 -- Assumes nothing.
 use Rattle.facts.proofs.Words.{refl, subst, now, rules}
 use Rattle.io_bases.specs.declared.PortsAsked.TheVariants as ports
-use Rattle.io_way.specs.{WayIs}
-use Rattle.io_bases.specs.{PortsAre}
+use Rattle.io_bases.specs.{PortsAre, WayIs}
 use Rattle.io_bases.proofs.{unmanaged, held, free}
 use Rattle.io_bases.proofs.named.Tie as tie
 
@@ -29,8 +28,8 @@ returns-2 : tie.Need-returns-2
 returns-2 c =
     let way = c.before.before in
     let s = start (ports_of_way way) in
-    λ a. held a.facts s.args.asked s.pre.2 (managed way a) _
-    (subst (WayIs (now s.args.t) s.args.asked) c.enum-told4.given.1 way.in-the-way.ensures a).fits
+    λ a. held a.facts s.args.asked s.pre.2 (managed way a)
+    (subst (WayIs (now s.args.t) s.args.asked) c.enum-told4.given.1 way.in-the-way.ensures a)
 
 returns-3 : tie.Need-returns-3
 returns-3 c =

@@ -1,4 +1,4 @@
--- `io_way::stands` meets its contract: nothing is held there, it isn't met, or the two don't both share.
+-- `io_bases::stands` meets its contract: nothing is held there, it isn't met, or the two don't both share.
 -- Assumes nothing.
 use Rattle.facts.proofs.Words.{◌≡◌, refl, ap, ◌∙◌, subst, inl, inr, some, true≢false, sym, ℕ, ◌<◌, arith, now, rules, not-true, not-false}
 use Rattle.facts.specs.{Facts, HeldPorts, all_ports, Meet, ports_at}
@@ -10,8 +10,8 @@ use Rattle.seats.proofs.{io_read}
 use Rattle.seats.specs.declared.IoSeat.{IoSeat}
 use Rattle.io_bars.specs.{PortsFit, SeatFits, seat_ports}
 use Rattle.io_bars.proofs.{seat_below, seat_fits}
-use Rattle.io_way.proofs.{none_stands, meets_stands, unshared_stands, shared_says}
-use Rattle.io_way.proofs.stands.Tie as tie
+use Rattle.io_bases.proofs.{none_stands, meets_stands, unshared_stands, shared_says}
+use Rattle.io_bases.proofs.stands.Tie as tie
 
 -- where the call began, what its table says, and the seat
 abbrev start : tie.After-held → tie.Start
@@ -85,7 +85,7 @@ returns-5 c =
     let r = range_of_meeting k in
     shared_says _ _ _ (held r) (found r) (met k) first.if2.false (not-false _ c.before.if3.false) _ refl
 
-pub stands-spec : {M : Type 1} → Rattle.io_way.proofs.stands.Statement.statement M
+pub stands-spec : {M : Type 1} → Rattle.io_bases.proofs.stands.Statement.statement M
 stands-spec =
     tie.close
     (tie.spec (λ c κs. let s = c.before in (size_in (now s.args.t) s.requires.0, s.requires.1)) (λ c. search rules) (λ c. search rules) returns
