@@ -1,0 +1,16 @@
+-- `table_read::four_zero` meets its contract. The loop's invariant: of each stretch, what is or-ed together is zero exactly if the bytes passed are.
+-- The measure is what is left of one. Assumes nothing.
+use Rattle.facts.proofs.Words.{◌-◌, arith}
+use Rattle.table_read.proofs.{quarters_more, quarters_says}
+use Rattle.table_read.proofs.four_zero.Goals as goal
+
+-- where two of the four bytes of a turn were read, and where the turn began
+-- NAV halfway : After-shared_slice_known-in-loop-i-3-1 → After-shared_slice_known-in-loop-i-1: halfway c = c.before.before
+
+-- NAV turn : After-shared_slice_known-in-loop-i-1 → At-loop-i: turn c = c.before.before.before
+
+pub loop-i-preserved : goal.loop-i-preserved
+loop-i-preserved c = (omega arith, quarters_more _ _ _ _ _ _ _ _ _ _ c.loop-i.invariant.1)
+
+pub returns : goal.returns
+returns c = quarters_says _ _ _ _ _ _ _ _ _ _ c.loop-i.invariant.1 _ (omega arith)
