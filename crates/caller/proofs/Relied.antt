@@ -55,7 +55,7 @@ relied =
         in_use = entry_laws.refused_exactly.io_chosen_code h p k a q b b' t passed x zero;
         fits = entry_laws.refused_exactly.io_fits h p k a q b b' t passed x zero;
       };
-      of_card_out = demand_3.card_out;
+      of_card_out = demand_3.card_out_case;
       codes = entry_laws.exact_codes;
       after_run = after_run;
       since = demand_3.exact_since;

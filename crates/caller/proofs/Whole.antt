@@ -17,7 +17,7 @@ module _ (r : Relied) where
         exact = λ n es b from. (r.after_run n es b from).exact;
         exact_since = r.since;
         frame = λ e b b' a x. (r.of_call e b b' x).frame a;
-        card_out = r.of_card_out;
+        card_out_case = r.of_card_out;
         never_again = λ n earlier later e h b from. (r.after_run n (earlier ++ (e ∷ later)) b from).handles earlier later e h refl;
         sharers_counted = λ n es b b' l c from. (r.after_run n es b from).counted l c b';
         one_grant = record {

@@ -12,10 +12,10 @@ use Rattle.facts.specs.Checks.{Passed}
 use Rattle.facts.specs.Irq.{irq_asked, Fits, NoLevelFits, assigned_irq, irq_ahead_checks}
 use Rattle.facts.specs.Io.{io_asked, NotAllManaged, InTheWay, Candidate, NoCandidate, base_asked_lem, io_ahead_checks}
 use Rattle.facts.specs.Boot.{record_size, records_in, records_added}
-use Rattle.facts.specs.Services.{requestIrq, requestIo, service_number}
+use Rattle.facts.specs.Services.{request_irq, request_io, service_number}
 use Rattle.layout.specs.Layout.{image}
 use Rattle.layout.specs.Sound.{Accepted}
-use Rattle.history.specs.Events.{Event, given, code_in, call, cardOut, boot, sharers, Ours, Runs, FromFresh}
+use Rattle.history.specs.Events.{Event, given, code_in, call, card_out, boot, sharers, Ours, Runs, FromFresh}
 use Rattle.history.specs.Stands.{Fact, card, io, irq, Stands, StandsSince, Registers, registrations}
 use Rattle.history.specs.Tables.{Tells, TellsExactly, Between}
 use Rattle.history.specs.Names.{Framed}
@@ -84,13 +84,13 @@ pub record Relied : Type 0 where
   pub of_call : (e : Event) (b b' : List ℕ) → Ours e b b' → OfCall e b b'
   pub of_boot : (r : List ℕ) (k : Code) (i : ℕ) (b b' : List ℕ) → Ours (boot r k i) b b' → OfBoot r k i b b'
   pub of_irq : (h : ℕ) (p : List ℕ) (k : Code) (a : ℕ) (q b b' : List ℕ) (t : Accepted b) → Passed (irq_ahead_checks t.facts h p [])
-      → Ours (call (service_number requestIrq) h p k a q) b b' → OfIrq t.facts p k q
+      → Ours (call (service_number request_irq) h p k a q) b b' → OfIrq t.facts p k q
   pub of_io_named : (h : ℕ) (p : List ℕ) (k : Code) (a : ℕ) (q b b' : List ℕ) (t : Accepted b) → Passed (io_ahead_checks t.facts h p [])
-      → Ours (call (service_number requestIo) h p k a q) b b' → base_asked_lem p ≢ 0 → OfIoNamed t.facts p k q
+      → Ours (call (service_number request_io) h p k a q) b b' → base_asked_lem p ≢ 0 → OfIoNamed t.facts p k q
   pub of_io_chosen : (h : ℕ) (p : List ℕ) (k : Code) (a : ℕ) (q b b' : List ℕ) (t : Accepted b) → Passed (io_ahead_checks t.facts h p [])
-      → Ours (call (service_number requestIo) h p k a q) b b' → base_asked_lem p ≡ 0 → OfIoChosen t.facts p k q
+      → Ours (call (service_number request_io) h p k a q) b b' → base_asked_lem p ≡ 0 → OfIoChosen t.facts p k q
   -- card out takes no grant or mask away
-  pub of_card_out : (s : ℕ) (k : Code) (b b' : List ℕ) → Accepted b → Ours (cardOut s k) b b'
+  pub of_card_out : (s : ℕ) (k : Code) (b b' : List ℕ) → Accepted b → Ours (card_out s k) b b'
       → Between b b' (λ (F G : Facts). (f : Fact) → f ≢ card s → Tells F f ↔ Tells G f)
   -- for each service and host call, exactly the codes that it can give
   pub codes : (x : Asked) (k : Code) → (k ∈ codes_of x) ↔ CanGive Ours x k

@@ -2,7 +2,7 @@
 use Rattle.std.specs.Prelude.{◌≡◌, ◌≢◌, List, [], ◌∷◌, map, ℕ}
 use Rattle.facts.specs.declared.Code.{Code}
 use Rattle.facts.specs.declared.Code.TheVariants.{Success}
-use Rattle.history.specs.Events.{Event, number_in, make_fresh, call, card_in, cardOut, boot, sharers, Ours, FromFresh}
+use Rattle.history.specs.Events.{Event, number_in, make_fresh, call, card_in, card_out, boot, sharers, Ours, FromFresh}
 use Rattle.caller.specs.Relied.{AfterRun}
 use Rattle.caller.specs.declared.VisitAnswers.{VisitAnswers}
 use Rattle.caller.specs.declared.Ending.{Ending}
@@ -40,7 +40,7 @@ log g q t =
     ∷ card_in g.socket t.inserted
     ∷ call g.service g.handle g.packet t.called t.answered q
     ∷ sharers g.level t.shared t.count
-    ∷ cardOut g.socket t.removed
+    ∷ card_out g.socket t.removed
     ∷ []
 
 -- what came about is a run from a fresh table to the bytes b, the numbers that C was answered are those of its events, and all that a caller may rely

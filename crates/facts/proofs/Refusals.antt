@@ -8,8 +8,8 @@ use Rattle.facts.specs.{AdjustIo, AddLevel, RemoveLevel, ShowLevel, AddRange, Re
 use Rattle.facts.specs.{base_given, count_given, attributes_given, lines_given, adjust_checks, add_level_checks, remove_level_checks, show_level_checks}
 use Rattle.facts.specs.{add_range_checks, remove_range_checks, show_range_checks, Sharers, Count, irq_request_checks, irq_release_checks, io_request_checks}
 use Rattle.facts.specs.{io_release_checks, Booted, ended, refused, added, record_checks, records_added, record_added, Service, register_client}
-use Rattle.facts.specs.{deregisterClient, adjustResourceInfo, requestIrq, releaseIrq, requestIo, releaseIo, requestSocketMask}
-use Rattle.facts.specs.{releaseSocketMask, rule_of, Call}
+use Rattle.facts.specs.{deregister_client, adjust_resource_info, request_irq, release_irq, request_io, release_io, request_socket_mask}
+use Rattle.facts.specs.{release_socket_mask, rule_of, Call}
 use Rattle.facts.specs.Boot.{Boot}
 use Rattle.facts.proofs.Boot.{by_resource}
 use Rattle.facts.proofs.Sets.{cond_cases}
@@ -48,15 +48,15 @@ module _ (F : Facts) (h : ℕ) (p : List ℕ) where
 
   pub refusal_keeps : (s : Service) → RefusalKeeps F p (rule_of s F h p)
   refusal_keeps register_client = ruled_keeps (register_checks F p) _
-  refusal_keeps deregisterClient = ruled_keeps (deregister_checks F h p) _
-  refusal_keeps adjustResourceInfo =
+  refusal_keeps deregister_client = ruled_keeps (deregister_checks F h p) _
+  refusal_keeps adjust_resource_info =
       ruled_then_keeps (adjust_checks p) (either_keeps (under_keeps adjust_irq_keeps) (λ o r. adjust_io_keeps r.1 o r.3))
-  refusal_keeps requestIrq = ruled_keeps (irq_request_checks F h p) _
-  refusal_keeps releaseIrq = ruled_keeps (irq_release_checks F h p) _
-  refusal_keeps requestIo = ruled_keeps (io_request_checks F h p) _
-  refusal_keeps releaseIo = ruled_keeps (io_release_checks F h p) _
-  refusal_keeps requestSocketMask = ruled_keeps (request_mask_checks F h p) _
-  refusal_keeps releaseSocketMask = ruled_keeps (release_mask_checks F h p) _
+  refusal_keeps request_irq = ruled_keeps (irq_request_checks F h p) _
+  refusal_keeps release_irq = ruled_keeps (irq_release_checks F h p) _
+  refusal_keeps request_io = ruled_keeps (io_request_checks F h p) _
+  refusal_keeps release_io = ruled_keeps (io_release_checks F h p) _
+  refusal_keeps request_socket_mask = ruled_keeps (request_mask_checks F h p) _
+  refusal_keeps release_socket_mask = ruled_keeps (release_mask_checks F h p) _
 
   pub call_refusal_keeps : (number : ℕ) → RefusalKeeps F p (Call number F h p)
   call_refusal_keeps number = either_keeps (λ o r. refusal_keeps r.0.service o r.1) (λ o r ne. r.2)

@@ -1,7 +1,7 @@
 -- Every call leaves a well-formed set well formed. Assumes nothing.
 use Rattle.facts.proofs.Words.{sym, subst, inl, inr, List, ℕ, WellFormed}
-use Rattle.facts.specs.{Facts, Outcome, Service, register_client, deregisterClient, adjustResourceInfo, requestIrq, releaseIrq, requestIo}
-use Rattle.facts.specs.{releaseIo, requestSocketMask, releaseSocketMask, rule_of, Call, Bytes}
+use Rattle.facts.specs.{Facts, Outcome, Service, register_client, deregister_client, adjust_resource_info, request_irq, release_irq, request_io}
+use Rattle.facts.specs.{release_io, request_socket_mask, release_socket_mask, rule_of, Call, Bytes}
 use Rattle.facts.proofs.ClientsStay.{register_stays, deregister_stays, request_mask_stays, release_mask_stays}
 use Rattle.facts.proofs.ResourcesStay.{adjust_stays}
 use Rattle.facts.proofs.GrantsStay.{request_irq_stays, release_irq_stays, request_io_stays, release_io_stays}
@@ -9,14 +9,14 @@ use Rattle.facts.proofs.GrantsStay.{request_irq_stays, release_irq_stays, reques
 service_stays : (v : Service) (F : Facts) (h : ℕ) (p : List ℕ) (o : Outcome) → WellFormed F → Bytes p → rule_of v F h p o
     → WellFormed o.facts
 service_stays register_client F h p o w b = register_stays F h p o w
-service_stays deregisterClient F h p o w b = deregister_stays F h p o w
-service_stays adjustResourceInfo F h p o w b = adjust_stays F h p o w
-service_stays requestIrq F h p o w b = request_irq_stays F h p o w
-service_stays releaseIrq F h p o w b = release_irq_stays F h p o w
-service_stays requestIo F h p o w b = request_io_stays F h p o w b
-service_stays releaseIo F h p o w b = release_io_stays F h p o w
-service_stays requestSocketMask F h p o w b = request_mask_stays F h p o w
-service_stays releaseSocketMask F h p o w b = release_mask_stays F h p o w
+service_stays deregister_client F h p o w b = deregister_stays F h p o w
+service_stays adjust_resource_info F h p o w b = adjust_stays F h p o w
+service_stays request_irq F h p o w b = request_irq_stays F h p o w
+service_stays release_irq F h p o w b = release_irq_stays F h p o w
+service_stays request_io F h p o w b = request_io_stays F h p o w b
+service_stays release_io F h p o w b = release_io_stays F h p o w
+service_stays request_socket_mask F h p o w b = request_mask_stays F h p o w
+service_stays release_socket_mask F h p o w b = release_mask_stays F h p o w
 
 -- a number that is no service's leaves everything
 pub call_stays : (n : ℕ) (F : Facts) (h : ℕ) (p : List ℕ) (o : Outcome) → WellFormed F → Bytes p → Call n F h p o → WellFormed o.facts

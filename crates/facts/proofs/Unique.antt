@@ -10,8 +10,8 @@ use Rattle.facts.specs.{next, level_given, level_attributes, base_given, count_g
 use Rattle.facts.specs.{remove_level_checks, show_level_checks, add_range_checks, remove_range_checks, show_range_checks, showing_level, showing_range}
 use Rattle.facts.specs.{type_of, with_word, RequestIrq, Sharers, Count, irq_request_checks, irq_release_checks, sharers_checks, irq_grant, assigning}
 use Rattle.facts.specs.{LevelTaken, with_irq, RequestIo, BaseTaken, io_request_checks, io_release_checks, io_grant, with_io, ended, refused, added}
-use Rattle.facts.specs.{stopped, record_checks, Service, register_client, deregisterClient, adjustResourceInfo, requestIrq, releaseIrq, requestIo}
-use Rattle.facts.specs.{releaseIo, requestSocketMask, releaseSocketMask, service_number, rule_of, Call, IoAsked, IrqAsked, io_asked, irq_asked}
+use Rattle.facts.specs.{stopped, record_checks, Service, register_client, deregister_client, adjust_resource_info, request_irq, release_irq, request_io}
+use Rattle.facts.specs.{release_io, request_socket_mask, release_socket_mask, service_number, rule_of, Call, IoAsked, IrqAsked, io_asked, irq_asked}
 use Rattle.facts.specs.Boot.{Boot}
 use Rattle.facts.proofs.Sets.{apart_over, found}
 use Rattle.facts.proofs.Resources.{width_one}
@@ -149,20 +149,20 @@ by_action A R S F h p u v w =
 -- a service is found again by its number among the nine: so a number is one service's
 abbrev services : List Service
 services =
-    register_client ∷ deregisterClient ∷ adjustResourceInfo ∷ requestIrq ∷ releaseIrq ∷ requestIo ∷ releaseIo ∷ requestSocketMask
-    ∷ releaseSocketMask
+    register_client ∷ deregister_client ∷ adjust_resource_info ∷ request_irq ∷ release_irq ∷ request_io ∷ release_io ∷ request_socket_mask
+    ∷ release_socket_mask
     ∷ []
 
 found_again : (s : Service) → found service_number register_client (service_number s) services ≡ s
 found_again register_client = refl
-found_again deregisterClient = refl
-found_again adjustResourceInfo = refl
-found_again requestIrq = refl
-found_again releaseIrq = refl
-found_again requestIo = refl
-found_again releaseIo = refl
-found_again requestSocketMask = refl
-found_again releaseSocketMask = refl
+found_again deregister_client = refl
+found_again adjust_resource_info = refl
+found_again request_irq = refl
+found_again release_irq = refl
+found_again request_io = refl
+found_again release_io = refl
+found_again request_socket_mask = refl
+found_again release_socket_mask = refl
 
 pub number_injective : (s t : Service) → service_number s ≡ service_number t → s ≡ t
 number_injective s t e = sym (found_again s) ∙ ap (λ (n : ℕ). found service_number register_client n services) e ∙ found_again t
@@ -228,14 +228,14 @@ module _ (F : Facts) (h : ℕ) (p : List ℕ) where
 
   pub service_unique : Apart 0 F.ranges → (s : Service) → Coincide (rule_of s F h p)
   service_unique apart register_client = register_unique
-  service_unique apart deregisterClient = deregister_unique
-  service_unique apart adjustResourceInfo = adjust_unique apart
-  service_unique apart requestIrq = request_irq_unique
-  service_unique apart releaseIrq = leaves_coincide (irq_release_checks F h p)
-  service_unique apart requestIo = request_io_unique
-  service_unique apart releaseIo = leaves_coincide (io_release_checks F h p)
-  service_unique apart requestSocketMask = leaves_coincide (request_mask_checks F h p)
-  service_unique apart releaseSocketMask = leaves_coincide (release_mask_checks F h p)
+  service_unique apart deregister_client = deregister_unique
+  service_unique apart adjust_resource_info = adjust_unique apart
+  service_unique apart request_irq = request_irq_unique
+  service_unique apart release_irq = leaves_coincide (irq_release_checks F h p)
+  service_unique apart request_io = request_io_unique
+  service_unique apart release_io = leaves_coincide (io_release_checks F h p)
+  service_unique apart request_socket_mask = leaves_coincide (request_mask_checks F h p)
+  service_unique apart release_socket_mask = leaves_coincide (release_mask_checks F h p)
 
   -- a call: its number is one service's, or none's
   pub call_unique : Apart 0 F.ranges → (number : ℕ) → Coincide (Call number F h p)

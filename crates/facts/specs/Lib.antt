@@ -61,6 +61,6 @@ pub use Io.{own_io_checks, io_ahead_checks, base_checks, io_request_checks, io_g
 pub use Io.{ReleaseIo}
 pub use Boot.{record_size, record_of, records_in, record_checks, record_added, records_added, Booted, stopped, ended, refused, added, records_of, end_of}
 pub use Boot.{BootBytes}
-pub use Services.{Service, register_client, deregisterClient, adjustResourceInfo, requestIrq, releaseIrq, requestIo, releaseIo, requestSocketMask}
-pub use Services.{releaseSocketMask, service_number, rule_of, Serves, Call}
+pub use Services.{Service, register_client, deregister_client, adjust_resource_info, request_irq, release_irq, request_io, release_io, request_socket_mask}
+pub use Services.{release_socket_mask, service_number, rule_of, Serves, Call}
 pub use Laws.{Coincide, RefusalKeeps, ServiceLaws, HostLaws, BytesLaws, ExactlyWhen}

@@ -10,29 +10,29 @@ use Rattle.facts.specs.Io.{RequestIo, ReleaseIo}
 
 -- "Built:"
 pub data Service : Type 0 where
-  register_client deregisterClient adjustResourceInfo requestIrq releaseIrq requestIo releaseIo requestSocketMask releaseSocketMask : Service
+  register_client deregister_client adjust_resource_info request_irq release_irq request_io release_io request_socket_mask release_socket_mask : Service
 
 abbrev pub service_number : Service → ℕ
 service_number register_client = 0x10
-service_number deregisterClient = 0x02
-service_number adjustResourceInfo = 0x35
-service_number requestIrq = 0x20
-service_number releaseIrq = 0x1C
-service_number requestIo = 0x1F
-service_number releaseIo = 0x1B
-service_number requestSocketMask = 0x22
-service_number releaseSocketMask = 0x2F
+service_number deregister_client = 0x02
+service_number adjust_resource_info = 0x35
+service_number request_irq = 0x20
+service_number release_irq = 0x1C
+service_number request_io = 0x1F
+service_number release_io = 0x1B
+service_number request_socket_mask = 0x22
+service_number release_socket_mask = 0x2F
 
 abbrev pub rule_of : Service → Rule
 rule_of register_client = Register
-rule_of deregisterClient = Deregister
-rule_of adjustResourceInfo = AdjustResourceInfo
-rule_of requestIrq = RequestIrq
-rule_of releaseIrq = ReleaseIrq
-rule_of requestIo = RequestIo
-rule_of releaseIo = ReleaseIo
-rule_of requestSocketMask = RequestSocketMask
-rule_of releaseSocketMask = ReleaseSocketMask
+rule_of deregister_client = Deregister
+rule_of adjust_resource_info = AdjustResourceInfo
+rule_of request_irq = RequestIrq
+rule_of release_irq = ReleaseIrq
+rule_of request_io = RequestIo
+rule_of release_io = ReleaseIo
+rule_of request_socket_mask = RequestSocketMask
+rule_of release_socket_mask = ReleaseSocketMask
 
 -- the number is that of a service
 pub record Serves (number : ℕ) : Type 0 where

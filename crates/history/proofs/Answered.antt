@@ -7,7 +7,7 @@ use Rattle.layout.specs.Served.{Served}
 use Rattle.layout.proofs.{one_set}
 use Rattle.promises.specs.{CallAnswers, CardAnswers, SharersAnswers, BootAnswers, CallPermitted, CardPermitted, SharersPermitted, BootPermitted}
 use Rattle.promises.proofs.{laws}
-use Rattle.history.specs.{Event, make_fresh, call, card_in, cardOut, boot, sharers, Ours, Entries, GoesOn}
+use Rattle.history.specs.{Event, make_fresh, call, card_in, card_out, boot, sharers, Ours, Entries, GoesOn}
 
 -- whatever an entry answers and leaves as promised is an event
 pub entries : Entries
@@ -77,7 +77,7 @@ abbrev pub Rules : Event → Facts → Facts → Type 0
 Rules (make_fresh n k) F G = G ≡ F
 Rules (call n h p k a q) F G = Call n F h p (record { code = k; handle = a; packet = q; facts = G })
 Rules (card_in s k) F G = CardTo true F s (record { code = k; facts = G })
-Rules (cardOut s k) F G = CardTo false F s (record { code = k; facts = G })
+Rules (card_out s k) F G = CardTo false F s (record { code = k; facts = G })
 Rules (boot r k i) F G = BootBytes F r (stopped i k G)
 Rules (sharers l k c) F G = Sharers F l (record { code = k; count = c }) × (G ≡ F)
 
@@ -113,8 +113,8 @@ module _ {b b' : List ℕ} (a : Accepted b) where
       ⊎_elim (served (call n h p k v q) (λ F G w. service_laws.stays_formed n F h p _ w x.bytes)) (λ u. absurd (u.0.unformed a)) (called n h p q k v x)
   stepped (card_in s k) on x =
       ⊎_elim (served (card_in s k) (λ F G w. host_laws.card_stays true F s _ w)) (λ u. absurd (u.unformed a)) (carded true s k x)
-  stepped (cardOut s k) on x =
-      ⊎_elim (served (cardOut s k) (λ F G w. host_laws.card_stays false F s _ w)) (λ u. absurd (u.unformed a)) (carded false s k x)
+  stepped (card_out s k) on x =
+      ⊎_elim (served (card_out s k) (λ F G w. host_laws.card_stays false F s _ w)) (λ u. absurd (u.unformed a)) (carded false s k x)
   stepped (boot r k i) on x =
       ⊎_elim (served (boot r k i) (λ F G w. host_laws.boot_stays (end_of r) F (records_of r) _ w)) (λ u. absurd (u.0.unformed a)) (booted r k i x)
   stepped (sharers l k c) on x =

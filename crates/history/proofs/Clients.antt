@@ -3,7 +3,7 @@ use Rattle.facts.proofs.Words.{◌≡◌, refl, ap, sym, ◌∙◌, subst, ◌�
 use Rattle.facts.proofs.Words.{none-ne-some, some-injective, ℕ, ◌+◌, add-zero, ℕ_discrete, eqb, eq-eqb, ne_eqb, WellFormed}
 use Rattle.facts.specs.{Facts, Client, ◌∈◌, put, Passed, registered, new_client, next_handle, client_attributes, client_events, with_clients}
 use Rattle.facts.specs.{without_client, deregister_checks, socket_of, events_asked, masking, with_mask, request_mask_checks, request_mask_length}
-use Rattle.facts.specs.{own_mask_checks, register_client, deregisterClient, requestSocketMask, releaseSocketMask}
+use Rattle.facts.specs.{own_mask_checks, register_client, deregister_client, request_socket_mask, release_socket_mask}
 use Rattle.facts.proofs.{put_same, in_left, in_right, in_either, in_map, map_in, in_without, without_in, rising_left_out, listing, live_passed}
 use Rattle.facts.proofs.{request_passed}
 use Rattle.history.specs.{Fact, client, mask, Made, GivenBack, client_made, mask_made, client_back, mask_back, Tells}
@@ -55,12 +55,12 @@ register_turns F h p a q answered =
         client_made
 
 pub deregister_turns : (F : Facts) (h : ℕ) (p : List ℕ) (a : ℕ) (q : List ℕ) → WellFormed F → Passed (deregister_checks F h p)
-    → Turns (GivenBack h p deregisterClient) (Made h p a q deregisterClient) 0 F (with_clients F (without_client h F.clients))
+    → Turns (GivenBack h p deregister_client) (Made h p a q deregister_client) 0 F (with_clients F (without_client h F.clients))
 deregister_turns F h p a q w passed =
     clients_turn F 0 F.issued (without_client h F.clients) _ _ (sym (add-zero F.issued)) (deregister_makes_none _)
     (client_back_only _ (λ b m t. rising_left_out 0 h F.clients w.handles t.0 t.1 t.2))
     (λ k b m. (
-      (λ t. left t.0 t.1 (λ e. inl (subst (λ (x : ℕ). GivenBack h p deregisterClient (client x b m)) (sym e ∙ t.2) client_back))
+      (λ t. left t.0 t.1 (λ e. inl (subst (λ (x : ℕ). GivenBack h p deregister_client (client x b m)) (sym e ∙ t.2) client_back))
           (λ i. inr (t.0, i, t.2, t.3, t.4))),
       (λ t. inr (t.0, without_in number h t.0 F.clients t.1, t.2, t.3, t.4)),
     ))
@@ -177,18 +177,18 @@ module _ (F : Facts) (h s : ℕ) (x : Option ℕ) where
 
 module _ (F : Facts) (h : ℕ) (p : List ℕ) (a : ℕ) (q : List ℕ) where
   pub request_mask_turns : Passed (request_mask_checks F h p)
-      → Turns (GivenBack h p requestSocketMask) (Made h p a q requestSocketMask) 0 F
+      → Turns (GivenBack h p request_socket_mask) (Made h p a q request_socket_mask) 0 F
       (with_clients F (with_mask h (socket_of p) (some (events_asked p)) F.clients))
   request_mask_turns passed =
       let live = live_passed request_mask_length F h p (own_mask_checks F h p) passed in
       let own = request_passed request_mask_length F h p (own_mask_checks F h p) passed in
       mask_turns F h (socket_of p) (some (events_asked p)) _ _
       (λ c i e m y. absurd (own.1.0 (m, record { client = c; listed = i; handle = e; mask = y })))
-      (λ m y. subst (λ (z : ℕ). Made h p a q requestSocketMask (mask h (socket_of p) z)) (some-injective (events_asked p) m y) mask_made)
+      (λ m y. subst (λ (z : ℕ). Made h p a q request_socket_mask (mask h (socket_of p) z)) (some-injective (events_asked p) m y) mask_made)
       (mask_only _ (masked_there F h (socket_of p) (some (events_asked p)) live.client live.listed live.handle (events_asked p) refl))
       (request_mask_keeps _)
 
-  pub release_mask_turns : Turns (GivenBack h p releaseSocketMask) (Made h p a q releaseSocketMask) 0 F
+  pub release_mask_turns : Turns (GivenBack h p release_socket_mask) (Made h p a q release_socket_mask) 0 F
       (with_clients F (with_mask h (socket_of p) none F.clients))
   release_mask_turns =
       mask_turns F h (socket_of p) none _ _ (λ c i e m y. inl mask_back) (λ m y. absurd (none-ne-some m y)) (release_mask_makes_none _)

@@ -1,7 +1,7 @@
 -- Demand 3 and the laws over all entries hold of this keeper. Assumes nothing.
 use Rattle.history.specs.{Ours, Demand3, EntryLaws}
 use Rattle.history.proofs.Runs.{exact, exact_since}
-use Rattle.history.proofs.Frame.{frame, card_out}
+use Rattle.history.proofs.Frame.{frame, card_out_case}
 use Rattle.history.proofs.Handles.{never_again}
 use Rattle.history.proofs.Sharing.{sharers_counted, one_grant, ports_apart, levels_apart}
 use Rattle.history.proofs.Laws.{one_outcome, refusal_keeps, unformed_refused, stays, boot_places, the_fifteen}
@@ -14,7 +14,7 @@ demand_3 =
       exact = exact;
       exact_since = exact_since;
       frame = frame;
-      card_out = card_out;
+      card_out_case = card_out_case;
       never_again = never_again;
       sharers_counted = sharers_counted;
       one_grant = one_grant;

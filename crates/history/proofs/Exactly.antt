@@ -1,7 +1,7 @@
 -- A call of RequestIRQ or RequestIO whose earlier checks pass is refused exactly when no resource fits. Assumes nothing.
 use Rattle.facts.proofs.Words.{◌≡◌, refl, ap, sym, subst, ◌⊎◌, inl, inr, ⊎_elim, ◌≢◌, List, ℕ, T, WellFormed}
 use Rattle.facts.specs.{Code, Success, Facts, Check, Outcome, Passed, Ruled, RequestIrq, GrantsIrq, Fits, assigned_irq, irq_request_checks, RequestIo}
-use Rattle.facts.specs.{GrantsIo, Candidate, BaseTaken, base_asked_lem, io_request_checks, Service, requestIrq, requestIo, service_number, rule_of, Call}
+use Rattle.facts.specs.{GrantsIo, Candidate, BaseTaken, base_asked_lem, io_request_checks, Service, request_irq, request_io, service_number, rule_of, Call}
 use Rattle.facts.specs.{io_asked, irq_asked}
 use Rattle.facts.proofs.{number_injective, no_success, none_succeeds, ruled_then_success, exactly_when}
 use Rattle.layout.specs.{Accepted}
@@ -51,18 +51,18 @@ base_kept F h p o (inr r) named = ⊎_elim (λ taken. taken.1) (λ chosen. absur
 pub refused_exactly : RefusedExactly Ours
 refused_exactly =
     record {
-      irq = λ h p k a q b b' t passed x. exactly_when.irq_refused t.facts h p _ passed (ruled_by requestIrq h p k a q b b' t x).1;
-      irq_code = λ h p k a q b b' t passed x. exactly_when.irq t.facts h p _ passed (ruled_by requestIrq h p k a q b b' t x).1;
-      irq_fits = λ h p k a q b b' t passed x e. level_fits t.facts h p _ e t.formed (ruled_by requestIrq h p k a q b b' t x).1;
+      irq = λ h p k a q b b' t passed x. exactly_when.irq_refused t.facts h p _ passed (ruled_by request_irq h p k a q b b' t x).1;
+      irq_code = λ h p k a q b b' t passed x. exactly_when.irq t.facts h p _ passed (ruled_by request_irq h p k a q b b' t x).1;
+      irq_fits = λ h p k a q b b' t passed x e. level_fits t.facts h p _ e t.formed (ruled_by request_irq h p k a q b b' t x).1;
       io_named = λ h p k a q b b' t passed x named.
-          exactly_when.io_named t.facts h p _ passed named (ruled_by requestIo h p k a q b b' t x).1;
-      io_base = λ h p k a q b b' t passed x named. exactly_when.io_base t.facts h p _ passed named (ruled_by requestIo h p k a q b b' t x).1;
+          exactly_when.io_named t.facts h p _ passed named (ruled_by request_io h p k a q b b' t x).1;
+      io_base = λ h p k a q b b' t passed x named. exactly_when.io_base t.facts h p _ passed named (ruled_by request_io h p k a q b b' t x).1;
       io_in_use = λ h p k a q b b' t passed x named.
-          exactly_when.io_in_use t.facts h p _ passed named (ruled_by requestIo h p k a q b b' t x).1;
-      io_kept = λ h p k a q b b' t passed x. base_kept t.facts h p _ (ruled_by requestIo h p k a q b b' t x).1;
+          exactly_when.io_in_use t.facts h p _ passed named (ruled_by request_io h p k a q b b' t x).1;
+      io_kept = λ h p k a q b b' t passed x. base_kept t.facts h p _ (ruled_by request_io h p k a q b b' t x).1;
       io_chosen = λ h p k a q b b' t passed x zero.
-          exactly_when.io_chosen_refused t.facts h p _ passed zero (ruled_by requestIo h p k a q b b' t x).1;
+          exactly_when.io_chosen_refused t.facts h p _ passed zero (ruled_by request_io h p k a q b b' t x).1;
       io_chosen_code = λ h p k a q b b' t passed x zero.
-          exactly_when.io_chosen t.facts h p _ passed zero (ruled_by requestIo h p k a q b b' t x).1;
-      io_fits = λ h p k a q b b' t passed x zero e. base_candidate t.facts h p _ e zero (ruled_by requestIo h p k a q b b' t x).1;
+          exactly_when.io_chosen t.facts h p _ passed zero (ruled_by request_io h p k a q b b' t x).1;
+      io_fits = λ h p k a q b b' t passed x zero e. base_candidate t.facts h p _ e zero (ruled_by request_io h p k a q b b' t x).1;
     }

@@ -2,8 +2,8 @@
 use Rattle.facts.proofs.Words.{◌≡◌, refl, ap, inl, inr, List, [], ◌∷◌, true, true≢false, false≢true, some, none-ne-some, ℕ, zero, suc}
 use Rattle.facts.proofs.Words.{◌+◌, ◌≤◌, ◌<◌, arith, length, WellFormed}
 use Rattle.facts.specs.{Exclusive, Facts, Range, fresh, ◌∈◌, Apart, with_clients, RequestSocketMask, with_card, with_mask, level_added, range_added}
-use Rattle.facts.specs.{with_ranges, RequestIrq, Fits, IrqAttributesBad, IrqInfoBad, RequestIo, IoAttributesBad, IoSizeBad, requestIrq, requestIo}
-use Rattle.facts.specs.{requestSocketMask, most_issued, most_ranges, irq_asked}
+use Rattle.facts.specs.{with_ranges, RequestIrq, Fits, IrqAttributesBad, IrqInfoBad, RequestIo, IoAttributesBad, IoSizeBad, request_irq, request_io}
+use Rattle.facts.specs.{request_socket_mask, most_issued, most_ranges, irq_asked}
 use Rattle.facts.proofs.{card_formed, clients_formed, ranges_formed, listing, level_added_formed, range_added_formed, named_one}
 use Rattle.facts_cases.specs.{done, one_client, range, ports, granting_irq, granting_io}
 use Rattle.facts_cases.proofs.{alone_taken, as_left, ◌then◌, ◌nor◌, listed_alone}
@@ -74,7 +74,7 @@ irq_granted =
 
 pub irq_ready : Ready irq_held
 irq_ready =
-    ready (left idle_ready.formed requestIrq 1 (for 0 packet_irq) (done 1 (for 0 (irq_naming 3 3)) irq_held) tt irq_granted) _ (inl refl) refl
+    ready (left idle_ready.formed request_irq 1 (for 0 packet_irq) (done 1 (for 0 (irq_naming 3 3)) irq_held) tt irq_granted) _ (inl refl) refl
 
 pub io_granted : RequestIo irq_held 1 (for 0 packet_io) (done 1 (for 0 packet_io) io_held)
 io_granted =
@@ -94,7 +94,7 @@ io_granted =
 
 pub io_ready : Ready io_held
 io_ready =
-    ready (left irq_ready.formed requestIo 1 (for 0 packet_io) (done 1 (for 0 packet_io) io_held) tt io_granted) _ (inl refl) refl
+    ready (left irq_ready.formed request_io 1 (for 0 packet_io) (done 1 (for 0 packet_io) io_held) tt io_granted) _ (inl refl) refl
 
 pub mask_granted : RequestSocketMask io_held 1 (for 0 mask_asked) (done 1 (for 0 mask_asked) busy)
 mask_granted =
@@ -106,7 +106,7 @@ mask_granted =
 
 pub busy_ready : Ready busy
 busy_ready =
-    ready (left io_ready.formed requestSocketMask 1 (for 0 mask_asked) (done 1 (for 0 mask_asked) busy) tt mask_granted) _ (inl refl) refl
+    ready (left io_ready.formed request_socket_mask 1 (for 0 mask_asked) (done 1 (for 0 mask_asked) busy) tt mask_granted) _ (inl refl) refl
 
 -- every handle issued
 abbrev pub spent : Facts

@@ -10,7 +10,7 @@ use Rattle.layout.proofs.{accepted_sound}
 use Rattle.promises.specs.{CallAnswers}
 use Rattle.facts_cases.specs.{refused}
 use Rattle.facts_cases.proofs.{as_kept, ◌then◌, ◌nor◌}
-use Rattle.history.specs.{Ours, service, boot-list, CanGive}
+use Rattle.history.specs.{Ours, service, boot_list, CanGive}
 
 -- a packet's numbers are bytes: a computed test
 abbrev pub all_bytes : List ℕ → Bool
@@ -58,7 +58,7 @@ module _ {F : Facts} (w : WellFormed F) where
   pub refuses : (v : Service) (h : ℕ) (p : List ℕ) (k : Code) → T (all_bytes p) → rule_of v F h p (refused k p F) → CanGive Ours (service v) k
   refuses v h p k = gives v h p (refused k p F)
 
-  pub boots : (b : List ℕ) (i : ℕ) (k : Code) (G : Facts) → BootBytes F b (stopped i k G) → CanGive Ours boot-list k
+  pub boots : (b : List ℕ) (i : ℕ) (k : Code) (G : Facts) → BootBytes F b (stopped i k G) → CanGive Ours boot_list k
   boots b i k G r = (b, _, _, i, record { code = k; place = i; packs = refl; permitted = inl (serving G r) })
 
   -- what a rule leaves is well formed, too

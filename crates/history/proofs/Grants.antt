@@ -5,7 +5,7 @@ use Rattle.facts.specs.{Manner, Exclusive, TimeMultiplexed, DynamicLevel, Dynami
 use Rattle.facts.specs.{socket_of, with_card, with_level, type_of, GrantsIrq, IrqHeld, with_irq, irq_grant, irq_request_checks, irq_release_checks}
 use Rattle.facts.specs.{request_irq_length, own_irq_checks, level_checks, manner_asked_lem, type_asked_lem, with_pulse, assigned_irq, GrantsIo, IoHeld, BaseTaken}
 use Rattle.facts.specs.{with_io, io_grant, io_request_checks, io_release_checks, request_io_length, own_io_checks, base_checks, base_asked_lem, count_asked_lem}
-use Rattle.facts.specs.{requestIrq, releaseIrq, requestIo, releaseIo, all_ports, io_asked, irq_asked}
+use Rattle.facts.specs.{request_irq, release_irq, request_io, release_io, all_ports, io_asked, irq_asked}
 use Rattle.facts.proofs.{put_same, told, request_passed}
 use Rattle.layout.proofs.{byte_same, word_length, word_low, word_high}
 use Rattle.history.specs.{Fact, card, level, io, irq, Made, GivenBack, io_made, irq_made, io_back, irq_back, Tells}
@@ -88,12 +88,12 @@ module _ (F : Facts) (h : ℕ) (p : List ℕ) (o : Outcome) where
       small (inr chosen) = omega (arith, port, chosen.1.fits.within)
 
   pub request_io_turns : Passed (io_request_checks F h p) → GrantsIo F h p o
-      → Turns (GivenBack h p requestIo) (Made h p o.handle o.packet requestIo) 0 F o.facts
+      → Turns (GivenBack h p request_io) (Made h p o.handle o.packet request_io) 0 F o.facts
   request_io_turns passed granted =
-      subst (Turns (GivenBack h p requestIo) (Made h p o.handle o.packet requestIo) 0 F) (sym granted.leaves.facts)
+      subst (Turns (GivenBack h p request_io) (Made h p o.handle o.packet request_io) 0 F) (sym granted.leaves.facts)
       (io_turns F (socket_of p) _ _ (some new) (io_only _ (put_same F.io (socket_of p) (some new) ∙ ap (λ (b : ℕ). some (io_grant h (io_asked p) b)) (sym answered)))
       (request_io_keeps _) (λ g e. unless own.1.1.0 e)
-      (λ g e. inl (subst (λ (x : IoGrant). Made h p o.handle o.packet requestIo (io (socket_of p) x))
+      (λ g e. inl (subst (λ (x : IoGrant). Made h p o.handle o.packet request_io (io (socket_of p) x))
       (ap (io_grant h (io_asked p)) answered ∙ some-injective new g e) io_made)))
     where
       new : IoGrant
@@ -106,7 +106,7 @@ module _ (F : Facts) (h : ℕ) (p : List ℕ) (o : Outcome) where
       answered = base_answered passed granted
 
   pub release_io_turns : Passed (io_release_checks F h p)
-      → Turns (GivenBack h p releaseIo) (Made h p o.handle o.packet releaseIo) 0 F (with_io F (socket_of p) none)
+      → Turns (GivenBack h p release_io) (Made h p o.handle o.packet release_io) 0 F (with_io F (socket_of p) none)
   release_io_turns passed =
       io_turns F (socket_of p) _ _ none (release_io_makes_none _)
       (io_back_only _ (λ g client base count e. none-ne-some g (sym (put_same F.io (socket_of p) none) ∙ e)))
@@ -139,12 +139,12 @@ module _ (F : Facts) (h : ℕ) (p : List ℕ) (o : Outcome) where
       pulse_length DynamicPulse = word_length p 2 _
 
   pub request_irq_turns : Passed (irq_request_checks F h p) → GrantsIrq F h p o
-      → Turns (GivenBack h p requestIrq) (Made h p o.handle o.packet requestIrq) 0 F o.facts
+      → Turns (GivenBack h p request_irq) (Made h p o.handle o.packet request_irq) 0 F o.facts
   request_irq_turns passed granted =
-      subst (Turns (GivenBack h p requestIrq) (Made h p o.handle o.packet requestIrq) 0 F) (sym granted.leaves.facts)
+      subst (Turns (GivenBack h p request_irq) (Made h p o.handle o.packet request_irq) 0 F) (sym granted.leaves.facts)
       (irq_turns F (socket_of p) _ _ (some new) (irq_only _ (put_same F.irq (socket_of p) (some new) ∙ ap (λ (l : ℕ). some (irq_grant h (irq_asked p) l)) (sym answered)))
       (request_irq_keeps _) (λ g e. unless own.1.1.0 e)
-      (λ g e. inl (subst (λ (x : IrqGrant). Made h p o.handle o.packet requestIrq (irq (socket_of p) x))
+      (λ g e. inl (subst (λ (x : IrqGrant). Made h p o.handle o.packet request_irq (irq (socket_of p) x))
       (ap (irq_grant h (irq_asked p)) answered ∙ some-injective new g e) irq_made)))
     where
       new : IrqGrant
@@ -157,7 +157,7 @@ module _ (F : Facts) (h : ℕ) (p : List ℕ) (o : Outcome) where
       answered = level_answered passed granted
 
   pub release_irq_turns : Passed (irq_release_checks F h p)
-      → Turns (GivenBack h p releaseIrq) (Made h p o.handle o.packet releaseIrq) 0 F (with_irq F (socket_of p) none)
+      → Turns (GivenBack h p release_irq) (Made h p o.handle o.packet release_irq) 0 F (with_irq F (socket_of p) none)
   release_irq_turns passed =
       irq_turns F (socket_of p) _ _ none (release_irq_makes_none _)
       (irq_back_only _ (λ g client level type e. none-ne-some g (sym (put_same F.irq (socket_of p) none) ∙ e)))

@@ -4,7 +4,7 @@ use Rattle.facts.proofs.Words.{eq-eqb}
 use Rattle.facts.specs.{Code, Success, Record, number_of, Facts, ◌∈◌, Outcome, register_checks, next_handle, Service, register_client, service_number}
 use Rattle.facts.specs.{rule_of}
 use Rattle.facts.proofs.{number_injective, none_succeeds, first_not_success}
-use Rattle.history.specs.{Event, make_fresh, call, card_in, cardOut, boot, sharers, Ours, FromFresh, client, Made, Recorded, Registers}
+use Rattle.history.specs.{Event, make_fresh, call, card_in, card_out, boot, sharers, Ours, FromFresh, client, Made, Recorded, Registers}
 use Rattle.history.specs.{registration, registrations, client_made, NeverAgain}
 use Rattle.history.proofs.Answered.{Rules, stepped}
 use Rattle.history.proofs.Turns.{kind}
@@ -41,7 +41,7 @@ module _ (F G : Facts) where
       )
   registers_next (make_fresh n k) x r (b, m, made) = absurd made
   registers_next (card_in s k) x r (b, m, made) = absurd (omega (arith, ap kind made.1))
-  registers_next (cardOut s k) x r (b, m, made) = absurd made
+  registers_next (card_out s k) x r (b, m, made) = absurd made
   registers_next (boot records k i) x r (b, m, made) = absurd (no_record made.0 x b m made.2)
   registers_next (sharers l k c) x r (b, m, made) = absurd made
 

@@ -5,11 +5,11 @@ use Rattle.facts.specs.{Decided, register_checks, deregister_checks, card_checks
 use Rattle.facts.specs.{io_range, action_of, level_given, level_attributes, base_given, count_given, attributes_given, lines_given, adjust_checks}
 use Rattle.facts.specs.{add_level_checks, remove_level_checks, show_level_checks, add_range_checks, remove_range_checks, show_range_checks, irq_request_checks}
 use Rattle.facts.specs.{irq_release_checks, sharers_checks, io_request_checks, io_release_checks, Booted, ended, refused, added, record_size, records_of}
-use Rattle.facts.specs.{end_of, record_checks, Service, register_client, deregisterClient, adjustResourceInfo, requestIrq, releaseIrq, requestIo}
-use Rattle.facts.specs.{releaseIo, requestSocketMask, releaseSocketMask, rule_of, service_number, Call, most_lines}
+use Rattle.facts.specs.{end_of, record_checks, Service, register_client, deregister_client, adjust_resource_info, request_irq, release_irq, request_io}
+use Rattle.facts.specs.{release_io, request_socket_mask, release_socket_mask, rule_of, service_number, Call, most_lines}
 use Rattle.facts.specs.Boot.{Boot}
 use Rattle.facts.proofs.{code_injective, number_injective}
-use Rattle.history.specs.{Ours, Asked, service, no_service, card_in_lem, card_out, boot-list, sharers-of, fresh-table, codes_of, CanGive}
+use Rattle.history.specs.{Ours, Asked, service, no_service, card_in_case, card_out_case, boot_list, sharers_of, fresh_table, codes_of, CanGive}
 use Rattle.history.proofs.Listed.{lists, listed}
 use Rattle.history.proofs.Answered.{called, carded, booted, counted}
 
@@ -51,7 +51,7 @@ module _ (ks : List Code) (k : Code) where
 -- the services
 module _ (F : Facts) (h : ℕ) (p : List ℕ) (o : Outcome) where
   abbrev codes : List Code
-  codes = codes_of (service adjustResourceInfo)
+  codes = codes_of (service adjust_resource_info)
 
   levels_listed : AdjustIrq F h p o → o.code ∈ codes
   levels_listed =
@@ -70,14 +70,14 @@ module _ (F : Facts) (h : ℕ) (p : List ℕ) (o : Outcome) where
 
   rule_listed : (v : Service) → rule_of v F h p o → o.code ∈ codes_of (service v)
   rule_listed register_client = decided_listed (codes_of (service register_client)) _ (register_checks F p) tt
-  rule_listed deregisterClient = decided_listed (codes_of (service deregisterClient)) _ (deregister_checks F h p) tt
-  rule_listed adjustResourceInfo = decided_then_listed codes _ (adjust_checks p) tt by_resource_listed
-  rule_listed requestIrq = decided_listed (codes_of (service requestIrq)) _ (irq_request_checks F h p) tt
-  rule_listed releaseIrq = decided_listed (codes_of (service releaseIrq)) _ (irq_release_checks F h p) tt
-  rule_listed requestIo = decided_listed (codes_of (service requestIo)) _ (io_request_checks F h p) tt
-  rule_listed releaseIo = decided_listed (codes_of (service releaseIo)) _ (io_release_checks F h p) tt
-  rule_listed requestSocketMask = decided_listed (codes_of (service requestSocketMask)) _ (request_mask_checks F h p) tt
-  rule_listed releaseSocketMask = decided_listed (codes_of (service releaseSocketMask)) _ (release_mask_checks F h p) tt
+  rule_listed deregister_client = decided_listed (codes_of (service deregister_client)) _ (deregister_checks F h p) tt
+  rule_listed adjust_resource_info = decided_then_listed codes _ (adjust_checks p) tt by_resource_listed
+  rule_listed request_irq = decided_listed (codes_of (service request_irq)) _ (irq_request_checks F h p) tt
+  rule_listed release_irq = decided_listed (codes_of (service release_irq)) _ (irq_release_checks F h p) tt
+  rule_listed request_io = decided_listed (codes_of (service request_io)) _ (io_request_checks F h p) tt
+  rule_listed release_io = decided_listed (codes_of (service release_io)) _ (io_release_checks F h p) tt
+  rule_listed request_socket_mask = decided_listed (codes_of (service request_socket_mask)) _ (request_mask_checks F h p) tt
+  rule_listed release_socket_mask = decided_listed (codes_of (service release_socket_mask)) _ (release_mask_checks F h p) tt
 
   call_listed : (v : Service) → Call (service_number v) F h p o → o.code ∈ codes_of (service v)
   call_listed v (inl (s, r)) =
@@ -85,39 +85,39 @@ module _ (F : Facts) (h : ℕ) (p : List ℕ) (o : Outcome) where
   call_listed v (inr r) = absurd (r.0 (record { service = v; number_is = refl }))
 
 -- the boot list
-record_listed : (F : Facts) (r : Record) → T (list_all (codes_of boot-list) (record_checks F r))
+record_listed : (F : Facts) (r : Record) → T (list_all (codes_of boot_list) (record_checks F r))
 record_listed F r = marked_or_not (eqb r.resource io_range)
   where
     marked_or_not : (io : Bool)
-        → T (list_all (codes_of boot-list)
+        → T (list_all (codes_of boot_list)
         (cond io (add_range_checks F r.base r.count r.attributes most_lines) (add_level_checks F r.base r.attributes)))
     marked_or_not true = tt
     marked_or_not false = tt
 
-end_listed : (b : List ℕ) → end_of b ∈ codes_of boot-list
+end_listed : (b : List ℕ) → end_of b ∈ codes_of boot_list
 end_listed b = marked_or_not (eqb (length b % record_size) 0)
   where
-    marked_or_not : (none : Bool) → cond none Success BadArgLength ∈ codes_of boot-list
-    marked_or_not true = code_listed (codes_of boot-list) Success tt
-    marked_or_not false = code_listed (codes_of boot-list) BadArgLength tt
+    marked_or_not : (none : Bool) → cond none Success BadArgLength ∈ codes_of boot_list
+    marked_or_not true = code_listed (codes_of boot_list) Success tt
+    marked_or_not false = code_listed (codes_of boot_list) BadArgLength tt
 
-module _ (e : Code) (listed : e ∈ codes_of boot-list) where
-  boot_listed : (F : Facts) (rs : List Record) (i : ℕ) (o : Booted) → Boot e F rs i o → o.code ∈ codes_of boot-list
+module _ (e : Code) (listed : e ∈ codes_of boot_list) where
+  boot_listed : (F : Facts) (rs : List Record) (i : ℕ) (o : Booted) → Boot e F rs i o → o.code ∈ codes_of boot_list
   boot_listed F [] i o ended = listed
-  boot_listed F (r ∷ rs) i o (refused g) = first_listed (codes_of boot-list) o.code (record_checks F r) (record_listed F r) g
+  boot_listed F (r ∷ rs) i o (refused g) = first_listed (codes_of boot_list) o.code (record_checks F r) (record_listed F r) g
   boot_listed F (r ∷ rs) i o (added p b) = boot_listed _ _ _ o b
 
 -- a table that isn't accepted
 general_listed : (v : Service) → GeneralFailure ∈ codes_of (service v)
 general_listed register_client = inl refl
-general_listed deregisterClient = inl refl
-general_listed adjustResourceInfo = inl refl
-general_listed requestIrq = inl refl
-general_listed releaseIrq = inl refl
-general_listed requestIo = inl refl
-general_listed releaseIo = inl refl
-general_listed requestSocketMask = inl refl
-general_listed releaseSocketMask = inl refl
+general_listed deregister_client = inl refl
+general_listed adjust_resource_info = inl refl
+general_listed request_irq = inl refl
+general_listed release_irq = inl refl
+general_listed request_io = inl refl
+general_listed release_io = inl refl
+general_listed request_socket_mask = inl refl
+general_listed release_socket_mask = inl refl
 
 pub none_else : (x : Asked) (k : Code) → CanGive Ours x k → k ∈ codes_of x
 none_else (service v) k (h, a, p, q, b, b', y) =
@@ -125,13 +125,13 @@ none_else (service v) k (h, a, p, q, b, b', y) =
     (λ u. subst (λ (c : Code). c ∈ codes_of (service v)) (sym u.0.code_is) (general_listed v)) (called _ h p q k a y)
 none_else no_service k (n, h, a, p, q, b, b', other, y) =
     ⊎_elim (λ s. ⊎_elim (λ r. absurd (other r.0)) (λ r. inr (inl r.1)) s.rule) (λ u. inl u.0.code_is) (called n h p q k a y)
-none_else card_in_lem k (s, b, b', y) =
-    ⊎_elim (λ x. decided_listed (codes_of card_in_lem) k (card_checks x.accepted.facts s) tt x.rule) (λ u. inl u.code_is) (carded true s k y)
-none_else card_out k (s, b, b', y) =
-    ⊎_elim (λ x. decided_listed (codes_of card_out) k (card_checks x.accepted.facts s) tt x.rule) (λ u. inl u.code_is) (carded false s k y)
-none_else boot-list k (r, b, b', i, y) =
+none_else card_in_case k (s, b, b', y) =
+    ⊎_elim (λ x. decided_listed (codes_of card_in_case) k (card_checks x.accepted.facts s) tt x.rule) (λ u. inl u.code_is) (carded true s k y)
+none_else card_out_case k (s, b, b', y) =
+    ⊎_elim (λ x. decided_listed (codes_of card_out_case) k (card_checks x.accepted.facts s) tt x.rule) (λ u. inl u.code_is) (carded false s k y)
+none_else boot_list k (r, b, b', i, y) =
     ⊎_elim (λ x. boot_listed (end_of r) (end_listed r) x.accepted.facts (records_of r) 0 _ x.rule) (λ u. inl u.0.code_is) (booted r k i y)
-none_else sharers-of k (l, c, b, b', y) =
-    ⊎_elim (λ x. decided_listed (codes_of sharers-of) k (sharers_checks l) tt x.1) (λ u. inl u.0.code_is) (counted l k c y.0)
-none_else fresh-table k (n, b, b', y) =
+none_else sharers_of k (l, c, b, b', y) =
+    ⊎_elim (λ x. decided_listed (codes_of sharers_of) k (sharers_checks l) tt x.1) (λ u. inl u.0.code_is) (counted l k c y.0)
+none_else fresh_table k (n, b, b', y) =
     ⊎_elim (λ x. inr (inl (code_injective k Success x.1))) (λ x. inl (code_injective k GeneralFailure x.1)) y

@@ -8,7 +8,7 @@ use Rattle.layout.specs.{image, Accepted}
 use Rattle.promises.proofs.{laws}
 use Rattle.facts_cases.proofs.{◌then◌}
 use Rattle.history.specs.Given.{Given}
-use Rattle.history.specs.{Event, given, code_in, make_fresh, call, card_in, cardOut, boot, sharers, Ours, OneOutcome, RefusalKeeps}
+use Rattle.history.specs.{Event, given, code_in, make_fresh, call, card_in, card_out, boot, sharers, Ours, OneOutcome, RefusalKeeps}
 use Rattle.history.specs.{UnformedRefused, Stays, BootPlaces, TheCodes, fifteen}
 use Rattle.history.proofs.Listed.{Each, each_in, lists, listed}
 use Rattle.history.proofs.Answered.{packed_code, packed_number, placed_code, placed_number, call_parts, boot_parts, sharers_parts}
@@ -19,7 +19,7 @@ abbrev answering : Given → Code → ℕ → List ℕ → Event
 answering (entry.make_fresh n) k a q = make_fresh n k
 answering (entry.call n h p) k a q = call n h p k a q
 answering (entry.card_in s) k a q = card_in s k
-answering (entry.cardOut s) k a q = cardOut s k
+answering (entry.card_out s) k a q = card_out s k
 answering (entry.boot r) k a q = boot r k a
 answering (entry.sharers l) k a q = sharers l k a
 
@@ -32,7 +32,7 @@ answer : (e : Event) → Answer e
 answer (make_fresh n k) = record { number = 0; packet = []; is = refl }
 answer (call n h p k a q) = record { number = a; packet = q; is = refl }
 answer (card_in s k) = record { number = 0; packet = []; is = refl }
-answer (cardOut s k) = record { number = 0; packet = []; is = refl }
+answer (card_out s k) = record { number = 0; packet = []; is = refl }
 answer (boot r k i) = record { number = i; packet = []; is = refl }
 answer (sharers l k c) = record { number = c; packet = []; is = refl }
 
@@ -45,7 +45,7 @@ module _ (k k' : Code) (a a' : ℕ) (q q' b b₁ b₂ : List ℕ) where
       let e = (laws.call n h b p).one b₁ b₂ q q' _ _ x y in
       ((λ i. call n h p (packed_code k k' a a' e.0 i) (packed_number k k' a a' e.0 i) (e.1 i)), e.2)
   one_answer (entry.card_in s) x y = let e = (laws.card true s b).one b₁ b₂ _ _ x y in (ap (card_in s) (code_injective k k' e.0), e.1)
-  one_answer (entry.cardOut s) x y = let e = (laws.card false s b).one b₁ b₂ _ _ x y in (ap (cardOut s) (code_injective k k' e.0), e.1)
+  one_answer (entry.card_out s) x y = let e = (laws.card false s b).one b₁ b₂ _ _ x y in (ap (card_out s) (code_injective k k' e.0), e.1)
   one_answer (entry.boot r) x y =
       let e = (laws.boot r b).one b₁ b₂ _ _ x y in
       ((λ i. boot r (placed_code k k' a a' e.0 i) (placed_number k k' a a' e.0 i)), e.1)
@@ -70,7 +70,7 @@ refusal_keeps (call n h p k a q) b b' x = λ d.
     let kept = (laws.call n h b p).refusal b' q _ x (λ e. d (same.0 ∙ e)) in
     (same.1 ∙ kept.0, kept.1, kept.2)
 refusal_keeps (card_in s k) b b' x = λ d. (laws.card true s b).refusal b' _ x (λ e. d (code_injective k x.code x.is ∙ e))
-refusal_keeps (cardOut s k) b b' x = λ d. (laws.card false s b).refusal b' _ x (λ e. d (code_injective k x.code x.is ∙ e))
+refusal_keeps (card_out s k) b b' x = λ d. (laws.card false s b).refusal b' _ x (λ e. d (code_injective k x.code x.is ∙ e))
 refusal_keeps (boot r k i) b b' x = (
   (λ none. ((laws.boot r b).unformed b' _ x none).2),
   (λ a. let s = passes a (boot r k i) tt x in
@@ -93,7 +93,7 @@ pub unformed_refused : UnformedRefused Ours
 unformed_refused (make_fresh n k) b b' x none = tt
 unformed_refused (call n h p k a q) b b' x none = (call_parts n h p q k a x).0 ∙ (laws.call n h b p).unformed b' q _ x none
 unformed_refused (card_in s k) b b' x none = code_injective k x.code x.is ∙ (laws.card true s b).unformed b' _ x none
-unformed_refused (cardOut s k) b b' x none = code_injective k x.code x.is ∙ (laws.card false s b).unformed b' _ x none
+unformed_refused (card_out s k) b b' x none = code_injective k x.code x.is ∙ (laws.card false s b).unformed b' _ x none
 unformed_refused (boot r k i) b b' x none =
     let same = boot_parts r k i x in
     let kept = (laws.boot r b).unformed b' _ x none in
@@ -108,7 +108,7 @@ stays (make_fresh n k) b b' x a = same_or_not (ℕ_discrete (number_of k) (numbe
     same_or_not (no d) = subst Accepted (sym ((laws.fresh n b).refusal b' (number_of k) x d)) a
 stays (call n h p k v q) b b' x a = (laws.call n h b p).stays b' q _ a x
 stays (card_in s k) b b' x a = (laws.card true s b).stays b' _ a x
-stays (cardOut s k) b b' x a = (laws.card false s b).stays b' _ a x
+stays (card_out s k) b b' x a = (laws.card false s b).stays b' _ a x
 stays (boot r k i) b b' x a = (laws.boot r b).stays b' _ a x
 stays (sharers l k c) b b' x a = subst Accepted (sym x.1) a
 

@@ -2,7 +2,7 @@
 use Rattle.facts.proofs.Words.{◌≡◌, refl, ap, inl, List, [], ◌∷◌, ℕ, ◌+◌, arith, length, drop, replicate, length-replicate, T, WellFormed}
 use Rattle.facts.specs.{Code, GeneralFailure, BadArgLength, BadHandle, BadSocket, Facts, Client, fresh, ◌∈◌, Live, Check, FirstGiven, Passed}
 use Rattle.facts.specs.{release_checks, request_mask_checks, release_mask_checks, irq_request_checks, irq_release_checks, io_request_checks, io_release_checks}
-use Rattle.facts.specs.{Service, register_client, requestIrq, releaseIrq, requestIo, releaseIo, requestSocketMask, releaseSocketMask, rule_of}
+use Rattle.facts.specs.{Service, register_client, request_irq, release_irq, request_io, release_io, request_socket_mask, release_socket_mask, rule_of}
 use Rattle.facts.proofs.{fresh_formed}
 use Rattle.facts_cases.specs.{done, refused, one_client, client_packet}
 use Rattle.facts_cases.proofs.{cases, ◌then◌, ◌nor◌, listed_alone}
@@ -77,20 +77,20 @@ module _ {v : Service} (x : OnSocket v) where
 abbrev past_first : (Facts → ℕ → List ℕ → List Check) → Facts → ℕ → List ℕ → List Check
 past_first checks F h p = drop 3 (checks F h p)
 
-abbrev pub irq_requests : OnSocket requestIrq
+abbrev pub irq_requests : OnSocket request_irq
 irq_requests = record { more = 6; own = past_first irq_request_checks; refusal = λ F h p k f. first f }
 
-abbrev pub irq_releases : OnSocket releaseIrq
+abbrev pub irq_releases : OnSocket release_irq
 irq_releases = record { more = 3; own = past_first irq_release_checks; refusal = λ F h p k f. first f }
 
-abbrev pub io_requests : OnSocket requestIo
+abbrev pub io_requests : OnSocket request_io
 io_requests = record { more = 9; own = past_first io_request_checks; refusal = λ F h p k f. first f }
 
-abbrev pub io_releases : OnSocket releaseIo
+abbrev pub io_releases : OnSocket release_io
 io_releases = record { more = 9; own = past_first io_release_checks; refusal = λ F h p k f. first f }
 
-abbrev pub mask_requests : OnSocket requestSocketMask
+abbrev pub mask_requests : OnSocket request_socket_mask
 mask_requests = record { more = 2; own = past_first request_mask_checks; refusal = λ F h p k f. first f }
 
-abbrev pub mask_releases : OnSocket releaseSocketMask
+abbrev pub mask_releases : OnSocket release_socket_mask
 mask_releases = record { more = 0; own = past_first release_mask_checks; refusal = λ F h p k f. first f }

@@ -2,7 +2,7 @@
 use Rattle.facts.proofs.Words.{◌≡◌, refl, inl, inr, List, [], ◌∷◌, ◌++◌, true, false≢true, some, none-ne-some, ℕ, ◌<◌, arith, length}
 use Rattle.facts.proofs.Words.{WellFormed}
 use Rattle.facts.specs.{Code, Success, Facts, IrqGrant, fresh, most_clients, most_issued, Register, next_handle, registered as entered, with_card, Wide}
-use Rattle.facts.specs.{Passed, level_added, add_level_checks, add_range_checks, register_client, adjustResourceInfo, requestIrq, requestIo, service_number}
+use Rattle.facts.specs.{Passed, level_added, add_level_checks, add_range_checks, register_client, adjust_resource_info, request_irq, request_io, service_number}
 use Rattle.facts.proofs.{card_formed, level_added_formed}
 use Rattle.layout.specs.{image, Accepted}
 use Rattle.layout.proofs.{image_size}
@@ -40,7 +40,7 @@ abbrev add_range : List ℕ
 add_range = 1 ∷ 1 ∷ ports_added
 
 abbrev adjusts : List ℕ → Event
-adjusts p = call (service_number adjustResourceInfo) 1 p Success 1 p
+adjusts p = call (service_number adjust_resource_info) 1 p Success 1 p
 
 abbrev pub before : List Event
 before = registers 1 ∷ card_in 0 Success ∷ card_in 1 Success ∷ adjusts add_level ∷ adjusts add_range ∷ []
@@ -77,18 +77,18 @@ levelled_formed = level_added_formed carded carded_formed 3 0 level_free
 pub registered : Ours (registers 1) (image (fresh 2)) (image one_client)
 registered = serves two_sockets register_client 0 client_packet (done 1 client_packet one_client) tt cases.n10.0.permitted
 
-card_in_lem : (s : ℕ) (F : Facts) → WellFormed F → s < F.sockets → Ours (card_in s Success) (image F) (image (with_card F s true))
-card_in_lem s F w l =
+card_in_case : (s : ℕ) (F : Facts) → WellFormed F → s < F.sockets → Ours (card_in s Success) (image F) (image (with_card F s true))
+card_in_case s F w l =
     record { code = Success; is = refl; permitted = inl (serving w (with_card F s true) (inr ((λ e. omega (arith, e, l)) then tt, (refl, refl)))) }
 
 level_in : Ours (adjusts add_level) (image carded) (image levelled)
 level_in =
-    serves carded_formed adjustResourceInfo 1 add_level (done 1 add_level levelled) tt
+    serves carded_formed adjust_resource_info 1 add_level (done 1 add_level levelled) tt
     (inr (level_named 1 0 3 (omega arith), inl (refl, inl (refl, inr (level_free, (refl, as_left _))))))
 
 range_in_lem : Ours (adjusts add_range) (image levelled) (image idle)
 range_in_lem =
-    serves levelled_formed adjustResourceInfo 1 add_range (done 1 add_range idle) tt
+    serves levelled_formed adjust_resource_info 1 add_range (done 1 add_range idle) tt
     (inr (range_named ports_added refl, inr (refl, Wide, refl, inl (refl, inr (range_free, (refl, as_left _))))))
   where
     range_free : Passed (add_range_checks levelled 0 0x10000 0 16)
@@ -97,16 +97,16 @@ range_in_lem =
 
 -- what is asked for: the level 3, and the ports 300 to 307
 abbrev pub asks_irq : Event
-asks_irq = call (service_number requestIrq) 1 (for 0 packet_irq) Success 1 (for 0 (irq_naming 3 3))
+asks_irq = call (service_number request_irq) 1 (for 0 packet_irq) Success 1 (for 0 (irq_naming 3 3))
 
 abbrev pub asks_io : Event
-asks_io = call (service_number requestIo) 1 (for 0 packet_io) Success 1 (for 0 packet_io)
+asks_io = call (service_number request_io) 1 (for 0 packet_io) Success 1 (for 0 packet_io)
 
 pub irq_step : Ours asks_irq (image idle) (image irq_held)
-irq_step = serves idle_ready.formed requestIrq 1 (for 0 packet_irq) (done 1 (for 0 (irq_naming 3 3)) irq_held) tt irq_granted
+irq_step = serves idle_ready.formed request_irq 1 (for 0 packet_irq) (done 1 (for 0 (irq_naming 3 3)) irq_held) tt irq_granted
 
 pub io_step : Ours asks_io (image irq_held) (image io_held)
-io_step = serves irq_ready.formed requestIo 1 (for 0 packet_io) (done 1 (for 0 packet_io) io_held) tt io_granted
+io_step = serves irq_ready.formed request_io 1 (for 0 packet_io) (done 1 (for 0 packet_io) io_held) tt io_granted
 
 -- a client more registers, where there is room
 pub register_permitted : (F : Facts) → length F.clients < most_clients → F.issued < most_issued
@@ -152,9 +152,9 @@ set_up K begins es b rest =
     let level-step : Runs K (image carded) (adjusts add_level ∷ adjusts add_range ∷ es) b =
     (tt, image levelled, begins.calls _ _ _ _ _ _ carded levelled carded_formed ungranted level_in, range-step) in
     let card-step : Runs K (image one_card) (card_in 1 Success ∷ adjusts add_level ∷ adjusts add_range ∷ es) b =
-    (tt, image carded, begins.cards _ _ one_card carded one_card_formed ungranted (card_in_lem 1 one_card one_card_formed (omega arith)), level-step) in
+    (tt, image carded, begins.cards _ _ one_card carded one_card_formed ungranted (card_in_case 1 one_card one_card_formed (omega arith)), level-step) in
     let first-card : Runs K (image one_client) (card_in 0 Success ∷ card_in 1 Success ∷ adjusts add_level ∷ adjusts add_range ∷ es) b =
-    (tt, image one_card, begins.cards _ _ one_client one_card one_client_lem.formed ungranted (card_in_lem 0 one_client one_client_lem.formed (omega arith)), card-step) in
+    (tt, image one_card, begins.cards _ _ one_client one_card one_client_lem.formed ungranted (card_in_case 0 one_client one_client_lem.formed (omega arith)), card-step) in
     from_two (begins.makes 2 Success (fresh 2) (fresh 2) two_sockets ungranted made_two) (before ++ es) b
     (tt, image one_client, begins.calls _ _ _ _ _ _ (fresh 2) one_client two_sockets ungranted registered, first-card)
 

@@ -6,10 +6,10 @@ use Rattle.facts.specs.{card_checks, with_card, request_mask_checks, release_mas
 use Rattle.facts.specs.{resource_of, add, remove, first, next, irq_level, io_range, level_given, level_attributes, io_adjust_length, base_given, count_given}
 use Rattle.facts.specs.{attributes_given, lines_given, reserves, add_level_checks, remove_level_checks, show_level_checks, add_range_checks, remove_range_checks}
 use Rattle.facts.specs.{show_range_checks, irq_request_checks, irq_release_checks, io_request_checks, io_release_checks, Service, register_client}
-use Rattle.facts.specs.{deregisterClient, adjustResourceInfo, requestIrq, releaseIrq, requestIo, releaseIo, requestSocketMask, releaseSocketMask}
+use Rattle.facts.specs.{deregister_client, adjust_resource_info, request_irq, release_irq, request_io, release_io, request_socket_mask, release_socket_mask}
 use Rattle.facts.specs.{service_number, rule_of, Call}
 use Rattle.facts.proofs.{code_injective, number_injective, width_one, no_success, none_succeeds, first_not_success, put_same}
-use Rattle.history.specs.{Event, make_fresh, call, card_in, cardOut, boot, sharers, Fact, card, level, range, Made, GivenBack, Makes, GivesBack}
+use Rattle.history.specs.{Event, make_fresh, call, card_in, card_out, boot, sharers, Fact, card, level, range, Made, GivenBack, Makes, GivesBack}
 use Rattle.history.specs.{registration, level_made, range_made, level_back, range_back, Tells}
 use Rattle.history.proofs.Answered.{Rules}
 use Rattle.history.proofs.Turns.{Turns, unturned, turns_as}
@@ -36,59 +36,59 @@ module _ (F : Facts) (h : ℕ) (p : List ℕ) (o : Outcome) (w : WellFormed F) w
   ends v cs t turn (inr r) = inr (r.1.0, turn r.0 r.1.1)
 
   -- AdjustResourceInfo that gives nothing back, and one that makes nothing
-  keeps : action_of p ≢ remove → (f : Fact) → GivenBack h p adjustResourceInfo f → ⊥
+  keeps : action_of p ≢ remove → (f : Fact) → GivenBack h p adjust_resource_info f → ⊥
   keeps d = adjusted_back_only (λ (f : Fact). ⊥) (λ v e i. d i) (λ v x n e i. d i)
 
-  makes_none : action_of p ≢ add → (f : Fact) → Made h p o.handle o.packet adjustResourceInfo f → ⊥
+  makes_none : action_of p ≢ add → (f : Fact) → Made h p o.handle o.packet adjust_resource_info f → ⊥
   makes_none d = adjusted_only (λ (f : Fact). ⊥) (λ e i. d i) (λ x n e i. d i)
 
-  shown : (action_of p ≡ first) ⊎ (action_of p ≡ next) → o.facts ≡ F → TurnsBy adjustResourceInfo o.facts
+  shown : (action_of p ≡ first) ⊎ (action_of p ≡ next) → o.facts ≡ F → TurnsBy adjust_resource_info o.facts
   shown act e =
-      subst (TurnsBy adjustResourceInfo) (sym e)
+      subst (TurnsBy adjust_resource_info) (sym e)
       (unturned F (keeps (λ i. ⊎_elim (λ j. omega (arith, i, j)) (λ j. omega (arith, i, j)) act))
       (makes_none (λ i. ⊎_elim (λ j. omega (arith, i, j)) (λ j. omega (arith, i, j)) act)))
 
-  levels_end : resource_of p ≡ irq_level → AdjustIrq F h p o → Ends adjustResourceInfo
+  levels_end : resource_of p ≡ irq_level → AdjustIrq F h p o → Ends adjust_resource_info
   levels_end irq (inl (act, r)) =
-      ends adjustResourceInfo (add_level_checks F (level_given p) (level_attributes p)) tt
-      (λ passed d. subst (TurnsBy adjustResourceInfo) (sym d.facts)
+      ends adjust_resource_info (add_level_checks F (level_given p) (level_attributes p)) tt
+      (λ passed d. subst (TurnsBy adjust_resource_info) (sym d.facts)
       (level_added_turns F _ _ (keeps (λ i. omega (arith, i, act))) (level_given p) (level_attributes p) passed (level_made irq act)
       (adjusted_only (λ (f : Fact). f ≡ level (level_given p) (reserves (level_attributes p))) (λ e i. refl) (λ x n e i. absurd (omega (arith, e, irq))))))
       r
   levels_end irq (inr (inl (act, r))) =
-      ends adjustResourceInfo (remove_level_checks F (level_given p) (level_attributes p)) tt
-      (λ passed d. subst (TurnsBy adjustResourceInfo) (sym d.facts)
+      ends adjust_resource_info (remove_level_checks F (level_given p) (level_attributes p)) tt
+      (λ passed d. subst (TurnsBy adjust_resource_info) (sym d.facts)
       (level_removed_turns F _ _ (makes_none (λ i. omega (arith, i, act))) (level_given p) (λ v. level_back irq act)
       (adjusted_back_only (λ (f : Fact). (v : Bool) × (f ≡ level (level_given p) v)) (λ v e i. (v, refl)) (λ v x n e i. absurd (omega (arith, e, irq))))))
       r
   levels_end irq (inr (inr (act, r))) =
-      ends adjustResourceInfo (show_level_checks F (action_of p) (level_given p)) tt (λ passed d. shown act d.leaves.facts) r
+      ends adjust_resource_info (show_level_checks F (action_of p) (level_given p)) tt (λ passed d. shown act d.leaves.facts) r
 
   module _ (x : Width) (size : length p ≡ io_adjust_length x) (io : resource_of p ≡ io_range) where
     abbrev given : Width → Bool → Fact
     given y v = range (record { base = base_given y p; count = count_given y p; reserved = v })
 
-    ranges_end : AdjustIo x F h p o → Ends adjustResourceInfo
+    ranges_end : AdjustIo x F h p o → Ends adjust_resource_info
     ranges_end (inl (act, r)) =
-        ends adjustResourceInfo (add_range_checks F (base_given x p) (count_given x p) (attributes_given x p) (lines_given x p)) tt
-        (λ passed d. subst (TurnsBy adjustResourceInfo) (sym d.facts)
+        ends adjust_resource_info (add_range_checks F (base_given x p) (count_given x p) (attributes_given x p) (lines_given x p)) tt
+        (λ passed d. subst (TurnsBy adjust_resource_info) (sym d.facts)
         (range_added_turns F _ _ (keeps (λ i. omega (arith, i, act))) (base_given x p) (count_given x p) (attributes_given x p)
         (range_made x size io act)
         (adjusted_only (λ (f : Fact). f ≡ given x (reserves (attributes_given x p))) (λ e i. absurd (omega (arith, e, io)))
         (λ y n e i. ap (λ (z : Width). given z (reserves (attributes_given z p))) (width_one y x (sym n ∙ size))))))
         r
     ranges_end (inr (inl (act, r))) =
-        ends adjustResourceInfo (remove_range_checks F (base_given x p) (count_given x p) (attributes_given x p) (lines_given x p)) tt
-        (λ passed d. subst (TurnsBy adjustResourceInfo) (sym d.facts)
+        ends adjust_resource_info (remove_range_checks F (base_given x p) (count_given x p) (attributes_given x p) (lines_given x p)) tt
+        (λ passed d. subst (TurnsBy adjust_resource_info) (sym d.facts)
         (range_removed_turns F _ _ (makes_none (λ i. omega (arith, i, act))) (base_given x p) (count_given x p) (attributes_given x p) (lines_given x p) w
         passed (λ v. range_back x size io act)
         (adjusted_back_only (λ (f : Fact). (v : Bool) × (f ≡ given x v)) (λ v e i. absurd (omega (arith, e, io)))
         (λ v y n e i. (v, ap (λ (z : Width). given z v) (width_one y x (sym n ∙ size)))))))
         r
     ranges_end (inr (inr (act, r))) =
-        ends adjustResourceInfo (show_range_checks x F (action_of p) (base_given x p)) tt (λ passed d. shown act d.leaves.facts) r
+        ends adjust_resource_info (show_range_checks x F (action_of p) (base_given x p)) tt (λ passed d. shown act d.leaves.facts) r
 
-  adjust_ends : AdjustResourceInfo F h p o → Ends adjustResourceInfo
+  adjust_ends : AdjustResourceInfo F h p o → Ends adjust_resource_info
   adjust_ends (inl r) = inl (first_not_success (adjust_checks p) o.code (none_succeeds (adjust_checks p) tt) r.0, r.1.facts)
   adjust_ends (inr (passed, inl r)) = levels_end r.0 r.1
   adjust_ends (inr (passed, inr r)) = ranges_end r.1 r.2 r.0 r.3
@@ -97,22 +97,22 @@ module _ (F : Facts) (h : ℕ) (p : List ℕ) (o : Outcome) (w : WellFormed F) w
   service_ends register_client =
       ends register_client (register_checks F p) tt
       (λ passed d. subst (TurnsBy register_client) (sym d.facts) (register_turns F h p o.handle o.packet d.handle))
-  service_ends deregisterClient =
-      ends deregisterClient (deregister_checks F h p) tt
-      (λ passed d. subst (TurnsBy deregisterClient) (sym d.facts) (deregister_turns F h p o.handle o.packet w passed))
-  service_ends adjustResourceInfo = adjust_ends
-  service_ends requestIrq = ends requestIrq (irq_request_checks F h p) tt (request_irq_turns F h p o)
-  service_ends releaseIrq =
-      ends releaseIrq (irq_release_checks F h p) tt (λ passed d. subst (TurnsBy releaseIrq) (sym d.facts) (release_irq_turns F h p o passed))
-  service_ends requestIo = ends requestIo (io_request_checks F h p) tt (request_io_turns F h p o)
-  service_ends releaseIo =
-      ends releaseIo (io_release_checks F h p) tt (λ passed d. subst (TurnsBy releaseIo) (sym d.facts) (release_io_turns F h p o passed))
-  service_ends requestSocketMask =
-      ends requestSocketMask (request_mask_checks F h p) tt
-      (λ passed d. subst (TurnsBy requestSocketMask) (sym d.facts) (request_mask_turns F h p o.handle o.packet passed))
-  service_ends releaseSocketMask =
-      ends releaseSocketMask (release_mask_checks F h p) tt
-      (λ passed d. subst (TurnsBy releaseSocketMask) (sym d.facts) (release_mask_turns F h p o.handle o.packet))
+  service_ends deregister_client =
+      ends deregister_client (deregister_checks F h p) tt
+      (λ passed d. subst (TurnsBy deregister_client) (sym d.facts) (deregister_turns F h p o.handle o.packet w passed))
+  service_ends adjust_resource_info = adjust_ends
+  service_ends request_irq = ends request_irq (irq_request_checks F h p) tt (request_irq_turns F h p o)
+  service_ends release_irq =
+      ends release_irq (irq_release_checks F h p) tt (λ passed d. subst (TurnsBy release_irq) (sym d.facts) (release_irq_turns F h p o passed))
+  service_ends request_io = ends request_io (io_request_checks F h p) tt (request_io_turns F h p o)
+  service_ends release_io =
+      ends release_io (io_release_checks F h p) tt (λ passed d. subst (TurnsBy release_io) (sym d.facts) (release_io_turns F h p o passed))
+  service_ends request_socket_mask =
+      ends request_socket_mask (request_mask_checks F h p) tt
+      (λ passed d. subst (TurnsBy request_socket_mask) (sym d.facts) (request_mask_turns F h p o.handle o.packet passed))
+  service_ends release_socket_mask =
+      ends release_socket_mask (release_mask_checks F h p) tt
+      (λ passed d. subst (TurnsBy release_socket_mask) (sym d.facts) (release_mask_turns F h p o.handle o.packet))
 
 -- how an event turns the facts
 abbrev pub EventTurns : Event → Facts → Facts → Type 0
@@ -168,12 +168,12 @@ card_in_turns s k F G (inr r) =
     (card_turns F s _ _ true (λ f m. subst (Tells (with_card F s true)) (sym m.1) (put_same F.card s true)) (λ f b. absurd b) (λ e. inr refl)
     (λ e. inl (r.1.0, refl)))
 
-card_out_turns : (s : ℕ) (k : Code) (F G : Facts) → CardTo false F s (record { code = k; facts = G }) → EventTurns (cardOut s k) F G
+card_out_turns : (s : ℕ) (k : Code) (F G : Facts) → CardTo false F s (record { code = k; facts = G }) → EventTurns (card_out s k) F G
 card_out_turns s k F G (inl r) =
-    subst (EventTurns (cardOut s k) F) (sym r.1)
+    subst (EventTurns (card_out s k) F) (sym r.1)
     (unturned F (λ f b. first_not_success (card_checks F s) k (none_succeeds (card_checks F s) tt) r.0 b.0) (λ f m. m))
 card_out_turns s k F G (inr r) =
-    subst (EventTurns (cardOut s k) F) (sym r.1.1)
+    subst (EventTurns (card_out s k) F) (sym r.1.1)
     (card_turns F s _ _ false (λ f m. absurd m)
     (λ f b t. false≢true (sym (put_same F.card s false) ∙ subst (Tells (with_card F s false)) b.1 t)) (λ e. inl (r.1.0, refl))
     (λ e. absurd (false≢true e)))
@@ -182,6 +182,6 @@ pub event_turns : (e : Event) (F G : Facts) → WellFormed F → Rules e F G →
 event_turns (make_fresh n k) F G w r = subst (EventTurns (make_fresh n k) F) (sym r) (unturned F (λ f b. b) (λ f m. m))
 event_turns (call n h p k a q) F G w r = call_turns n h p k a q F G w r
 event_turns (card_in s k) F G w r = card_in_turns s k F G r
-event_turns (cardOut s k) F G w r = card_out_turns s k F G r
+event_turns (card_out s k) F G w r = card_out_turns s k F G r
 event_turns (boot b k i) F G w r = bytes_turns F b _ r
 event_turns (sharers l k c) F G w r = subst (EventTurns (sharers l k c) F) (sym r.1) (unturned F (λ f b. b) (λ f m. m))

@@ -3,12 +3,12 @@ use Rattle.facts.proofs.Words.{◌≡◌, refl, ap, sym, ◌∙◌, subst, ◌�
 use Rattle.facts.proofs.Words.{none-ne-some, some-injective, ℕ, ◌+◌, arith, length, WellFormed}
 use Rattle.facts.specs.{Code, Success, GeneralFailure, BadSocket, BadHandle, InUse, number_of, Facts, Client, Level, IrqGrant, fresh, ◌∈◌, byte}
 use Rattle.facts.specs.{with_clients, registered as entered, with_card, with_mask, with_irq, irq_grant, level_asked_lem, assigning, io_grant, Service}
-use Rattle.facts.specs.{register_client, deregisterClient, requestIrq, requestIo, service_number, io_asked, irq_asked}
+use Rattle.facts.specs.{register_client, deregister_client, request_irq, request_io, service_number, io_asked, irq_asked}
 use Rattle.facts.proofs.{put_is, card_formed, irq_formed, mask_formed}
 use Rattle.layout.specs.{image, Accepted}
 use Rattle.facts_cases.specs.{done, refused, one_client, no_client, client_packet}
 use Rattle.facts_cases.proofs.{cases, as_kept, ◌then◌, listed_alone}
-use Rattle.history.specs.{Event, make_fresh, call, card_in, cardOut, boot, sharers, code_in, number_in, Keeper, Ours, card, level, mask, io, irq}
+use Rattle.history.specs.{Event, make_fresh, call, card_in, card_out, boot, sharers, code_in, number_in, Keeper, Ours, card, level, mask, io, irq}
 use Rattle.history.specs.{client_made, io_made, Tells, the_card, the_mask, Exact, Frame, CardOutKeeps, NeverAgain, Number, SharersCounted}
 use Rattle.history.specs.{service, OneOutcome, RefusalKeeps, ExactCodes}
 use Rattle.history.specs.Stands.{Stands}
@@ -26,7 +26,7 @@ abbrev pub At : Service → (ℕ → List ℕ → Code → ℕ → List ℕ → 
 At v W (make_fresh n k) b b' = Ours (make_fresh n k) b b'
 At v W (call n h p k a q) b b' = ((n ≡ service_number v) × W h p k a q b b') ⊎ ((n ≢ service_number v) × Ours (call n h p k a q) b b')
 At v W (card_in s k) b b' = Ours (card_in s k) b b'
-At v W (cardOut s k) b b' = Ours (cardOut s k) b b'
+At v W (card_out s k) b b' = Ours (card_out s k) b b'
 At v W (boot r k i) b b' = Ours (boot r k i) b b'
 At v W (sharers l k c) b b' = Ours (sharers l k c) b b'
 
@@ -34,7 +34,7 @@ abbrev AtCardOut : (ℕ → Code → List ℕ → List ℕ → Type 0) → Keepe
 AtCardOut W (make_fresh n k) b b' = Ours (make_fresh n k) b b'
 AtCardOut W (call n h p k a q) b b' = Ours (call n h p k a q) b b'
 AtCardOut W (card_in s k) b b' = Ours (card_in s k) b b'
-AtCardOut W (cardOut s k) b b' = W s k b b'
+AtCardOut W (card_out s k) b b' = W s k b b'
 AtCardOut W (boot r k i) b b' = Ours (boot r k i) b b'
 AtCardOut W (sharers l k c) b b' = Ours (sharers l k c) b b'
 
@@ -42,7 +42,7 @@ abbrev AtSharers : (ℕ → Code → ℕ → List ℕ → List ℕ → Type 0) �
 AtSharers W (make_fresh n k) b b' = Ours (make_fresh n k) b b'
 AtSharers W (call n h p k a q) b b' = Ours (call n h p k a q) b b'
 AtSharers W (card_in s k) b b' = Ours (card_in s k) b b'
-AtSharers W (cardOut s k) b b' = Ours (cardOut s k) b b'
+AtSharers W (card_out s k) b b' = Ours (card_out s k) b b'
 AtSharers W (boot r k i) b b' = Ours (boot r k i) b b'
 AtSharers W (sharers l k c) b b' = W l k c b b'
 
@@ -84,14 +84,14 @@ once_wrong x =
       (tt, image irq_held, (image io_held, io_step, inr ((accepted irq_ready.formed, 0, _, refl), refl)), refl),
     )) in
     let stands : Stands (before ++ (asks_irq ∷ asks_io ∷ [])) (io 0 (io_grant 1 (io_asked (for 0 packet_io)) 0x300)) =
-    record { earlier = before ++ (asks_irq ∷ []); maker = asks_io; later = []; are = refl; made = (refl, requestIo, refl, io_made); lasts = λ e m. absurd m } in
+    record { earlier = before ++ (asks_irq ∷ []); maker = asks_io; later = []; are = refl; made = (refl, request_io, refl, io_made); lasts = λ e m. absurd m } in
     none-ne-some _ (subst (λ (F : Facts). F.io 0 ≡ some (io_grant 1 (io_asked (for 0 packet_io)) 0x300)) (says irq_ready.formed t.accepted) ((t.tells _).1 stands))
 
 -- "Taking grants away at card out"
 abbrev TakesAway : Keeper
-TakesAway = AtCardOut λ s k b b'. (F : Facts) × Ours (cardOut s k) b (image F) × (b' ≡ image (with_irq F s none))
+TakesAway = AtCardOut λ s k b b'. (F : Facts) × Ours (card_out s k) b (image F) × (b' ≡ image (with_irq F s none))
 
-card_left : {F : Facts} (w : WellFormed F) → Ours (cardOut 0 Success) (image F) (image (with_card F 0 false))
+card_left : {F : Facts} (w : WellFormed F) → Ours (card_out 0 Success) (image F) (image (with_card F 0 false))
 card_left {F} w =
     record { code = Success; is = refl; permitted = inl (serving w (with_card F 0 false) (inr ((λ l. omega (arith, l, w.sockets_least)) then tt, (refl, refl)))) }
 
@@ -134,8 +134,8 @@ meddles_wrong x =
 
 -- a refusal that tidies: a client that is refused to leave loses its masks
 abbrev Tidies : Keeper
-Tidies = At deregisterClient λ h p k a q b b'.
-    (F : Facts) × Ours (call (service_number deregisterClient) h p k a q) b (image F) × (b' ≡ image (with_clients F (with_mask h 0 none F.clients)))
+Tidies = At deregister_client λ h p k a q b b'.
+    (F : Facts) × Ours (call (service_number deregister_client) h p k a q) b (image F) × (b' ≡ image (with_clients F (with_mask h 0 none F.clients)))
 
 abbrev tidied : Facts
 tidied = with_clients busy (with_mask 1 0 none busy.clients)
@@ -144,7 +144,7 @@ tidied_formed : WellFormed tidied
 tidied_formed = mask_formed busy 1 0 none busy_ready.formed (λ e q. absurd (none-ne-some e q))
 
 abbrev leaving : Event
-leaving = call (service_number deregisterClient) 1 [] InUse 0 []
+leaving = call (service_number deregister_client) 1 [] InUse 0 []
 
 tidied_step : Tidies leaving (image busy) (image tidied)
 tidied_step =
@@ -152,7 +152,7 @@ tidied_step =
       refl,
       (
         busy,
-        serves busy_ready.formed deregisterClient 1 [] (refused InUse [] busy) tt
+        serves busy_ready.formed deregister_client 1 [] (refused InUse [] busy) tt
             (inl (
               (omega arith) past (λ e. e busy_ready.live) past here (inl (record { seat = 0; range = _; held = refl; holder = refl })),
               as_kept InUse [] busy,
@@ -183,13 +183,13 @@ tidies_breaks_bytes x =
 
 -- "Writing AssignedIRQ before the last check": it is written, whatever the answer
 abbrev WritesFirst : Keeper
-WritesFirst = At requestIrq λ h p k a q b b'. (r : List ℕ) × Ours (call (service_number requestIrq) h p k a r) b b' × (q ≡ assigning p (level_asked_lem p))
+WritesFirst = At request_irq λ h p k a q b b'. (r : List ℕ) × Ours (call (service_number request_irq) h p k a r) b b' × (q ≡ assigning p (level_asked_lem p))
 
 pub writes_first_wrong : RefusalKeeps WritesFirst → ⊥
 writes_first_wrong x =
-    let step = serves two_sockets requestIrq 1 (for 0 packet_irq) (refused BadHandle (for 0 packet_irq) (fresh 2)) tt
+    let step = serves two_sockets request_irq 1 (for 0 packet_irq) (refused BadHandle (for 0 packet_irq) (fresh 2)) tt
     (inl ((λ e. e refl) past here (λ l. l.listed), as_kept BadHandle (for 0 packet_irq) (fresh 2))) in
-    let kept = x (call (service_number requestIrq) 1 (for 0 packet_irq) BadHandle 0 (for 0 (irq_naming 3 3))) (image (fresh 2)) (image (fresh 2))
+    let kept = x (call (service_number request_irq) 1 (for 0 packet_irq) BadHandle 0 (for 0 (irq_naming 3 3))) (image (fresh 2)) (image (fresh 2))
     (inl (refl, (for 0 packet_irq, step, refl))) (λ e. omega (arith, ap number_of e)) in
     omega (arith, ap (λ (q : List ℕ). byte q 4) kept.1)
 
@@ -206,10 +206,10 @@ Slots = Answers λ F. length F.clients + 1
 -- register, deregister, register
 pub slots_wrong : NeverAgain Slots → ⊥
 slots_wrong x =
-    let left-formed = left one_client_lem.formed deregisterClient 1 [] (done 1 [] no_client) tt cases.n10.1.permitted in
-    let leaves = serves one_client_lem.formed deregisterClient 1 [] (done 1 [] no_client) tt cases.n10.1.permitted in
+    let left-formed = left one_client_lem.formed deregister_client 1 [] (done 1 [] no_client) tt cases.n10.1.permitted in
+    let leaves = serves one_client_lem.formed deregister_client 1 [] (done 1 [] no_client) tt cases.n10.1.permitted in
     let again = serves left-formed register_client 0 client_packet (done 2 client_packet (entered no_client 4 0)) tt cases.n10.2.permitted in
-    (x 2 [] (call (service_number deregisterClient) 1 [] Success 1 [] ∷ registers 1 ∷ []) (registers 1) 1 (image (entered no_client 4 0))
+    (x 2 [] (call (service_number deregister_client) 1 [] Success 1 [] ∷ registers 1 ∷ []) (registers 1) 1 (image (entered no_client 4 0))
     (from_two made_two _ _ (
       tt,
       image one_client,

@@ -4,7 +4,7 @@ use Rattle.facts.proofs.Words.{false≢true, some, none-ne-some, some-injective,
 use Rattle.facts.specs.{Code, Success, BadBase, Exclusive, Facts, Range, IoGrant, IrqGrant, ◌∈◌, with_word, Meet, Overlap, Managed, Together, Holds}
 use Rattle.facts.specs.{type_of, Check, ◌gives◌, Passed, socket_of, RequestIrq, IrqAttributesBad, IrqInfoBad, Fits, Mask, irq_ahead_checks, with_irq}
 use Rattle.facts.specs.{irq_grant, level_asked_lem, manner_asked_lem, assigning, assigned_irq, RequestIo, IoAttributesBad, IoSizeBad, NotAllManaged}
-use Rattle.facts.specs.{io_ahead_checks, with_io, io_grant, base_asked_lem, count_asked_lem, ports_at, Service, requestIrq, requestIo, service_number}
+use Rattle.facts.specs.{io_ahead_checks, with_io, io_grant, base_asked_lem, count_asked_lem, ports_at, Service, request_irq, request_io, service_number}
 use Rattle.facts.specs.{io_asked, irq_asked, Named}
 use Rattle.facts.proofs.{put_is, number_injective, one_named, named_one}
 use Rattle.layout.specs.{image}
@@ -76,14 +76,14 @@ WronglyIo Joins h p k a q b b' =
 
 -- "Comparing ports without the decoded lines"
 abbrev NoLines : Keeper
-NoLines = Also requestIo (WronglyIo λ p g. Overlap (base_asked_lem p) (count_asked_lem p) g.ports.base g.ports.count → ⊥)
+NoLines = Also request_io (WronglyIo λ p g. Overlap (base_asked_lem p) (count_asked_lem p) g.ports.base g.ports.count → ⊥)
 
 -- ports are shared that only the second of two asked to share, or only the first
 abbrev SecondShares : Keeper
-SecondShares = Also requestIo (WronglyIo λ p g. (io_asked p).shared ≡ true)
+SecondShares = Also request_io (WronglyIo λ p g. (io_asked p).shared ≡ true)
 
 abbrev FirstShares : Keeper
-FirstShares = Also requestIo (WronglyIo λ p g. g.shared ≡ true)
+FirstShares = Also request_io (WronglyIo λ p g. g.shared ≡ true)
 
 -- the table on which the client h has the ports that a packet asks for
 abbrev pub io_also : Facts → ℕ → List ℕ → Facts
@@ -92,25 +92,25 @@ io_also F h p = with_io F (socket_of p) (some (io_grant h (io_asked p) (base_ask
 -- two sockets ask for ports, each for a client of its own, and the second is granted them beside the first
 two_ports : (Joins : List ℕ → IoGrant → Type 0) (p p' : List ℕ) → T (all_bytes p) → RequestIo pair 1 p (done 1 p (io_also pair 1 p))
     → Passed (io_ahead_checks (io_also pair 1 p) 2 p' (managed_checks (io_also pair 1 p) p')) → base_asked_lem p' ≢ 0 → Joins p' (io_grant 1 (io_asked p) (base_asked_lem p))
-    → Meet (ports_at (io_asked p) (base_asked_lem p)) (ports_at (io_asked p') (base_asked_lem p')) → PortsApart (Also requestIo (WronglyIo Joins))
+    → Meet (ports_at (io_asked p) (base_asked_lem p)) (ports_at (io_asked p') (base_asked_lem p')) → PortsApart (Also request_io (WronglyIo Joins))
     → ((io_asked p).shared ≡ true) × ((io_asked p').shared ≡ true)
 two_ports Joins p p' bytes granted passed named joins meet x =
     x 2 (before ++ (registers 2 ∷ one ∷ other ∷ [])) (image both) (socket_of p) (socket_of p') (io_grant 1 (io_asked p) (base_asked_lem p)) (io_grant 2 (io_asked p') (base_asked_lem p'))
-    (set_up_two (Also requestIo (WronglyIo Joins)) (also_begins requestIo (WronglyIo Joins)) (one ∷ other ∷ []) (image both) (
+    (set_up_two (Also request_io (WronglyIo Joins)) (also_begins request_io (WronglyIo Joins)) (one ∷ other ∷ []) (image both) (
       tt,
       image (io_also pair 1 p),
-      inl (refl, inl (serves pair_formed requestIo 1 p (done 1 p (io_also pair 1 p)) bytes granted)),
+      inl (refl, inl (serves pair_formed request_io 1 p (done 1 p (io_also pair 1 p)) bytes granted)),
       (tt, image both, inl (refl, inr (io_also pair 1 p, refl, passed, named, held, refl, refl, refl, refl)), refl),
     ))
-    (first_stands (before ++ (registers 2 ∷ [])) one other _ (refl, requestIo, refl, io_made)
-    (keeps_all requestIo 2 p' Success 2 p' (request_io_keeps (λ (f : Fact). ⊥)) _))
-    (second_stands (before ++ (registers 2 ∷ [])) one other _ (refl, requestIo, refl, io_made)) (λ e. omega (arith, ap client_in e)) meet
+    (first_stands (before ++ (registers 2 ∷ [])) one other _ (refl, request_io, refl, io_made)
+    (keeps_all request_io 2 p' Success 2 p' (request_io_keeps (λ (f : Fact). ⊥)) _))
+    (second_stands (before ++ (registers 2 ∷ [])) one other _ (refl, request_io, refl, io_made)) (λ e. omega (arith, ap client_in e)) meet
   where
     one : Event
-    one = call (service_number requestIo) 1 p Success 1 p
+    one = call (service_number request_io) 1 p Success 1 p
 
     other : Event
-    other = call (service_number requestIo) 2 p' Success 2 p'
+    other = call (service_number request_io) 2 p' Success 2 p'
 
     both : Facts
     both = io_also (io_also pair 1 p) 2 p'
@@ -203,7 +203,7 @@ no_lines_wrong x =
 
 -- 300 to 307, which each of the two asks to share or not
 at_300 : (Joins : List ℕ → IoGrant → Type 0) (a a' : ℕ) → a ≤ 1 → a' ≤ 1 → T (all_bytes (for 0 (eight 0x00 0x03 a 16)))
-    → Joins (for 1 (eight 0x00 0x03 a' 16)) (io_grant 1 (io_asked (for 0 (eight 0x00 0x03 a 16))) 0x300) → PortsApart (Also requestIo (WronglyIo Joins))
+    → Joins (for 1 (eight 0x00 0x03 a' 16)) (io_grant 1 (io_asked (for 0 (eight 0x00 0x03 a 16))) 0x300) → PortsApart (Also request_io (WronglyIo Joins))
     → ((io_asked (for 0 (eight 0x00 0x03 a 16))).shared ≡ true) × ((io_asked (for 1 (eight 0x00 0x03 a' 16))).shared ≡ true)
 at_300 Joins a a' l l' bytes joins =
     let names = eight_names 0 0x00 0x03 a 16 l (omega arith) (omega arith) (omega arith) (omega arith) (omega arith) in
@@ -226,15 +226,15 @@ WronglyIrq Joins h p k a q b b' =
 
 -- "Letting Exclusive join a shared level when its count is one"
 abbrev JoinsOne : Keeper
-JoinsOne = Also requestIrq (WronglyIrq λ F p. (s t : ℕ) (g g' : IrqGrant) → Holds F (level_asked_lem p) s g → Holds F (level_asked_lem p) t g' → s ≡ t)
+JoinsOne = Also request_irq (WronglyIrq λ F p. (s t : ℕ) (g g' : IrqGrant) → Holds F (level_asked_lem p) s g → Holds F (level_asked_lem p) t g' → s ≡ t)
 
 -- all that share go together
 abbrev AnySharing : Keeper
-AnySharing = Also requestIrq (WronglyIrq λ F p. (manner_asked_lem p ≢ Exclusive) × ((s : ℕ) (g : IrqGrant) → Holds F (level_asked_lem p) s g → g.manner ≢ Exclusive))
+AnySharing = Also request_irq (WronglyIrq λ F p. (manner_asked_lem p ≢ Exclusive) × ((s : ℕ) (g : IrqGrant) → Holds F (level_asked_lem p) s g → g.manner ≢ Exclusive))
 
 -- equal manners go together, exclusive too
 abbrev EqualManners : Keeper
-EqualManners = Also requestIrq (WronglyIrq λ F p. (s : ℕ) (g : IrqGrant) → Holds F (level_asked_lem p) s g → g.manner ≡ manner_asked_lem p)
+EqualManners = Also request_irq (WronglyIrq λ F p. (s : ℕ) (g : IrqGrant) → Holds F (level_asked_lem p) s g → g.manner ≡ manner_asked_lem p)
 
 -- RequestIRQ's packet that names the level 3 alone: the socket, the attributes' low byte, IRQInfo1
 abbrev asking : ℕ → ℕ → ℕ → List ℕ
@@ -286,14 +286,14 @@ module _ (t i : ℕ) where
 
 -- and joins the first, so the two manners would have to go together
 two_levels_lem : (Joins : Facts → List ℕ → Type 0) (t i t' i' : ℕ) → AsksThree 0 t i → AsksThree 1 t' i' → T (all_bytes (asking 0 t i))
-    → Joins (irq_also pair 1 (asking 0 t i)) (asking 1 t' i') → LevelsApart (Also requestIrq (WronglyIrq Joins))
+    → Joins (irq_also pair 1 (asking 0 t i)) (asking 1 t' i') → LevelsApart (Also request_irq (WronglyIrq Joins))
     → Together (manner_asked_lem (asking 0 t i)) (manner_asked_lem (asking 1 t' i'))
 two_levels_lem Joins t i t' i' a a' bytes joins x =
     x 2 (before ++ (registers 2 ∷ one ∷ other ∷ [])) (image both) 0 1 _ _
-    (set_up_two (Also requestIrq (WronglyIrq Joins)) (also_begins requestIrq (WronglyIrq Joins)) (one ∷ other ∷ []) (image both) (
+    (set_up_two (Also request_irq (WronglyIrq Joins)) (also_begins request_irq (WronglyIrq Joins)) (one ∷ other ∷ []) (image both) (
       tt,
       image first,
-      inl (refl, inl (serves pair_formed requestIrq 1 p (done 1 q first) bytes (first_three t i a))),
+      inl (refl, inl (serves pair_formed request_irq 1 p (done 1 q first) bytes (first_three t i a))),
       (
         tt,
         image both,
@@ -301,9 +301,9 @@ two_levels_lem Joins t i t' i' a a' bytes joins x =
         refl,
       ),
     ))
-    (first_stands (before ++ (registers 2 ∷ [])) one other _ (refl, requestIrq, refl, irq_made)
-    (keeps_all requestIrq 2 p' Success 2 q' (request_irq_keeps (λ (f : Fact). ⊥)) _))
-    (second_stands (before ++ (registers 2 ∷ [])) one other _ (refl, requestIrq, refl, irq_made)) (λ e. omega (arith, ap client_in e))
+    (first_stands (before ++ (registers 2 ∷ [])) one other _ (refl, request_irq, refl, irq_made)
+    (keeps_all request_irq 2 p' Success 2 q' (request_irq_keeps (λ (f : Fact). ⊥)) _))
+    (second_stands (before ++ (registers 2 ∷ [])) one other _ (refl, request_irq, refl, irq_made)) (λ e. omega (arith, ap client_in e))
     (a.assigned ∙ sym (ap (λ (l : ℕ). assigned_irq (assigning p' l)) a'.three ∙ a'.assigned))
   where
     p : List ℕ
@@ -319,10 +319,10 @@ two_levels_lem Joins t i t' i' a a' bytes joins x =
     q' = assigning (asking 1 t' i') (level_asked_lem (asking 1 t' i'))
 
     one : Event
-    one = call (service_number requestIrq) 1 (asking 0 t i) Success 1 (assigning (asking 0 t i) 3)
+    one = call (service_number request_irq) 1 (asking 0 t i) Success 1 (assigning (asking 0 t i) 3)
 
     other : Event
-    other = call (service_number requestIrq) 2 (asking 1 t' i') Success 2 (assigning (asking 1 t' i') (level_asked_lem (asking 1 t' i')))
+    other = call (service_number request_irq) 2 (asking 1 t' i') Success 2 (assigning (asking 1 t' i') (level_asked_lem (asking 1 t' i')))
 
     first : Facts
     first = irq_also pair 1 (asking 0 t i)

@@ -4,17 +4,17 @@ use Rattle.facts.proofs.Words.{◌+◌, ◌<◌, add-zero, arith, length, WellFo
 use Rattle.facts.specs.{Code, Success, Record, Width, Facts, IoGrant, IrqGrant, ◌∈◌, Meet, Together, type_of, client_attributes, client_events}
 use Rattle.facts.specs.{socket_of, events_asked, action_of, resource_of, add, remove, first, next, irq_level, io_range, level_given, io_adjust_length}
 use Rattle.facts.specs.{base_given, count_given, level_attributes, attributes_given, reserves, assigned_irq, type_asked_lem, base_asked_lem, io_grant, io_asked}
-use Rattle.facts.specs.{count_asked_lem, records_in, Service, register_client, deregisterClient, adjustResourceInfo, requestIrq}
-use Rattle.facts.specs.{releaseIrq, requestIo, releaseIo, requestSocketMask, releaseSocketMask, service_number, most_sockets, irq_grant, irq_asked}
+use Rattle.facts.specs.{count_asked_lem, records_in, Service, register_client, deregister_client, adjust_resource_info, request_irq}
+use Rattle.facts.specs.{release_irq, request_io, release_io, request_socket_mask, release_socket_mask, service_number, most_sockets, irq_grant, irq_asked}
 use Rattle.facts.proofs.{in_right, number_injective}
 use Rattle.layout.specs.{image, Accepted}
-use Rattle.history.specs.{Event, make_fresh, call, card_in, cardOut, boot, sharers, Keeper, Ours, GoesOn, Runs, FromFresh, Fact, client, mask}
+use Rattle.history.specs.{Event, make_fresh, call, card_in, card_out, boot, sharers, Keeper, Ours, GoesOn, Runs, FromFresh, Fact, client, mask}
 use Rattle.history.specs.{level, range, card, io, irq, Made, GivenBack, Recorded, Makes, GivesBack, StandsSince, Registers, registration}
 use Rattle.history.specs.{registrations, client_made, mask_made, level_made, range_made, io_made, irq_made, level_recorded, range_recorded}
 use Rattle.history.specs.{client_back, mask_back, level_back, range_back, io_back, irq_back, Tells, TellsExactly, Name, the_client, the_mask}
-use Rattle.history.specs.{the_level, the_range, the_card, the-io, the-irq, the_issued, the-sockets, name_of, NamedBy, Framed, register_client_lem}
-use Rattle.history.specs.{register_issued, deregister, request_mask, release_mask, adjust_level, adjust_range, request_io, release_io}
-use Rattle.history.specs.{request_irq, release_irq, Exact, ExactSince, Frame, CardOutKeeps, NeverAgain, OneGrant, PortsApart, LevelsApart}
+use Rattle.history.specs.{the_level, the_range, the_card, the_io, the_irq, the_issued, the_sockets, name_of, NamedBy, Framed, register_client_named}
+use Rattle.history.specs.{register_issued, deregister, request_mask, release_mask, adjust_level, adjust_range, request_io_named, release_io_named}
+use Rattle.history.specs.{request_irq_named, release_irq_named, Exact, ExactSince, Frame, CardOutKeeps, NeverAgain, OneGrant, PortsApart, LevelsApart}
 use Rattle.history.specs.{Once, Number, SharersCounted}
 use Rattle.history.specs.Stands.{Stands}
 use Rattle.history.specs.Names.{Names}
@@ -86,20 +86,20 @@ module _ (n : ℕ) (es : List Event) (b : List ℕ) (from : FromFresh Ours n es 
 -- what a service that succeeds may give back, and nothing else
 abbrev pub may_give_back : ℕ → List ℕ → Service → Fact → Type 0
 may_give_back h p register_client f = ⊥
-may_give_back h p deregisterClient f = (attributes events : ℕ) × (f ≡ client h attributes events)
-may_give_back h p adjustResourceInfo f =
+may_give_back h p deregister_client f = (attributes events : ℕ) × (f ≡ client h attributes events)
+may_give_back h p adjust_resource_info f =
     (action_of p ≡ remove) × (v : Bool)
     × (((resource_of p ≡ irq_level) × (f ≡ level (level_given p) v))
     ⊎ ((resource_of p ≡ io_range)
     × ((w : Width) × (length p ≡ io_adjust_length w) × (f ≡ range (record { base = base_given w p; count = count_given w p; reserved = v })))))
-may_give_back h p requestIrq f = ⊥
-may_give_back h p releaseIrq f =
+may_give_back h p request_irq f = ⊥
+may_give_back h p release_irq f =
     (g : IrqGrant) × (f ≡ irq (socket_of p) g) × (g.client ≡ h) × (g.level ≡ assigned_irq p) × (type_of g.manner ≡ type_asked_lem p)
-may_give_back h p requestIo f = ⊥
-may_give_back h p releaseIo f =
+may_give_back h p request_io f = ⊥
+may_give_back h p release_io f =
     (g : IoGrant) × (f ≡ io (socket_of p) g) × (g.client ≡ h) × (g.ports.base ≡ base_asked_lem p) × (g.ports.count ≡ count_asked_lem p)
-may_give_back h p requestSocketMask f = ⊥
-may_give_back h p releaseSocketMask f = (events : ℕ) × (f ≡ mask h (socket_of p) events)
+may_give_back h p request_socket_mask f = ⊥
+may_give_back h p release_socket_mask f = (events : ℕ) × (f ≡ mask h (socket_of p) events)
 
 back_only : {h : ℕ} {p : List ℕ} (v : Service) (f : Fact) → GivenBack h p v f → may_give_back h p v f
 back_only v f client_back = (_, _, refl)
@@ -126,9 +126,9 @@ module _ (n : ℕ) (es : List Event) (b : List ℕ) (from : FromFresh Ours n es 
   pub exact_card_in_takes_wrong : (s : ℕ) (k : Code) → Exact (Besides (card_in s k) b (image G)) → ⊥
   exact_card_in_takes_wrong s k = exact_lost_wrong n es b from (card_in s k) tt w f stood (λ back. back) gone
 
-  pub exact_card_out_takes_wrong : (s : ℕ) (k : Code) → (k ≢ Success) ⊎ (f ≢ card s) → Exact (Besides (cardOut s k) b (image G)) → ⊥
+  pub exact_card_out_takes_wrong : (s : ℕ) (k : Code) → (k ≢ Success) ⊎ (f ≢ card s) → Exact (Besides (card_out s k) b (image G)) → ⊥
   exact_card_out_takes_wrong s k other =
-      exact_lost_wrong n es b from (cardOut s k) tt w f stood (λ back. ⊎_elim (λ d. d back.0) (λ d. d back.1) other) gone
+      exact_lost_wrong n es b from (card_out s k) tt w f stood (λ back. ⊎_elim (λ d. d back.0) (λ d. d back.1) other) gone
 
   pub exact_boot_takes_wrong : (r : List ℕ) (k : Code) (i : ℕ) → Exact (Besides (boot r k i) b (image G)) → ⊥
   exact_boot_takes_wrong r k i = exact_lost_wrong n es b from (boot r k i) tt w f stood (λ back. back) gone
@@ -139,43 +139,43 @@ module _ (n : ℕ) (es : List Event) (b : List ℕ) (from : FromFresh Ours n es 
 -- what a service that succeeds makes, and that it gives back all that it may: nothing more has to hold of what it was given
 abbrev pub must_make : ℕ → List ℕ → ℕ → List ℕ → Service → Fact → Type 0
 must_make h p a q register_client f = f ≡ client a (client_attributes p) (client_events p)
-must_make h p a q deregisterClient f = ⊥
-must_make h p a q adjustResourceInfo f =
+must_make h p a q deregister_client f = ⊥
+must_make h p a q adjust_resource_info f =
     (action_of p ≡ add)
     × (((resource_of p ≡ irq_level) × (f ≡ level (level_given p) (reserves (level_attributes p))))
     ⊎ ((resource_of p ≡ io_range)
     × ((w : Width) × (length p ≡ io_adjust_length w)
     × (f ≡ range (record { base = base_given w p; count = count_given w p; reserved = reserves (attributes_given w p) })))))
-must_make h p a q requestIrq f = f ≡ irq (socket_of p) (irq_grant h (irq_asked p) (assigned_irq q))
-must_make h p a q releaseIrq f = ⊥
-must_make h p a q requestIo f = f ≡ io (socket_of p) (io_grant h (io_asked p) (base_asked_lem q))
-must_make h p a q releaseIo f = ⊥
-must_make h p a q requestSocketMask f = f ≡ mask h (socket_of p) (events_asked p)
-must_make h p a q releaseSocketMask f = ⊥
+must_make h p a q request_irq f = f ≡ irq (socket_of p) (irq_grant h (irq_asked p) (assigned_irq q))
+must_make h p a q release_irq f = ⊥
+must_make h p a q request_io f = f ≡ io (socket_of p) (io_grant h (io_asked p) (base_asked_lem q))
+must_make h p a q release_io f = ⊥
+must_make h p a q request_socket_mask f = f ≡ mask h (socket_of p) (events_asked p)
+must_make h p a q release_socket_mask f = ⊥
 
 made_all : (h : ℕ) (p : List ℕ) (a : ℕ) (q : List ℕ) (v : Service) (f : Fact) → must_make h p a q v f → Made h p a q v f
 made_all h p a q register_client f e = subst (Made h p a q register_client) (sym e) client_made
-made_all h p a q deregisterClient f m = absurd m
-made_all h p a q adjustResourceInfo f (act, inl (is, e)) = subst (Made h p a q adjustResourceInfo) (sym e) (level_made is act)
-made_all h p a q adjustResourceInfo f (act, inr (is, (w, n, e))) = subst (Made h p a q adjustResourceInfo) (sym e) (range_made w n is act)
-made_all h p a q requestIrq f e = subst (Made h p a q requestIrq) (sym e) irq_made
-made_all h p a q releaseIrq f m = absurd m
-made_all h p a q requestIo f e = subst (Made h p a q requestIo) (sym e) io_made
-made_all h p a q releaseIo f m = absurd m
-made_all h p a q requestSocketMask f e = subst (Made h p a q requestSocketMask) (sym e) mask_made
-made_all h p a q releaseSocketMask f m = absurd m
+made_all h p a q deregister_client f m = absurd m
+made_all h p a q adjust_resource_info f (act, inl (is, e)) = subst (Made h p a q adjust_resource_info) (sym e) (level_made is act)
+made_all h p a q adjust_resource_info f (act, inr (is, (w, n, e))) = subst (Made h p a q adjust_resource_info) (sym e) (range_made w n is act)
+made_all h p a q request_irq f e = subst (Made h p a q request_irq) (sym e) irq_made
+made_all h p a q release_irq f m = absurd m
+made_all h p a q request_io f e = subst (Made h p a q request_io) (sym e) io_made
+made_all h p a q release_io f m = absurd m
+made_all h p a q request_socket_mask f e = subst (Made h p a q request_socket_mask) (sym e) mask_made
+made_all h p a q release_socket_mask f m = absurd m
 
 back_all : (h : ℕ) (p : List ℕ) (v : Service) (f : Fact) → may_give_back h p v f → GivenBack h p v f
 back_all h p register_client f m = absurd m
-back_all h p deregisterClient f (x, y, e) = subst (GivenBack h p deregisterClient) (sym e) client_back
-back_all h p adjustResourceInfo f (act, v, inl (is, e)) = subst (GivenBack h p adjustResourceInfo) (sym e) (level_back is act)
-back_all h p adjustResourceInfo f (act, v, inr (is, (w, n, e))) = subst (GivenBack h p adjustResourceInfo) (sym e) (range_back w n is act)
-back_all h p requestIrq f m = absurd m
-back_all h p releaseIrq f (g, e, holder, number, type) = subst (GivenBack h p releaseIrq) (sym e) (irq_back holder number type)
-back_all h p requestIo f m = absurd m
-back_all h p releaseIo f (g, e, holder, base, count) = subst (GivenBack h p releaseIo) (sym e) (io_back holder base count)
-back_all h p requestSocketMask f m = absurd m
-back_all h p releaseSocketMask f (x, e) = subst (GivenBack h p releaseSocketMask) (sym e) mask_back
+back_all h p deregister_client f (x, y, e) = subst (GivenBack h p deregister_client) (sym e) client_back
+back_all h p adjust_resource_info f (act, v, inl (is, e)) = subst (GivenBack h p adjust_resource_info) (sym e) (level_back is act)
+back_all h p adjust_resource_info f (act, v, inr (is, (w, n, e))) = subst (GivenBack h p adjust_resource_info) (sym e) (range_back w n is act)
+back_all h p request_irq f m = absurd m
+back_all h p release_irq f (g, e, holder, number, type) = subst (GivenBack h p release_irq) (sym e) (irq_back holder number type)
+back_all h p request_io f m = absurd m
+back_all h p release_io f (g, e, holder, base, count) = subst (GivenBack h p release_io) (sym e) (io_back holder base count)
+back_all h p request_socket_mask f m = absurd m
+back_all h p release_socket_mask f (x, e) = subst (GivenBack h p release_socket_mask) (sym e) mask_back
 
 -- so an event that only says that it made or gave something back is wrong: a service, a boot list, card in, card out
 module _ (n : ℕ) (es : List Event) (b : List ℕ) (from : FromFresh Ours n es b) {G : Facts} (w : WellFormed G) where
@@ -201,8 +201,8 @@ module _ (n : ℕ) (es : List Event) (b : List ℕ) (from : FromFresh Ours n es 
   pub card_in_unmade_wrong : (s : ℕ) → (Tells G (card s) → ⊥) → Exact (Besides (card_in s Success) b (image G)) → ⊥
   card_in_unmade_wrong s = exact_missing_wrong n es b from (card_in s Success) tt w (card s) (refl, refl)
 
-  pub card_out_kept_wrong : (s : ℕ) → Tells G (card s) → Exact (Besides (cardOut s Success) b (image G)) → ⊥
-  card_out_kept_wrong s = exact_stays_wrong n es b from (cardOut s Success) tt w (card s) (refl, refl) (λ m. m)
+  pub card_out_kept_wrong : (s : ℕ) → Tells G (card s) → Exact (Besides (card_out s Success) b (image G)) → ⊥
+  card_out_kept_wrong s = exact_stays_wrong n es b from (card_out s Success) tt w (card s) (refl, refl) (λ m. m)
 
 -- ReleaseIO by a stranger, with another base or with another count; ReleaseIRQ by a stranger, with another level or with another type
 io_own : {h : ℕ} {p : List ℕ} (v : Service) (s : ℕ) (g : IoGrant) → GivenBack h p v (io s g)
@@ -217,17 +217,17 @@ module _ (n : ℕ) (es : List Event) (b : List ℕ) (from : FromFresh Ours n es 
     (s : ℕ) where
   pub io_strange_wrong : (g : IoGrant) → Stands es (io s g) → (Tells G (io s g) → ⊥)
       → (g.client ≢ h) ⊎ (g.ports.base ≢ base_asked_lem p) ⊎ (g.ports.count ≢ count_asked_lem p)
-      → Exact (Besides (call (service_number releaseIo) h p Success a q) b (image G)) → ⊥
+      → Exact (Besides (call (service_number release_io) h p Success a q) b (image G)) → ⊥
   io_strange_wrong g stood gone other =
-      exact_lost_wrong n es b from (call (service_number releaseIo) h p Success a q) tt w (io s g) stood
+      exact_lost_wrong n es b from (call (service_number release_io) h p Success a q) tt w (io s g) stood
       (λ back. let own = io_own back.1 s g back.3 in
       ⊎_elim (λ d. d own.0) (⊎_elim (λ d. d own.1) (λ d. d own.2)) other) gone
 
   pub irq_strange_wrong : (g : IrqGrant) → Stands es (irq s g) → (Tells G (irq s g) → ⊥)
       → (g.client ≢ h) ⊎ (g.level ≢ assigned_irq p) ⊎ (type_of g.manner ≢ type_asked_lem p)
-      → Exact (Besides (call (service_number releaseIrq) h p Success a q) b (image G)) → ⊥
+      → Exact (Besides (call (service_number release_irq) h p Success a q) b (image G)) → ⊥
   irq_strange_wrong g stood gone other =
-      exact_lost_wrong n es b from (call (service_number releaseIrq) h p Success a q) tt w (irq s g) stood
+      exact_lost_wrong n es b from (call (service_number release_irq) h p Success a q) tt w (irq s g) stood
       (λ back. let own = irq_own back.1 s g back.3 in
       ⊎_elim (λ d. d own.0) (⊎_elim (λ d. d own.1) (λ d. d own.2)) other) gone
 
@@ -292,20 +292,20 @@ module _ (e : Event) {F : Facts} (w : WellFormed F) where
     pub frame_issued_wrong : (Names e the_issued → ⊥) → F.issued ≢ G.issued → Frame (Besides e (image F) (image G)) → ⊥
     frame_issued_wrong unnamed d x = d ((framed x the_issued unnamed).issued refl)
 
-    pub frame_sockets_wrong : (Names e the-sockets → ⊥) → F.sockets ≢ G.sockets → Frame (Besides e (image F) (image G)) → ⊥
-    frame_sockets_wrong unnamed d x = d ((framed x the-sockets unnamed).sockets refl)
+    pub frame_sockets_wrong : (Names e the_sockets → ⊥) → F.sockets ≢ G.sockets → Frame (Besides e (image F) (image G)) → ⊥
+    frame_sockets_wrong unnamed d x = d ((framed x the_sockets unnamed).sockets refl)
 
 -- what each service that succeeds may name, and nothing else
 abbrev pub may_name : ℕ → List ℕ → ℕ → Service → List Name
 may_name h p a register_client = the_client a ∷ the_issued ∷ []
-may_name h p a deregisterClient = the_client h ∷ []
-may_name h p a adjustResourceInfo = []
-may_name h p a requestIrq = the-irq (socket_of p) ∷ []
-may_name h p a releaseIrq = the-irq (socket_of p) ∷ []
-may_name h p a requestIo = the-io (socket_of p) ∷ []
-may_name h p a releaseIo = the-io (socket_of p) ∷ []
-may_name h p a requestSocketMask = the_mask h (socket_of p) ∷ []
-may_name h p a releaseSocketMask = the_mask h (socket_of p) ∷ []
+may_name h p a deregister_client = the_client h ∷ []
+may_name h p a adjust_resource_info = []
+may_name h p a request_irq = the_irq (socket_of p) ∷ []
+may_name h p a release_irq = the_irq (socket_of p) ∷ []
+may_name h p a request_io = the_io (socket_of p) ∷ []
+may_name h p a release_io = the_io (socket_of p) ∷ []
+may_name h p a request_socket_mask = the_mask h (socket_of p) ∷ []
+may_name h p a release_socket_mask = the_mask h (socket_of p) ∷ []
 
 -- AdjustResourceInfo: the level or the range that it was given, where it adds or removes
 pub record Adjusts (p : List ℕ) (x : Name) : Type 0 where
@@ -313,28 +313,28 @@ pub record Adjusts (p : List ℕ) (x : Name) : Type 0 where
   pub named : ((resource_of p ≡ irq_level) × (x ≡ the_level (level_given p)))
       ⊎ ((resource_of p ≡ io_range) × ((w : Width) × (length p ≡ io_adjust_length w) × (x ≡ the_range (base_given w p))))
 
-named_only : {h : ℕ} {p : List ℕ} {a : ℕ} (v : Service) (x : Name) → NamedBy h p a v x → (x ∈ may_name h p a v) ⊎ ((v ≡ adjustResourceInfo) × Adjusts p x)
-named_only v x register_client_lem = inl (inl refl)
+named_only : {h : ℕ} {p : List ℕ} {a : ℕ} (v : Service) (x : Name) → NamedBy h p a v x → (x ∈ may_name h p a v) ⊎ ((v ≡ adjust_resource_info) × Adjusts p x)
+named_only v x register_client_named = inl (inl refl)
 named_only v x register_issued = inl (inr (inl refl))
 named_only v x deregister = inl (inl refl)
 named_only v x request_mask = inl (inl refl)
 named_only v x release_mask = inl (inl refl)
 named_only v x (adjust_level e act) = inr (refl, record { action = act; named = inl (e, refl) })
 named_only v x (adjust_range w n e act) = inr (refl, record { action = act; named = inr (e, (w, n, refl)) })
-named_only v x request_io = inl (inl refl)
-named_only v x release_io = inl (inl refl)
-named_only v x request_irq = inl (inl refl)
-named_only v x release_irq = inl (inl refl)
+named_only v x request_io_named = inl (inl refl)
+named_only v x release_io_named = inl (inl refl)
+named_only v x request_irq_named = inl (inl refl)
+named_only v x release_irq_named = inl (inl refl)
 
 -- a service that succeeds names nothing else
 pub unnamed : (v : Service) (h : ℕ) (p : List ℕ) (k : Code) (a : ℕ) (q : List ℕ) (x : Name) → (x ∈ may_name h p a v → ⊥)
-    → ((v ≡ adjustResourceInfo) × Adjusts p x → ⊥) → Names (call (service_number v) h p k a q) x → ⊥
+    → ((v ≡ adjust_resource_info) × Adjusts p x → ⊥) → Names (call (service_number v) h p k a q) x → ⊥
 unnamed v h p k a q x other adjusts m =
     ⊎_elim other adjusts (named_only v x (subst (λ (u : Service). NamedBy h p a u x) (number_injective m.1 v m.2) m.3))
 
 -- so one that changes another fact besides is wrong, whichever it is
 module _ (v : Service) (h : ℕ) (p : List ℕ) (a : ℕ) (q : List ℕ) {F G : Facts} (w : WellFormed F) (w' : WellFormed G) (f : Fact)
-    (other : name_of f ∈ may_name h p a v → ⊥) (adjusts : (v ≡ adjustResourceInfo) × Adjusts p (name_of f) → ⊥) where
+    (other : name_of f ∈ may_name h p a v → ⊥) (adjusts : (v ≡ adjust_resource_info) × Adjusts p (name_of f) → ⊥) where
   pub success_takes_wrong : Tells F f → (Tells G f → ⊥) → Frame (Besides (call (service_number v) h p Success a q) (image F) (image G)) → ⊥
   success_takes_wrong = frame_lost_wrong (call (service_number v) h p Success a q) w w' f (unnamed v h p Success a q (name_of f) other adjusts)
 
@@ -347,9 +347,9 @@ module _ {F G : Facts} (w : WellFormed F) (w' : WellFormed G) (f : Fact) (had : 
   refusal_takes_wrong n h p k a q refused = frame_lost_wrong (call n h p k a q) w w' f (λ m. refused m.0) had gone
 
   pub showing_takes_wrong : (h : ℕ) (p : List ℕ) (k : Code) (a : ℕ) (q : List ℕ) → (action_of p ≡ first) ⊎ (action_of p ≡ next)
-      → Frame (Besides (call (service_number adjustResourceInfo) h p k a q) (image F) (image G)) → ⊥
+      → Frame (Besides (call (service_number adjust_resource_info) h p k a q) (image F) (image G)) → ⊥
   showing_takes_wrong h p k a q shows =
-      frame_lost_wrong (call (service_number adjustResourceInfo) h p k a q) w w' f (showing_names_none h p k a q shows (name_of f)) had gone
+      frame_lost_wrong (call (service_number adjust_resource_info) h p k a q) w w' f (showing_names_none h p k a q shows (name_of f)) had gone
 
   pub question_takes_wrong : (l c : ℕ) (k : Code) → Frame (Besides (sharers l k c) (image F) (image G)) → ⊥
   question_takes_wrong l c k = frame_lost_wrong (sharers l k c) w w' f (λ m. m) had gone
@@ -357,8 +357,8 @@ module _ {F G : Facts} (w : WellFormed F) (w' : WellFormed G) (f : Fact) (had : 
   pub card_in_takes_wrong : (s : ℕ) (k : Code) → (k ≢ Success) ⊎ (name_of f ≢ the_card s) → Frame (Besides (card_in s k) (image F) (image G)) → ⊥
   card_in_takes_wrong s k other = frame_lost_wrong (card_in s k) w w' f (λ m. ⊎_elim (λ d. d m.0) (λ d. d m.1) other) had gone
 
-  pub card_out_takes_wrong : (s : ℕ) (k : Code) → (k ≢ Success) ⊎ (name_of f ≢ the_card s) → Frame (Besides (cardOut s k) (image F) (image G)) → ⊥
-  card_out_takes_wrong s k other = frame_lost_wrong (cardOut s k) w w' f (λ m. ⊎_elim (λ d. d m.0) (λ d. d m.1) other) had gone
+  pub card_out_takes_wrong : (s : ℕ) (k : Code) → (k ≢ Success) ⊎ (name_of f ≢ the_card s) → Frame (Besides (card_out s k) (image F) (image G)) → ⊥
+  card_out_takes_wrong s k other = frame_lost_wrong (card_out s k) w w' f (λ m. ⊎_elim (λ d. d m.0) (λ d. d m.1) other) had gone
 
   pub boot_takes_wrong : (r : List ℕ) (k : Code) (i : ℕ)
       → ((x : Record) → x ∈ records_in i r → (g : Fact) → Recorded x g → name_of g ≢ name_of f)
@@ -370,15 +370,15 @@ module _ {F G : Facts} (w : WellFormed F) (w' : WellFormed G) (f : Fact) (had : 
 
 -- CardOutKeeps: card out, at any socket, takes another fact away or adds one
 module _ (s : ℕ) (k : Code) {F G : Facts} (w : WellFormed F) (w' : WellFormed G) (f : Fact) (other : f ≢ card s) where
-  kept : CardOutKeeps (Besides (cardOut s k) (image F) (image G)) → Tells F f ↔ Tells G f
+  kept : CardOutKeeps (Besides (card_out s k) (image F) (image G)) → Tells F f ↔ Tells G f
   kept x =
       between w w' (λ (H I : Facts). (g : Fact) → g ≢ card s → Tells H g ↔ Tells I g)
-      (x s k (image F) (image G) (accepted w) (besides (cardOut s k) (image F) (image G))) f other
+      (x s k (image F) (image G) (accepted w) (besides (card_out s k) (image F) (image G))) f other
 
-  pub card_out_loses_wrong : Tells F f → (Tells G f → ⊥) → CardOutKeeps (Besides (cardOut s k) (image F) (image G)) → ⊥
+  pub card_out_loses_wrong : Tells F f → (Tells G f → ⊥) → CardOutKeeps (Besides (card_out s k) (image F) (image G)) → ⊥
   card_out_loses_wrong had gone x = gone ((kept x).0 had)
 
-  pub card_out_adds_wrong : (Tells F f → ⊥) → Tells G f → CardOutKeeps (Besides (cardOut s k) (image F) (image G)) → ⊥
+  pub card_out_adds_wrong : (Tells F f → ⊥) → Tells G f → CardOutKeeps (Besides (card_out s k) (image F) (image G)) → ⊥
   card_out_adds_wrong never has x = never ((kept x).1 has)
 
 -- NeverAgain: whatever packets register, a handle is answered again, or 0

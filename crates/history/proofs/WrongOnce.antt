@@ -3,11 +3,11 @@
 use Rattle.facts.proofs.Words.{◌≡◌, refl, subst, ◌⊎◌, inl, inr, ◌≢◌, List, [], ◌∷◌, ℕ, ◌+◌, ◌*◌, ◌<◌, arith, length, WellFormed}
 use Rattle.facts.specs.{Code, Success, BadBase, BadIrq, GeneralFailure, InUse, number_of, Facts, ◌∈◌, Passed, Fits, NoLevelFits, assigned_irq}
 use Rattle.facts.specs.{irq_ahead_checks, NotAllManaged, InTheWay, Candidate, NoCandidate, base_asked_lem, io_ahead_checks, record_size, records_in}
-use Rattle.facts.specs.{records_added, Service, requestIrq, requestIo, service_number, Serves, all_levels, most_ranges, io_asked, irq_asked}
+use Rattle.facts.specs.{records_added, Service, request_irq, request_io, service_number, Serves, all_levels, most_ranges, io_asked, irq_asked}
 use Rattle.facts.proofs.{code_byte}
 use Rattle.layout.specs.{image, Accepted}
-use Rattle.history.specs.{Event, given, code_in, make_fresh, call, card_in, cardOut, boot, sharers, Keeper, Ours, Fact, Makes, Tells, Between}
-use Rattle.history.specs.{Asked, service, no_service, card_in_lem, card_out, boot-list, sharers-of, fresh-table, codes_of, CanGive, OneOutcome}
+use Rattle.history.specs.{Event, given, code_in, make_fresh, call, card_in, card_out, boot, sharers, Keeper, Ours, Fact, Makes, Tells, Between}
+use Rattle.history.specs.{Asked, service, no_service, card_in_case, card_out_case, boot_list, sharers_of, fresh_table, codes_of, CanGive, OneOutcome}
 use Rattle.history.specs.{AddsRecords, RefusalKeeps, Unformed, UnformedRefused, Stays, BootPlaces, RefusedExactly, ExactCodes, TheCodes}
 use Rattle.history.specs.{fifteen}
 use Rattle.history.proofs.Giving.{accepted}
@@ -39,8 +39,8 @@ other_call_wrong n h p k k' a a' q q' b b₁ b₂ = other_outcome_wrong (call n 
 pub other_card_in_wrong : (s : ℕ) (k k' : Code) → OtherWrong (card_in s k) (card_in s k')
 other_card_in_wrong s k k' b b₁ b₂ = other_outcome_wrong (card_in s k) (card_in s k') b b₁ b₂ refl
 
-pub other_card_out_wrong : (s : ℕ) (k k' : Code) → OtherWrong (cardOut s k) (cardOut s k')
-other_card_out_wrong s k k' b b₁ b₂ = other_outcome_wrong (cardOut s k) (cardOut s k') b b₁ b₂ refl
+pub other_card_out_wrong : (s : ℕ) (k k' : Code) → OtherWrong (card_out s k) (card_out s k')
+other_card_out_wrong s k k' b b₁ b₂ = other_outcome_wrong (card_out s k) (card_out s k') b b₁ b₂ refl
 
 pub other_boot_wrong : (r : List ℕ) (k k' : Code) (i i' : ℕ) → OtherWrong (boot r k i) (boot r k' i')
 other_boot_wrong r k k' i i' b b₁ b₂ = other_outcome_wrong (boot r k i) (boot r k' i') b b₁ b₂ refl
@@ -62,8 +62,8 @@ module _ (k : Code) (refused : k ≢ Success) (b b' : List ℕ) where
   pub card_in_writes_wrong : (s : ℕ) → b' ≢ b → RefusalKeeps (Besides (card_in s k) b b') → ⊥
   card_in_writes_wrong s d x = d (x _ b b' (besides (card_in s k) b b') refused)
 
-  pub card_out_writes_wrong : (s : ℕ) → b' ≢ b → RefusalKeeps (Besides (cardOut s k) b b') → ⊥
-  card_out_writes_wrong s d x = d (x _ b b' (besides (cardOut s k) b b') refused)
+  pub card_out_writes_wrong : (s : ℕ) → b' ≢ b → RefusalKeeps (Besides (card_out s k) b b') → ⊥
+  card_out_writes_wrong s d x = d (x _ b b' (besides (card_out s k) b b') refused)
 
   pub fresh_writes_wrong : (n : ℕ) → b' ≢ b → RefusalKeeps (Besides (make_fresh n k) b b') → ⊥
   fresh_writes_wrong n d x = d (x _ b b' (besides (make_fresh n k) b b') refused)
@@ -113,7 +113,7 @@ unformed_code : (e : Event) → ((n : ℕ) (k : Code) → e ≢ make_fresh n k) 
 unformed_code (make_fresh n k) other u = absurd (other n k refl)
 unformed_code (call n h p k a q) other u = u
 unformed_code (card_in s k) other u = u
-unformed_code (cardOut s k) other u = u
+unformed_code (card_out s k) other u = u
 unformed_code (boot r k i) other u = u.0
 unformed_code (sharers l k c) other u = u
 
@@ -146,10 +146,10 @@ module _ (r : List ℕ) (i : ℕ) (b b' : List ℕ) where
 -- one fits, granted a level that doesn't fit
 module _ (h : ℕ) (p : List ℕ) (a : ℕ) (q b b' : List ℕ) (t : Accepted b) (passed : Passed (irq_ahead_checks t.facts h p [])) where
   abbrev AnswersIrq : Code → Keeper
-  AnswersIrq k = Besides (call (service_number requestIrq) h p k a q) b b'
+  AnswersIrq k = Besides (call (service_number request_irq) h p k a q) b b'
 
-  answers_irq : (k : Code) → AnswersIrq k (call (service_number requestIrq) h p k a q) b b'
-  answers_irq k = besides (call (service_number requestIrq) h p k a q) b b'
+  answers_irq : (k : Code) → AnswersIrq k (call (service_number request_irq) h p k a q) b b'
+  answers_irq k = besides (call (service_number request_irq) h p k a q) b b'
 
   pub unfit_granted_wrong : NoLevelFits t.facts (irq_asked p) → RefusedExactly (AnswersIrq Success) → ⊥
   unfit_granted_wrong none x = (x.irq h p Success a q b b' t passed (answers_irq Success)).1 none refl
@@ -168,10 +168,10 @@ module _ (h : ℕ) (p : List ℕ) (a : ℕ) (q b b' : List ℕ) (t : Accepted b)
 
 module _ (h : ℕ) (p : List ℕ) (a : ℕ) (q b b' : List ℕ) (t : Accepted b) (passed : Passed (io_ahead_checks t.facts h p [])) where
   abbrev AnswersIo : Code → Keeper
-  AnswersIo k = Besides (call (service_number requestIo) h p k a q) b b'
+  AnswersIo k = Besides (call (service_number request_io) h p k a q) b b'
 
-  answers_io : (k : Code) → AnswersIo k (call (service_number requestIo) h p k a q) b b'
-  answers_io k = besides (call (service_number requestIo) h p k a q) b b'
+  answers_io : (k : Code) → AnswersIo k (call (service_number request_io) h p k a q) b b'
+  answers_io k = besides (call (service_number request_io) h p k a q) b b'
 
   -- RequestIO with a named base: granted although it isn't all managed or a grant is in the way, refused although neither is so; BAD_BASE although
   -- all is managed, another code where it isn't; IN_USE where it isn't all managed or nothing is in the way, another code where something is;
@@ -220,20 +220,20 @@ module _ (h : ℕ) (p : List ℕ) (a : ℕ) (q b b' : List ℕ) (t : Accepted b)
 abbrev answer : Asked → Code → Event
 answer (service v) k = call (service_number v) 0 [] k 0 []
 answer no_service k = call 0 0 [] k 0 []
-answer card_in_lem k = card_in 0 k
-answer card_out k = cardOut 0 k
-answer boot-list k = boot [] k 0
-answer sharers-of k = sharers 0 k 0
-answer fresh-table k = make_fresh 0 k
+answer card_in_case k = card_in 0 k
+answer card_out_case k = card_out 0 k
+answer boot_list k = boot [] k 0
+answer sharers_of k = sharers 0 k 0
+answer fresh_table k = make_fresh 0 k
 
 gives_more : (x : Asked) (k : Code) → CanGive (Besides (answer x k) [] []) x k
 gives_more (service v) k = (0, 0, [], [], [], [], besides (answer (service v) k) [] [])
 gives_more no_service k = (0, 0, 0, [], [], [], [], none_serves, besides (answer no_service k) [] [])
-gives_more card_in_lem k = (0, [], [], besides (answer card_in_lem k) [] [])
-gives_more card_out k = (0, [], [], besides (answer card_out k) [] [])
-gives_more boot-list k = ([], [], [], 0, besides (answer boot-list k) [] [])
-gives_more sharers-of k = (0, 0, [], [], besides (answer sharers-of k) [] [])
-gives_more fresh-table k = (0, [], [], besides (answer fresh-table k) [] [])
+gives_more card_in_case k = (0, [], [], besides (answer card_in_case k) [] [])
+gives_more card_out_case k = (0, [], [], besides (answer card_out_case k) [] [])
+gives_more boot_list k = ([], [], [], 0, besides (answer boot_list k) [] [])
+gives_more sharers_of k = (0, 0, [], [], besides (answer sharers_of k) [] [])
+gives_more fresh_table k = (0, [], [], besides (answer fresh_table k) [] [])
 
 pub code_more_wrong : (x : Asked) (k : Code) → (k ∈ codes_of x → ⊥) → ExactCodes (Besides (answer x k) [] []) → ⊥
 code_more_wrong x k unlisted y = unlisted ((y x k).1 (gives_more x k))
@@ -242,11 +242,11 @@ code_more_wrong x k unlisted y = unlisted ((y x k).1 (gives_more x k))
 pub data Of : Asked → Event → Type 0 where
   of_service : {v : Service} {h a : ℕ} {p q : List ℕ} {k : Code} → Of (service v) (call (service_number v) h p k a q)
   of_none : {n h a : ℕ} {p q : List ℕ} {k : Code} → (Serves n → ⊥) → Of no_service (call n h p k a q)
-  of_card_in : {s : ℕ} {k : Code} → Of card_in_lem (card_in s k)
-  of_card_out : {s : ℕ} {k : Code} → Of card_out (cardOut s k)
-  of_boot : {r : List ℕ} {k : Code} {i : ℕ} → Of boot-list (boot r k i)
-  of_sharers : {l c : ℕ} {k : Code} → Of sharers-of (sharers l k c)
-  of_fresh : {n : ℕ} {k : Code} → Of fresh-table (make_fresh n k)
+  of_card_in : {s : ℕ} {k : Code} → Of card_in_case (card_in s k)
+  of_card_out : {s : ℕ} {k : Code} → Of card_out_case (card_out s k)
+  of_boot : {r : List ℕ} {k : Code} {i : ℕ} → Of boot_list (boot r k i)
+  of_sharers : {l c : ℕ} {k : Code} → Of sharers_of (sharers l k c)
+  of_fresh : {n : ℕ} {k : Code} → Of fresh_table (make_fresh n k)
 
 abbrev Never : Asked → Code → Keeper
 Never x k e b b' = Ours e b b' × (Of x e → code_in e ≢ k)
@@ -254,11 +254,11 @@ Never x k e b b' = Ours e b b' × (Of x e → code_in e ≢ k)
 never_gives : (x : Asked) (k : Code) → CanGive (Never x k) x k → ⊥
 never_gives (service v) k (h, a, p, q, b, b', (ours, never)) = never of_service refl
 never_gives no_service k (n, h, a, p, q, b, b', none, (ours, never)) = never (of_none none) refl
-never_gives card_in_lem k (s, b, b', (ours, never)) = never of_card_in refl
-never_gives card_out k (s, b, b', (ours, never)) = never of_card_out refl
-never_gives boot-list k (r, b, b', i, (ours, never)) = never of_boot refl
-never_gives sharers-of k (l, c, b, b', (ours, never)) = never of_sharers refl
-never_gives fresh-table k (n, b, b', (ours, never)) = never of_fresh refl
+never_gives card_in_case k (s, b, b', (ours, never)) = never of_card_in refl
+never_gives card_out_case k (s, b, b', (ours, never)) = never of_card_out refl
+never_gives boot_list k (r, b, b', i, (ours, never)) = never of_boot refl
+never_gives sharers_of k (l, c, b, b', (ours, never)) = never of_sharers refl
+never_gives fresh_table k (n, b, b', (ours, never)) = never of_fresh refl
 
 pub code_missing_wrong : (x : Asked) (k : Code) → k ∈ codes_of x → ExactCodes (Never x k) → ⊥
 code_missing_wrong x k listed y = never_gives x k ((y x k).0 listed)

@@ -2,14 +2,14 @@
 use Rattle.facts.proofs.Words.{◌≡◌, refl, ap, sym, ◌∙◌, subst, inl, inr, ⊎_elim, List, [], ◌∷◌, ◌++◌, true, false, true≢false, none, some}
 use Rattle.facts.proofs.Words.{none-ne-some, ℕ, arith, WellFormed}
 use Rattle.facts.specs.{Code, Success, Facts, Client, Level, IoGrant, IrqGrant, fresh, with_clients, registered as entered, with_mask, level_added}
-use Rattle.facts.specs.{with_level, with_irq, irq_grant, RequestIo, with_io, io_grant, Service, register_client, adjustResourceInfo, requestIrq, requestIo}
-use Rattle.facts.specs.{releaseIo, service_number, io_asked, irq_asked}
+use Rattle.facts.specs.{with_level, with_irq, irq_grant, RequestIo, with_io, io_grant, Service, register_client, adjust_resource_info, request_irq, request_io}
+use Rattle.facts.specs.{release_io, service_number, io_asked, irq_asked}
 use Rattle.facts.proofs.{put_is, number_injective, fresh_formed, level_formed, io_formed, irq_formed, mask_formed, level_added_formed}
 use Rattle.layout.specs.{image}
 use Rattle.facts_cases.specs.{done, one_client, client_packet}
 use Rattle.facts_cases.proofs.{◌then◌}
 use Rattle.history.specs.{Event, call, sharers, Ours, FromFresh, Fact, mask, level, io, irq, Made, Makes, io_made, io_back, irq_made, Tells}
-use Rattle.history.specs.{Name, the_client, the_mask, the_level, the_range, the_card, the-io, the-irq, the_issued, the-sockets, name_of, Exact}
+use Rattle.history.specs.{Name, the_client, the_mask, the_level, the_range, the_card, the_io, the_irq, the_issued, the_sockets, name_of, Exact}
 use Rattle.history.specs.{ExactSince, Frame, OneGrant, PortsApart, LevelsApart, SharersCounted}
 use Rattle.history.specs.Stands.{Stands}
 use Rattle.history.proofs.Inverse.{release_io_makes_none, request_io_keeps, request_irq_keeps}
@@ -34,10 +34,10 @@ name_kind (the_mask h s) = 1
 name_kind (the_level l) = 2
 name_kind (the_range b) = 3
 name_kind (the_card s) = 4
-name_kind (the-io s) = 5
-name_kind (the-irq s) = 6
+name_kind (the_io s) = 5
+name_kind (the_irq s) = 6
 name_kind the_issued = 7
-name_kind the-sockets = 8
+name_kind the_sockets = 8
 
 abbrev number_named : Name → ℕ
 number_named (the_client h) = h
@@ -45,15 +45,15 @@ number_named (the_mask h s) = h
 number_named (the_level l) = l
 number_named (the_range b) = b
 number_named (the_card s) = s
-number_named (the-io s) = s
-number_named (the-irq s) = s
+number_named (the_io s) = s
+number_named (the_irq s) = s
 number_named the_issued = 0
-number_named the-sockets = 0
+number_named the_sockets = 0
 
 -- Frame: a granted RequestIO that takes the socket's IRQ grant
 pub io_takes_irq_wrong : Frame (Besides asks_io (image irq_held) (image (with_irq io_held 0 none))) → ⊥
 io_takes_irq_wrong =
-    success_takes_wrong requestIo 1 (for 0 packet_io) 1 (for 0 packet_io) irq_ready.formed
+    success_takes_wrong request_io 1 (for 0 packet_io) 1 (for 0 packet_io) irq_ready.formed
     (irq_formed io_held io_ready.formed 0 none (λ g e. absurd (none-ne-some g e)) (λ t g g' d e. absurd (none-ne-some g e)))
     (irq 0 (irq_grant 1 (irq_asked (for 0 packet_irq)) 3)) (⊎_elim (λ e. omega (arith, ap name_kind e)) absurd) (λ e. omega (arith, ap service_number e.0)) refl
     (λ e. none-ne-some _ e)
@@ -88,9 +88,9 @@ add_five = 1 ∷ 2 ∷ 0 ∷ 5 ∷ []
 abbrev reserving : Facts
 reserving = with_level (level_added idle 5 0) 3 (record { managed = true; reserved = true })
 
-pub add_reserves_another_wrong : Frame (Besides (call (service_number adjustResourceInfo) 1 add_five Success 1 add_five) (image idle) (image reserving)) → ⊥
+pub add_reserves_another_wrong : Frame (Besides (call (service_number adjust_resource_info) 1 add_five Success 1 add_five) (image idle) (image reserving)) → ⊥
 add_reserves_another_wrong =
-    success_takes_wrong adjustResourceInfo 1 add_five 1 add_five idle_ready.formed
+    success_takes_wrong adjust_resource_info 1 add_five 1 add_five idle_ready.formed
     (level_formed (level_added idle 5 0) (level_added_formed idle idle_ready.formed 5 0 ((λ e. e (inl refl)) then (omega arith) then (λ e. true≢false (sym e)) then tt)) 3
     (record { managed = true; reserved = true }) (omega arith) (λ e. refl) (λ s g e at. refl))
     (level 3 false) (λ m. m)
@@ -107,13 +107,13 @@ granted_both =
     set_up Ours ours_begins (asks_irq ∷ asks_io ∷ []) (image io_held) (tt, image irq_held, irq_step, (tt, image io_held, io_step, refl))
 
 abbrev gives_io : ℕ → Event
-gives_io h = call (service_number releaseIo) h (for 0 packet_io) Success h (for 0 packet_io)
+gives_io h = call (service_number release_io) h (for 0 packet_io) Success h (for 0 packet_io)
 
 pub release_says_so_wrong : Exact (Besides (gives_io 1) (image io_held) (image io_held)) → ⊥
 release_says_so_wrong =
     exact_stays_wrong 2 (before ++ (asks_irq ∷ asks_io ∷ [])) (image io_held) granted_both (gives_io 1) tt io_ready.formed
-    (io 0 (io_grant 1 (io_asked (for 0 packet_io)) 0x300)) (refl, releaseIo, refl, io_back refl refl refl)
-    (makes_none_of releaseIo 1 (for 0 packet_io) Success 1 (for 0 packet_io) (release_io_makes_none (λ (f : Fact). ⊥)) _) refl
+    (io 0 (io_grant 1 (io_asked (for 0 packet_io)) 0x300)) (refl, release_io, refl, io_back refl refl refl)
+    (makes_none_of release_io 1 (for 0 packet_io) Success 1 (for 0 packet_io) (release_io_makes_none (λ (f : Fact). ⊥)) _) refl
 
 -- Exact: the client 2 gives back what the client 1 holds
 abbrev held : Facts
@@ -126,16 +126,16 @@ held_permitted =
 held_granted : FromFresh Ours 2 (before ++ (registers 2 ∷ asks_io ∷ [])) (image held)
 held_granted =
     set_up_two Ours ours_begins (asks_io ∷ []) (image held)
-    (tt, image held, serves pair_formed requestIo 1 (for 0 packet_io) (done 1 (for 0 packet_io) held) tt held_permitted, refl)
+    (tt, image held, serves pair_formed request_io 1 (for 0 packet_io) (done 1 (for 0 packet_io) held) tt held_permitted, refl)
 
 held_formed : WellFormed held
-held_formed = left pair_formed requestIo 1 (for 0 packet_io) (done 1 (for 0 packet_io) held) tt held_permitted
+held_formed = left pair_formed request_io 1 (for 0 packet_io) (done 1 (for 0 packet_io) held) tt held_permitted
 
 pub stranger_releases_wrong : Exact (Besides (gives_io 2) (image held) (image (with_io held 0 none))) → ⊥
 stranger_releases_wrong =
     io_strange_wrong 2 (before ++ (registers 2 ∷ asks_io ∷ [])) (image held) held_granted 2 (for 0 packet_io) 2 (for 0 packet_io)
     (io_formed held held_formed 0 none (λ g e. absurd (none-ne-some g e)) (λ t g g' d e. absurd (none-ne-some g e))) 0
-    (io_grant 1 (io_asked (for 0 packet_io)) 0x300) (last_stands _ (before ++ (registers 2 ∷ [])) asks_io (inl (refl, requestIo, refl, io_made)))
+    (io_grant 1 (io_asked (for 0 packet_io)) 0x300) (last_stands _ (before ++ (registers 2 ∷ [])) asks_io (inl (refl, request_io, refl, io_made)))
     (λ e. none-ne-some _ e) (inl (omega arith))
 
 -- Exact: a question that makes a socket more
@@ -152,19 +152,19 @@ abbrev log : List Event
 log = before ++ (asks_irq ∷ asks_io ∷ [])
 
 abbrev asks_io_again : Event
-asks_io_again = call (service_number requestIo) 1 (for 0 (io_at 0x08 0x03)) Success 1 (for 0 (io_at 0x08 0x03))
+asks_io_again = call (service_number request_io) 1 (for 0 (io_at 0x08 0x03)) Success 1 (for 0 (io_at 0x08 0x03))
 
 abbrev asks_irq_again : Event
-asks_irq_again = call (service_number requestIrq) 1 (for 0 packet_irq) Success 1 (for 0 (irq_naming 3 5))
+asks_irq_again = call (service_number request_irq) 1 (for 0 packet_irq) Success 1 (for 0 (irq_naming 3 5))
 
 io_stands : Stands log (io 0 (io_grant 1 (io_asked (for 0 packet_io)) 0x300))
-io_stands = last_stands _ (before ++ (asks_irq ∷ [])) asks_io (inl (refl, requestIo, refl, io_made))
+io_stands = last_stands _ (before ++ (asks_irq ∷ [])) asks_io (inl (refl, request_io, refl, io_made))
 
 irq_stands : Stands log (irq 0 (irq_grant 1 (irq_asked (for 0 packet_irq)) 3))
 irq_stands =
     last_stands _ (before ++ (asks_irq ∷ [])) asks_io (inr (
-      last_stands _ before asks_irq (inl (refl, requestIrq, refl, irq_made)),
-      keeps_all requestIo 1 (for 0 packet_io) Success 1 (for 0 packet_io) (request_io_keeps (λ (f : Fact). ⊥)) _,
+      last_stands _ before asks_irq (inl (refl, request_irq, refl, irq_made)),
+      keeps_all request_io 1 (for 0 packet_io) Success 1 (for 0 packet_io) (request_io_keeps (λ (f : Fact). ⊥)) _,
     ))
 
 pub second_io_wrong : OneGrant (Besides asks_io_again (image io_held) (image io_held)) → ⊥
@@ -173,8 +173,8 @@ second_io_wrong =
     (io_grant 1 (io_asked (for 0 (io_at 0x08 0x03))) 0x308)
     (record {
       stood = io_stands;
-      kept = keeps_all requestIo 1 (for 0 (io_at 0x08 0x03)) Success 1 (for 0 (io_at 0x08 0x03)) (request_io_keeps (λ (f : Fact). ⊥)) _;
-      made = (refl, requestIo, refl, io_made);
+      kept = keeps_all request_io 1 (for 0 (io_at 0x08 0x03)) Success 1 (for 0 (io_at 0x08 0x03)) (request_io_keeps (λ (f : Fact). ⊥)) _;
+      made = (refl, request_io, refl, io_made);
     })
     (λ e. omega (arith, ap (λ (g : IoGrant). g.ports.base) e))
 
@@ -183,25 +183,25 @@ second_irq_wrong =
     two_irqs_wrong 2 log (image io_held) granted_both asks_irq_again tt (image io_held) 0 (irq_grant 1 (irq_asked (for 0 packet_irq)) 3) (irq_grant 1 (irq_asked (for 0 packet_irq)) 5)
     (record {
       stood = irq_stands;
-      kept = keeps_all requestIrq 1 (for 0 packet_irq) Success 1 (for 0 (irq_naming 3 5)) (request_irq_keeps (λ (f : Fact). ⊥)) _;
-      made = (refl, requestIrq, refl, irq_made);
+      kept = keeps_all request_irq 1 (for 0 packet_irq) Success 1 (for 0 (irq_naming 3 5)) (request_irq_keeps (λ (f : Fact). ⊥)) _;
+      made = (refl, request_irq, refl, irq_made);
     })
     (λ e. omega (arith, ap (λ (g : IrqGrant). g.level) e))
 
 -- PortsApart, LevelsApart: the socket 1 is granted the ports, or the level, that the socket 0 has for itself
 abbrev asks_io_too : Event
-asks_io_too = call (service_number requestIo) 1 (for 1 packet_io) Success 1 (for 1 packet_io)
+asks_io_too = call (service_number request_io) 1 (for 1 packet_io) Success 1 (for 1 packet_io)
 
 abbrev asks_irq_too : Event
-asks_irq_too = call (service_number requestIrq) 1 (for 1 packet_irq) Success 1 (for 1 (irq_naming 3 3))
+asks_irq_too = call (service_number request_irq) 1 (for 1 packet_irq) Success 1 (for 1 (irq_naming 3 3))
 
 pub same_ports_wrong : PortsApart (Besides asks_io_too (image io_held) (image io_held)) → ⊥
 same_ports_wrong =
     ports_unshared_wrong 2 log (image io_held) granted_both asks_io_too tt (image io_held) 0 1 (io_grant 1 (io_asked (for 0 packet_io)) 0x300) (io_grant 1 (io_asked (for 1 packet_io)) 0x300)
     (record {
       stood = io_stands;
-      kept = keeps_all requestIo 1 (for 1 packet_io) Success 1 (for 1 packet_io) (request_io_keeps (λ (f : Fact). ⊥)) _;
-      made = (refl, requestIo, refl, io_made);
+      kept = keeps_all request_io 1 (for 1 packet_io) Success 1 (for 1 packet_io) (request_io_keeps (λ (f : Fact). ⊥)) _;
+      made = (refl, request_io, refl, io_made);
     })
     (λ e. omega (arith, ap (λ (f : Fact). number_named (name_of f)) e))
     (record { one = 0x300; other = 0x300; one_in = omega arith; other_in = omega arith; equal = refl }) (λ both. true≢false (sym both.0))
@@ -211,8 +211,8 @@ same_level_wrong =
     level_unshared_wrong 2 log (image io_held) granted_both asks_irq_too tt (image io_held) 0 1 (irq_grant 1 (irq_asked (for 0 packet_irq)) 3) (irq_grant 1 (irq_asked (for 1 packet_irq)) 3)
     (record {
       stood = irq_stands;
-      kept = keeps_all requestIrq 1 (for 1 packet_irq) Success 1 (for 1 (irq_naming 3 3)) (request_irq_keeps (λ (f : Fact). ⊥)) _;
-      made = (refl, requestIrq, refl, irq_made);
+      kept = keeps_all request_irq 1 (for 1 packet_irq) Success 1 (for 1 (irq_naming 3 3)) (request_irq_keeps (λ (f : Fact). ⊥)) _;
+      made = (refl, request_irq, refl, irq_made);
     })
     (λ e. omega (arith, ap (λ (f : Fact). number_named (name_of f)) e)) refl (λ together. together.shares refl)
 

@@ -8,7 +8,7 @@ use Rattle.facts.specs.Sets.{◌∈◌}
 use Rattle.facts.specs.Ports.{Meet}
 use Rattle.facts.specs.Levels.{Together}
 use Rattle.layout.specs.Sound.{Accepted}
-use Rattle.history.specs.Events.{Event, Keeper, Runs, FromFresh, cardOut, sharers}
+use Rattle.history.specs.Events.{Event, Keeper, Runs, FromFresh, card_out, sharers}
 use Rattle.history.specs.Stands.{Fact, card, io, irq, Stands, StandsSince, Registers, registrations}
 use Rattle.history.specs.Tables.{Tells, TellsExactly, Between}
 use Rattle.history.specs.Names.{Framed}
@@ -31,7 +31,7 @@ Frame K = (e : Event) (b b' : List ℕ) → Accepted b → K e b b' → Between 
 -- "Card out takes no grant or mask away.": every fact but the card itself reads as before
 abbrev pub CardOutKeeps : Keeper → Type 0
 CardOutKeeps K =
-    (s : ℕ) (k : Code) (b b' : List ℕ) → Accepted b → K (cardOut s k) b b'
+    (s : ℕ) (k : Code) (b b' : List ℕ) → Accepted b → K (card_out s k) b b'
     → Between b b' (λ (F G : Facts). (f : Fact) → f ≢ card s → Tells F f ↔ Tells G f)
 
 -- "each issued once in a table's life; 0 is never live": a handle registered isn't 0, and no later event registers it
@@ -80,7 +80,7 @@ pub record Demand3 (K : Keeper) : Type 0 where
   pub exact : Exact K
   pub exact_since : ExactSince K
   pub frame : Frame K
-  pub card_out : CardOutKeeps K
+  pub card_out_case : CardOutKeeps K
   pub never_again : NeverAgain K
   pub sharers_counted : SharersCounted K
   pub one_grant : OneGrant K

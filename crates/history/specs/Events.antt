@@ -12,7 +12,7 @@ pub data Event : Type 0 where
   make_fresh : (sockets : ℕ) (code : Code) → Event
   -- a service was called, and left the packet given as another
   call : (number handle : ℕ) (packet : List ℕ) (code : Code) (answered : ℕ) (left : List ℕ) → Event
-  card_in cardOut : (socket : ℕ) (code : Code) → Event
+  card_in card_out : (socket : ℕ) (code : Code) → Event
   -- a boot list of these bytes
   boot : (records : List ℕ) (code : Code) (place : ℕ) → Event
   -- the number of sharers of a level was asked for
@@ -23,7 +23,7 @@ abbrev pub given : Event → Given
 given (make_fresh n k) = entry.make_fresh n
 given (call n h p k a q) = entry.call n h p
 given (card_in s k) = entry.card_in s
-given (cardOut s k) = entry.cardOut s
+given (card_out s k) = entry.card_out s
 given (boot r k i) = entry.boot r
 given (sharers l k c) = entry.sharers l
 
@@ -32,7 +32,7 @@ abbrev pub code_in : Event → Code
 code_in (make_fresh n k) = k
 code_in (call n h p k a q) = k
 code_in (card_in s k) = k
-code_in (cardOut s k) = k
+code_in (card_out s k) = k
 code_in (boot r k i) = k
 code_in (sharers l k c) = k
 
@@ -41,7 +41,7 @@ abbrev pub number_in : Event → ℕ
 number_in (make_fresh n k) = number_of k
 number_in (call n h p k a q) = packed k a
 number_in (card_in s k) = number_of k
-number_in (cardOut s k) = number_of k
+number_in (card_out s k) = number_of k
 number_in (boot r k i) = placed k i
 number_in (sharers l k c) = packed k c
 
@@ -54,7 +54,7 @@ abbrev pub Ours : Keeper
 Ours (make_fresh n k) b b' = FreshAnswers n b b' (number_in (make_fresh n k))
 Ours (call n h p k a q) b b' = CallAnswers n h b b' p q (number_in (call n h p k a q))
 Ours (card_in s k) b b' = CardAnswers true s b b' (number_in (card_in s k))
-Ours (cardOut s k) b b' = CardAnswers false s b b' (number_in (cardOut s k))
+Ours (card_out s k) b b' = CardAnswers false s b b' (number_in (card_out s k))
 Ours (boot r k i) b b' = BootAnswers r b b' (number_in (boot r k i))
 Ours (sharers l k c) b b' = SharersAnswers l b (number_in (sharers l k c)) × (b' ≡ b)
 
@@ -73,7 +73,7 @@ abbrev pub CardInCame : ℕ → List ℕ → List ℕ → ℕ → Type 0
 CardInCame s b b' r = (k : Code) × Came r b b' (card_in s k)
 
 abbrev pub CardOutCame : ℕ → List ℕ → List ℕ → ℕ → Type 0
-CardOutCame s b b' r = (k : Code) × Came r b b' (cardOut s k)
+CardOutCame s b b' r = (k : Code) × Came r b b' (card_out s k)
 
 abbrev pub BootCame : List ℕ → List ℕ → List ℕ → ℕ → Type 0
 BootCame rs b b' r = (k : Code) × (i : ℕ) × Came r b b' (boot rs k i)
@@ -95,7 +95,7 @@ abbrev pub GoesOn : Event → Type 0
 GoesOn (make_fresh n k) = k ≢ Success
 GoesOn (call n h p k a q) = Unit {0}
 GoesOn (card_in s k) = Unit {0}
-GoesOn (cardOut s k) = Unit {0}
+GoesOn (card_out s k) = Unit {0}
 GoesOn (boot r k i) = Unit {0}
 GoesOn (sharers l k c) = Unit {0}
 

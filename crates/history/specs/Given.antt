@@ -7,7 +7,7 @@ pub data Given : Type 0 where
   -- cs_call: the service's number, the handle and the packet
   call : (number handle : ℕ) (packet : List ℕ) → Given
   -- cs_card_in and cs_card_out
-  card_in cardOut : (socket : ℕ) → Given
+  card_in card_out : (socket : ℕ) → Given
   -- cs_boot: the list's bytes
   boot : (records : List ℕ) → Given
   -- cs_sharers

@@ -10,10 +10,10 @@ use Rattle.facts.specs.Checks.{Check, Passed}
 use Rattle.facts.specs.Irq.{irq_asked, Fits, NoLevelFits, assigned_irq, irq_ahead_checks}
 use Rattle.facts.specs.Io.{io_asked, NotAllManaged, InTheWay, Candidate, NoCandidate, base_asked_lem, io_ahead_checks}
 use Rattle.facts.specs.Boot.{record_size, records_in, records_added}
-use Rattle.facts.specs.Services.{Service, requestIrq, requestIo, service_number}
+use Rattle.facts.specs.Services.{Service, request_irq, request_io, service_number}
 use Rattle.layout.specs.Layout.{image}
 use Rattle.layout.specs.Sound.{Accepted}
-use Rattle.history.specs.Events.{Event, Keeper, given, make_fresh, call, card_in, cardOut, boot, sharers}
+use Rattle.history.specs.Events.{Event, Keeper, given, make_fresh, call, card_in, card_out, boot, sharers}
 use Rattle.history.specs.Stands.{Fact, Makes}
 use Rattle.history.specs.Tables.{Tells, Between}
 use Rattle.history.specs.Codes.{Asked, codes_of, CanGive}
@@ -33,7 +33,7 @@ abbrev pub Keeps : Event → List ℕ → List ℕ → Type 0
 Keeps (make_fresh n k) b b' = k ≢ Success → b' ≡ b
 Keeps (call n h p k a q) b b' = k ≢ Success → (a ≡ 0) × (q ≡ p) × (b' ≡ b)
 Keeps (card_in s k) b b' = k ≢ Success → b' ≡ b
-Keeps (cardOut s k) b b' = k ≢ Success → b' ≡ b
+Keeps (card_out s k) b b' = k ≢ Success → b' ≡ b
 Keeps (boot r k i) b b' = ((Accepted b → ⊥) → b' ≡ b) × (Accepted b → Between b b' (AddsRecords r k i))
 Keeps (sharers l k c) b b' = (k ≢ Success → c ≡ 0) × (b' ≡ b)
 
@@ -46,7 +46,7 @@ abbrev pub Unformed : Event → Type 0
 Unformed (make_fresh n k) = Unit {0}
 Unformed (call n h p k a q) = k ≡ GeneralFailure
 Unformed (card_in s k) = k ≡ GeneralFailure
-Unformed (cardOut s k) = k ≡ GeneralFailure
+Unformed (card_out s k) = k ≡ GeneralFailure
 Unformed (boot r k i) = (k ≡ GeneralFailure) × (i ≡ 0)
 Unformed (sharers l k c) = k ≡ GeneralFailure
 
@@ -75,10 +75,10 @@ WherePassed K v ahead R =
     → K (call (service_number v) h p k a q) b b' → R t.facts p k q
 
 abbrev pub IrqAnswers : Keeper → (Facts → List ℕ → Code → List ℕ → Type 0) → Type 0
-IrqAnswers K = WherePassed K requestIrq (λ F h p. irq_ahead_checks F h p [])
+IrqAnswers K = WherePassed K request_irq (λ F h p. irq_ahead_checks F h p [])
 
 abbrev pub IoAnswers : Keeper → (Facts → List ℕ → Code → List ℕ → Type 0) → Type 0
-IoAnswers K = WherePassed K requestIo (λ F h p. io_ahead_checks F h p [])
+IoAnswers K = WherePassed K request_io (λ F h p. io_ahead_checks F h p [])
 
 -- demand 2: "Where the earlier checks pass, an I/O or IRQ request is refused exactly when no resource fits."
 pub record RefusedExactly (K : Keeper) : Type 0 where

@@ -14,9 +14,9 @@ use Rattle.facts.specs.Levels.{type_of}
 use Rattle.facts.specs.Irq.{assigned_irq, type_asked_lem, irq_asked, irq_grant}
 use Rattle.facts.specs.Io.{base_asked_lem, count_asked_lem, io_asked, io_grant}
 use Rattle.facts.specs.Boot.{records_in}
-use Rattle.facts.specs.Services.{Service, register_client, deregisterClient, adjustResourceInfo, requestIrq, releaseIrq, requestIo, releaseIo}
-use Rattle.facts.specs.Services.{requestSocketMask, releaseSocketMask, service_number}
-use Rattle.history.specs.Events.{Event, make_fresh, call, card_in, cardOut, boot, sharers}
+use Rattle.facts.specs.Services.{Service, register_client, deregister_client, adjust_resource_info, request_irq, release_irq, request_io, release_io}
+use Rattle.facts.specs.Services.{request_socket_mask, release_socket_mask, service_number}
+use Rattle.history.specs.Events.{Event, make_fresh, call, card_in, card_out, boot, sharers}
 
 -- one thing that a table can say
 pub data Fact : Type 0 where
@@ -34,28 +34,28 @@ pub data Fact : Type 0 where
 -- what a service makes that answers SUCCESS: it was given the handle h and the packet p, answered the handle a and left the packet q
 pub data Made (h : ℕ) (p : List ℕ) (a : ℕ) (q : List ℕ) : Service → Fact → Type 0 where
   client_made : Made h p a q register_client (client a (client_attributes p) (client_events p))
-  mask_made : Made h p a q requestSocketMask (mask h (socket_of p) (events_asked p))
+  mask_made : Made h p a q request_socket_mask (mask h (socket_of p) (events_asked p))
   level_made : resource_of p ≡ irq_level → action_of p ≡ add
-      → Made h p a q adjustResourceInfo (level (level_given p) (reserves (level_attributes p)))
+      → Made h p a q adjust_resource_info (level (level_given p) (reserves (level_attributes p)))
   range_made : (w : Width) → length p ≡ io_adjust_length w → resource_of p ≡ io_range → action_of p ≡ add
-      → Made h p a q adjustResourceInfo (range (record { base = base_given w p; count = count_given w p; reserved = reserves (attributes_given w p) }))
-  io_made : Made h p a q requestIo (io (socket_of p) (io_grant h (io_asked p) (base_asked_lem q)))
-  irq_made : Made h p a q requestIrq (irq (socket_of p) (irq_grant h (irq_asked p) (assigned_irq q)))
+      → Made h p a q adjust_resource_info (range (record { base = base_given w p; count = count_given w p; reserved = reserves (attributes_given w p) }))
+  io_made : Made h p a q request_io (io (socket_of p) (io_grant h (io_asked p) (base_asked_lem q)))
+  irq_made : Made h p a q request_irq (irq (socket_of p) (irq_grant h (irq_asked p) (assigned_irq q)))
 
 -- what it gives back
 pub data GivenBack (h : ℕ) (p : List ℕ) : Service → Fact → Type 0 where
-  client_back : {attributes events : ℕ} → GivenBack h p deregisterClient (client h attributes events)
-  mask_back : {events : ℕ} → GivenBack h p releaseSocketMask (mask h (socket_of p) events)
+  client_back : {attributes events : ℕ} → GivenBack h p deregister_client (client h attributes events)
+  mask_back : {events : ℕ} → GivenBack h p release_socket_mask (mask h (socket_of p) events)
   level_back : {reserved : Bool} → resource_of p ≡ irq_level → action_of p ≡ remove
-      → GivenBack h p adjustResourceInfo (level (level_given p) reserved)
+      → GivenBack h p adjust_resource_info (level (level_given p) reserved)
   range_back : {reserved : Bool} (w : Width) → length p ≡ io_adjust_length w → resource_of p ≡ io_range → action_of p ≡ remove
-      → GivenBack h p adjustResourceInfo (range (record { base = base_given w p; count = count_given w p; reserved = reserved }))
+      → GivenBack h p adjust_resource_info (range (record { base = base_given w p; count = count_given w p; reserved = reserved }))
   -- the client's own, of that base and count
   io_back : {g : IoGrant} → g.client ≡ h → g.ports.base ≡ base_asked_lem p → g.ports.count ≡ count_asked_lem p
-      → GivenBack h p releaseIo (io (socket_of p) g)
+      → GivenBack h p release_io (io (socket_of p) g)
   -- the client's own, of that level and type
   irq_back : {g : IrqGrant} → g.client ≡ h → g.level ≡ assigned_irq p → type_of g.manner ≡ type_asked_lem p
-      → GivenBack h p releaseIrq (irq (socket_of p) g)
+      → GivenBack h p release_irq (irq (socket_of p) g)
 
 -- what a record of a boot list makes
 pub data Recorded (r : Record) : Fact → Type 0 where
@@ -67,7 +67,7 @@ abbrev pub Makes : Event → Fact → Type 0
 Makes (make_fresh n k) f = ⊥
 Makes (call n h p k a q) f = (k ≡ Success) × (v : Service) × (service_number v ≡ n) × Made h p a q v f
 Makes (card_in s k) f = (k ≡ Success) × (f ≡ card s)
-Makes (cardOut s k) f = ⊥
+Makes (card_out s k) f = ⊥
 Makes (boot b k i) f = (r : Record) × (r ∈ records_in i b) × Recorded r f
 Makes (sharers l k c) f = ⊥
 
@@ -76,7 +76,7 @@ abbrev pub GivesBack : Event → Fact → Type 0
 GivesBack (make_fresh n k) f = ⊥
 GivesBack (call n h p k a q) f = (k ≡ Success) × (v : Service) × (service_number v ≡ n) × GivenBack h p v f
 GivesBack (card_in s k) f = ⊥
-GivesBack (cardOut s k) f = (k ≡ Success) × (f ≡ card s)
+GivesBack (card_out s k) f = (k ≡ Success) × (f ≡ card s)
 GivesBack (boot b k i) f = ⊥
 GivesBack (sharers l k c) f = ⊥
 
@@ -106,7 +106,7 @@ abbrev pub registration : Event → ℕ
 registration (make_fresh n k) = 0
 registration (call n h p k a q) = cond (eqb n (service_number register_client)) (cond (eqb (number_of k) (number_of Success)) 1 0) 0
 registration (card_in s k) = 0
-registration (cardOut s k) = 0
+registration (card_out s k) = 0
 registration (boot b k i) = 0
 registration (sharers l k c) = 0
 

@@ -1,8 +1,8 @@
 -- The ways in which an entry ends, each with its permitted answer. Assumes nothing.
 use Rattle.facts.proofs.Words.{◌≡◌, refl, sym, inl, inr, ◌≢◌, List, Bool, ℕ, ◌+◌, ◌≤◌}
 use Rattle.managed_boot.specs.Booting as boot
-use Rattle.facts.specs.{UnsupportedService, GeneralFailure, number_of, Facts, Bytes, Service, register_client, deregisterClient, adjustResourceInfo}
-use Rattle.facts.specs.{requestIrq, releaseIrq, requestIo, releaseIo, requestSocketMask, releaseSocketMask, Serves, service_number, rule_of, Call}
+use Rattle.facts.specs.{UnsupportedService, GeneralFailure, number_of, Facts, Bytes, Service, register_client, deregister_client, adjust_resource_info}
+use Rattle.facts.specs.{request_irq, release_irq, request_io, release_io, request_socket_mask, release_socket_mask, Serves, service_number, rule_of, Call}
 use Rattle.facts.specs.{packed, records_of, end_of, placed, all_levels, most_ranges}
 use Rattle.facts.proofs.{host_laws}
 use Rattle.layout.specs.{Accepted, ServedBy, TableRefused}
@@ -32,29 +32,29 @@ module _ (b : List ℕ) (none : Accepted b → ⊥) where
 
 -- n is no service's number
 pub record NoService (n : ℕ) : Type 0 where
-  pub no_deregister : n ≢ service_number deregisterClient
+  pub no_deregister : n ≢ service_number deregister_client
   pub no_register : n ≢ service_number register_client
-  pub no_io_release : n ≢ service_number releaseIo
-  pub no_irq_release : n ≢ service_number releaseIrq
-  pub no_io_request : n ≢ service_number requestIo
-  pub no_irq_request : n ≢ service_number requestIrq
-  pub no_mask_request : n ≢ service_number requestSocketMask
-  pub no_mask_release : n ≢ service_number releaseSocketMask
-  pub no_adjust : n ≢ service_number adjustResourceInfo
+  pub no_io_release : n ≢ service_number release_io
+  pub no_irq_release : n ≢ service_number release_irq
+  pub no_io_request : n ≢ service_number request_io
+  pub no_irq_request : n ≢ service_number request_irq
+  pub no_mask_request : n ≢ service_number request_socket_mask
+  pub no_mask_release : n ≢ service_number release_socket_mask
+  pub no_adjust : n ≢ service_number adjust_resource_info
 
 serves_none : (n : ℕ) → NoService n → Serves n → ⊥
 serves_none n x s = each_service s.service s.number_is
   where
     each_service : (v : Service) → service_number v ≡ n → ⊥
     each_service register_client e = x.no_register (sym e)
-    each_service deregisterClient e = x.no_deregister (sym e)
-    each_service adjustResourceInfo e = x.no_adjust (sym e)
-    each_service requestIrq e = x.no_irq_request (sym e)
-    each_service releaseIrq e = x.no_irq_release (sym e)
-    each_service requestIo e = x.no_io_request (sym e)
-    each_service releaseIo e = x.no_io_release (sym e)
-    each_service requestSocketMask e = x.no_mask_request (sym e)
-    each_service releaseSocketMask e = x.no_mask_release (sym e)
+    each_service deregister_client e = x.no_deregister (sym e)
+    each_service adjust_resource_info e = x.no_adjust (sym e)
+    each_service request_irq e = x.no_irq_request (sym e)
+    each_service release_irq e = x.no_irq_release (sym e)
+    each_service request_io e = x.no_io_request (sym e)
+    each_service release_io e = x.no_io_release (sym e)
+    each_service request_socket_mask e = x.no_mask_request (sym e)
+    each_service release_socket_mask e = x.no_mask_release (sym e)
 
 pub unsupported : (b p : List ℕ) (n h r : ℕ) → Bytes p → Accepted b → NoService n → r ≡ packed UnsupportedService 0 → CallAnswers n h b b p p r
 unsupported b p n h r bytes a x e =

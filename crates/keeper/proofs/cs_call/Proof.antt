@@ -1,8 +1,8 @@
 -- `keeper::cs_call` meets its contract: the table is not well formed, or the service rules, or the number is no service's.
 -- Assumes nothing.
 use Rattle.facts.proofs.Words.{subst, List, ℕ, arith, now, rules}
-use Rattle.facts.specs.{Bytes, register_client, deregisterClient, adjustResourceInfo, requestIrq, releaseIrq, requestIo, releaseIo, requestSocketMask}
-use Rattle.facts.specs.{releaseSocketMask}
+use Rattle.facts.specs.{Bytes, register_client, deregister_client, adjust_resource_info, request_irq, release_irq, request_io, release_io, request_socket_mask}
+use Rattle.facts.specs.{release_socket_mask}
 use Rattle.layout.specs.{Accepted}
 use Rattle.table_test.specs.{LoadedIs}
 use Rattle.keeper.proofs.{NoService, call_unformed, unsupported, by_service}
@@ -102,7 +102,7 @@ returns-2 c =
     let called = c.before.before.before in
     let loaded = (at_deregister called).before.before.before in
     let a = (start loaded).args in
-    by_service deregisterClient (table loaded) called.deregister.new.0 (packet loaded) (packet loaded) a.service a.handle c.pack.result
+    by_service deregister_client (table loaded) called.deregister.new.0 (packet loaded) (packet loaded) a.service a.handle c.pack.result
     called.deregister.result (bytes loaded) (at_deregister called).match2.keys1 called.deregister.ensures c.pack.ensures
 
 returns-3 : tie.Need-returns-3
@@ -118,7 +118,7 @@ returns-4 c =
     let called = c.before.before.before in
     let loaded = (at_io_release called).before.before.before in
     let a = (start loaded).args in
-    by_service releaseIo (table loaded) called.release.new.0 (packet loaded) (packet loaded) a.service a.handle c.pack3.result
+    by_service release_io (table loaded) called.release.new.0 (packet loaded) (packet loaded) a.service a.handle c.pack3.result
     called.release.result (bytes loaded) (at_io_release called).match2.keys3 called.release.ensures c.pack3.ensures
 
 returns-5 : tie.Need-returns-5
@@ -126,7 +126,7 @@ returns-5 c =
     let called = c.before.before.before in
     let loaded = (at_irq_release called).before.before.before in
     let a = (start loaded).args in
-    by_service releaseIrq (table loaded) called.release2.new.0 (packet loaded) (packet loaded) a.service a.handle c.pack4.result
+    by_service release_irq (table loaded) called.release2.new.0 (packet loaded) (packet loaded) a.service a.handle c.pack4.result
     called.release2.result (bytes loaded) (at_irq_release called).match2.keys4 called.release2.ensures c.pack4.ensures
 
 returns-6 : tie.Need-returns-6
@@ -134,7 +134,7 @@ returns-6 c =
     let called = (io_returned c.before).before in
     let loaded = (at_io_request called).before.before.before in
     let a = (start loaded).args in
-    by_service requestIo (table loaded) called.request.last.0 (packet loaded) called.request.last.1.1.0 a.service a.handle c.pack5.result
+    by_service request_io (table loaded) called.request.last.0 (packet loaded) called.request.last.1.1.0 a.service a.handle c.pack5.result
     called.request.result (bytes loaded) (at_io_request called).match2.keys5 called.request.ensures c.pack5.ensures
 
 returns-7 : tie.Need-returns-7
@@ -142,7 +142,7 @@ returns-7 c =
     let called = (irq_returned c.before).before in
     let loaded = (at_irq_request called).before.before.before in
     let a = (start loaded).args in
-    by_service requestIrq (table loaded) called.request2.last.0 (packet loaded) called.request2.last.1.1.0 a.service a.handle c.pack6.result
+    by_service request_irq (table loaded) called.request2.last.0 (packet loaded) called.request2.last.1.1.0 a.service a.handle c.pack6.result
     called.request2.result (bytes loaded) (at_irq_request called).match2.keys6 called.request2.ensures c.pack6.ensures
 
 returns-8 : tie.Need-returns-8
@@ -150,7 +150,7 @@ returns-8 c =
     let called = c.before.before.before in
     let loaded = (at_mask_request called).before.before.before in
     let a = (start loaded).args in
-    by_service requestSocketMask (table loaded) called.request3.new.0 (packet loaded) (packet loaded) a.service a.handle c.pack7.result
+    by_service request_socket_mask (table loaded) called.request3.new.0 (packet loaded) (packet loaded) a.service a.handle c.pack7.result
     called.request3.result (bytes loaded) (at_mask_request called).match2.keys7 called.request3.ensures c.pack7.ensures
 
 returns-9 : tie.Need-returns-9
@@ -158,7 +158,7 @@ returns-9 c =
     let called = c.before.before.before in
     let loaded = (at_mask_release called).before.before.before in
     let a = (start loaded).args in
-    by_service releaseSocketMask (table loaded) called.release3.new.0 (packet loaded) (packet loaded) a.service a.handle c.pack8.result
+    by_service release_socket_mask (table loaded) called.release3.new.0 (packet loaded) (packet loaded) a.service a.handle c.pack8.result
     called.release3.result (bytes loaded) (at_mask_release called).match2.keys8 called.release3.ensures c.pack8.ensures
 
 returns-10 : tie.Need-returns-10
@@ -166,7 +166,7 @@ returns-10 c =
     let called = (adjust_returned c.before).before in
     let loaded = (at_adjust called).before.before.before in
     let a = (start loaded).args in
-    by_service adjustResourceInfo (table loaded) called.adjust.last.0 (packet loaded) called.adjust.last.1.1.0 a.service a.handle c.pack9.result
+    by_service adjust_resource_info (table loaded) called.adjust.last.0 (packet loaded) called.adjust.last.1.1.0 a.service a.handle c.pack9.result
     called.adjust.result (bytes loaded) (at_adjust called).match2.keys9 called.adjust.ensures c.pack9.ensures
 
 returns-11 : tie.Need-returns-11

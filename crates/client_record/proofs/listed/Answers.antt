@@ -1,0 +1,9 @@
+-- `client_record::listed` meets its contract: what is gathered is not 0 exactly if one of the clients passed has the handle.
+-- Assumes nothing.
+use Rattle.facts.proofs.Words.{◌-◌, arith}
+use Rattle.client_record.proofs.{some_more}
+use Rattle.client_record.proofs.listed.Goals as goal
+
+pub loop-i-preserved : goal.loop-i-preserved
+loop-i-preserved c =
+    (omega arith, some_more _ c.loop-i.invariant.1 (rw c.word_u16-handle.ensures at c.same-some.ensures))
