@@ -23,16 +23,16 @@ module _ {r : Bool} {P : Type 0} where
   pub says_as : {Q : Type 0} → Says r Q → (Q → P) → (P → Q) → Says r P
   says_as s f g = record { holds = λ e. f (s.holds e); fails = λ e p. s.fails e (g p) }
 
-  pub says_yes : Says r P → not r ≡ false → P
-  says_yes s e = s.holds (not-false r e)
+  pub says_yes : Says r P → r ≡ true → P
+  says_yes s e = s.holds e
 
-  pub says_no : Says r P → not r ≡ true → P → ⊥
-  says_no s e = s.fails (not-true r e)
+  pub says_no : Says r P → r ≡ false → P → ⊥
+  says_no s e = s.fails e
 
   pub says_not : Says r P → Says (not r) (P → ⊥)
-  says_not s = record { holds = says_no s; fails = λ e n. n (says_yes s e) }
+  says_not s = record { holds = λ e. s.fails (not-true r e); fails = λ e n. n (s.holds (not-false r e)) }
 
-  pub says_false_by : {Q : Type 0} → Says r P → not r ≡ true → (Q → P) → Says false Q
+  pub says_false_by : {Q : Type 0} → Says r P → r ≡ false → (Q → P) → Says false Q
   says_false_by s e f = says_false (λ q. says_no s e (f q))
 
 -- what an answer decides is so or not

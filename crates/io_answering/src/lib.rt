@@ -26,7 +26,7 @@ const MOST_COUNTED: usize = 32768;
 // Fills the rows, which have nothing yet, for cards of so many lines; those of one that decodes all, which answers at its own ports alone, keep nothing.
 // `end` is where the ranges passed end, and the gap begins.
 pub fn gap_rows(t: &[u8], lines: usize, rows: &mut [u16])
-    requires t_len { (length t.now ≡ table_size) × (ranges_in t.now ≤ Table.most_ranges) × RangesSound t.now }
+    requires ranges { (length t.now ≡ table_size) × (ranges_in t.now ≤ Table.most_ranges) × RangesSound t.now }
     requires no_gaps { NoGaps rows.old }
     ensures { GapsAre t.now lines rows.new }
 {
@@ -98,8 +98,8 @@ fn clear(rows: &[u16; ROWS], base: usize, count: usize, lines: usize) -> bool
 
 // Whether the ports are managed, and every other where a card with them answers. One that decodes all lines answers nowhere else.
 pub fn managed(t: &[u8], rows: &[u16; ROWS], base: usize, count: usize, lines: usize) -> bool
-    requires t_len { (length t.now ≡ table_size) × (ranges_in t.now ≤ Table.most_ranges) × RangesSound t.now × GapsAre t.now lines rows.now }
-    requires base_bound { (base < Table.all_ports) × (1 ≤ count) × (count < 256) × (lines ≤ Table.most_lines) }
+    requires ranges { (length t.now ≡ table_size) × (ranges_in t.now ≤ Table.most_ranges) × RangesSound t.now × GapsAre t.now lines rows.now }
+    requires ports { (base < Table.all_ports) × (1 ≤ count) × (count < 256) × (lines ≤ Table.most_lines) }
     ensures { Says result (AllManagedIn t.now (record { base = base; count = count; lines = lines })) }
 {
     if lines == MOST_LINES {

@@ -16,7 +16,7 @@ use seats::IoSeat;
 // Whether the ports meet those that are held at the seat.
 fn at(t: &[u8], base: usize, count: usize, lines: usize, s: Seat) -> bool
     requires accepted { Accepted t.now × (s.0 < Table.most_seats) }
-    requires base_bound { (base < Table.all_ports) × (count ≤ Table.all_ports) × (lines ≤ Table.most_lines) }
+    requires ports { (base < Table.all_ports) × (count ≤ Table.all_ports) × (lines ≤ Table.most_lines) }
     ensures { Says result (MeetsAt (facts_in t.now) (record { base = base; count = count; lines = lines }) s.0) }
 {
     let IoSeat::Held(held) = seats::held(t, s) else {
@@ -28,7 +28,7 @@ fn at(t: &[u8], base: usize, count: usize, lines: usize, s: Seat) -> bool
 // Whether the ports meet some that are held.
 pub fn some(t: &[u8], base: usize, count: usize, lines: usize) -> bool
     requires accepted { Accepted t.now }
-    requires base_bound { (base < Table.all_ports) × (count ≤ Table.all_ports) × (lines ≤ Table.most_lines) }
+    requires ports { (base < Table.all_ports) × (count ≤ Table.all_ports) × (lines ≤ Table.most_lines) }
     ensures { Says result (MeetsHeld (facts_in t.now) (record { base = base; count = count; lines = lines })) }
 {
     for s in 0..MOST_SEATS {

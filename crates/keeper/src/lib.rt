@@ -1,4 +1,4 @@
-// The C boundary: numbers and lent bytes. Any bytes, service number, handle and packet get an answer.
+// The entries: numbers and lent bytes, as they come from C (`keeper_c` exports them). Any bytes, service number, handle and packet get an answer.
 #![tactic(auto)]
 
 ghost use Rattle.std.specs.Prelude.{◌≡◌, true, false};
@@ -39,8 +39,7 @@ fn unformed() -> u32
     facts::number(Code::GeneralFailure)
 }
 
-#[unsafe(no_mangle)]
-pub extern "C" fn cs_fresh(table: &mut [u8], sockets: u32) -> u32
+pub fn cs_fresh(table: &mut [u8], sockets: u32) -> u32
     ensures { FreshAnswers sockets table.old table.new result }
 {
     let Size::Right = service_checks::sized(table, TABLE_SIZE) else {
@@ -53,8 +52,7 @@ pub extern "C" fn cs_fresh(table: &mut [u8], sockets: u32) -> u32
     facts::number(Code::Success)
 }
 
-#[unsafe(no_mangle)]
-pub extern "C" fn cs_call(table: &mut [u8], service: u16, handle: u16, packet: &mut [u8]) -> u32
+pub fn cs_call(table: &mut [u8], service: u16, handle: u16, packet: &mut [u8]) -> u32
     ensures { CallAnswers service handle table.old table.new packet.old packet.new result }
 {
     let Loaded::Formed = table_test::load(table) else {
@@ -84,22 +82,19 @@ fn card(table: &mut [u8], socket: Socket, present: bool) -> u32
     facts::number(socket_cards::card(table, socket, present))
 }
 
-#[unsafe(no_mangle)]
-pub extern "C" fn cs_card_in(table: &mut [u8], socket: u32) -> u32
+pub fn cs_card_in(table: &mut [u8], socket: u32) -> u32
     ensures { CardAnswers true socket table.old table.new result }
 {
     card(table, Socket(socket as usize), true)
 }
 
-#[unsafe(no_mangle)]
-pub extern "C" fn cs_card_out(table: &mut [u8], socket: u32) -> u32
+pub fn cs_card_out(table: &mut [u8], socket: u32) -> u32
     ensures { CardAnswers false socket table.old table.new result }
 {
     card(table, Socket(socket as usize), false)
 }
 
-#[unsafe(no_mangle)]
-pub extern "C" fn cs_sharers(table: &[u8], level: u32) -> u32
+pub fn cs_sharers(table: &[u8], level: u32) -> u32
     ensures { SharersAnswers level table.now result }
 {
     let Loaded::Formed = table_test::load(table) else {
@@ -108,8 +103,7 @@ pub extern "C" fn cs_sharers(table: &[u8], level: u32) -> u32
     irq_sharers::pack(irq_sharers::of_level(table, level))
 }
 
-#[unsafe(no_mangle)]
-pub extern "C" fn cs_boot(table: &mut [u8], records: &[u8]) -> u64
+pub fn cs_boot(table: &mut [u8], records: &[u8]) -> u64
     ensures { BootAnswers records.now table.old table.new result }
 {
     let Loaded::Formed = table_test::load(table) else {

@@ -125,8 +125,8 @@ pub enum NewPorts {
 }
 
 fn free(t: &[u8], base: usize, count: usize) -> NewPorts
-    requires t_len { (length t.now ≡ table_size) × (ranges_in t.now ≤ Table.most_ranges) × RangesSound t.now }
-    requires le_count { (1 ≤ count) × (base + count ≤ Table.all_ports) }
+    requires ranges { (length t.now ≡ table_size) × (ranges_in t.now ≤ Table.most_ranges) × RangesSound t.now }
+    requires ports { (1 ≤ count) × (base + count ≤ Table.all_ports) }
     ensures { FreeIs t.now base count result }
 {
     let i = place(t, base);
@@ -159,8 +159,8 @@ fn has_room(t: &[u8]) -> Room
 
 // The new range's record in the place i: those from there on move one place up.
 fn enter(t: &mut [u8], i: usize, base: usize, count: usize, reserved: u8)
-    requires t_len { (length t.old ≡ table_size) × (i ≤ ranges_in t.old) × (ranges_in t.old < Table.most_ranges) }
-    requires base_bound { (base < 65536) × (count < 4294967296) }
+    requires room { (length t.old ≡ table_size) × (i ≤ ranges_in t.old) × (ranges_in t.old < Table.most_ranges) }
+    requires ports { (base < 65536) × (count < 4294967296) }
     ensures { Entered t.old t.new i base count reserved }
 {
     let at = RANGES_AT + i * RANGE_SIZE;

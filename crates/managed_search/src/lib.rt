@@ -55,8 +55,8 @@ fn search_from(t: &[u8], p: usize) -> usize
 // Whether all the ports are managed: one pass over the ranges, which are in order. `p` is the first port that no range passed has; where a range
 // starts past it, no range that follows has it.
 pub fn managed(t: &[u8], base: usize, count: usize) -> bool
-    requires t_len { (length t.now ≡ table_size) × (ranges_in t.now ≤ Table.most_ranges) × RangesSound t.now }
-    requires base_bound { (base < Table.all_ports) × (count ≤ Table.all_ports) }
+    requires ranges { (length t.now ≡ table_size) × (ranges_in t.now ≤ Table.most_ranges) × RangesSound t.now }
+    requires ports { (base < Table.all_ports) × (count ≤ Table.all_ports) }
     ensures { Says result ((p : ℕ) → Within p base count → ManagedIn t.now p) }
 {
     let ranges = table_read::byte(t, RANGES_IN);

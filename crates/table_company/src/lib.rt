@@ -81,8 +81,8 @@ fn numbers_of(t: &[u8], s: Seat) -> Numbers
 
 // Puts the numbers of the I/O grant at the seat `s` in the rows, which have those of the seats below it.
 fn enter(t: &[u8], s: Seat, held: &mut [u16])
-    requires t_len { (length t.now ≡ table_size) × (s.0 < Table.most_seats) × IoPlaceSound t.now s.0 }
-    requires held_room_in_bounds { (held_room ≤ length held.old) × RowsAre t.now held.old s.0 }
+    requires seat { (length t.now ≡ table_size) × (s.0 < Table.most_seats) × IoPlaceSound t.now s.0 }
+    requires rows { (held_room ≤ length held.old) × RowsAre t.now held.old s.0 }
     ensures { (length held.new ≡ length held.old) × RowsAre t.now held.new (s.0 + 1) }
 {
     let new = numbers_of(t, s);

@@ -29,8 +29,8 @@ const IOS_END: usize = IOS_AT + MOST_SEATS * IO_SIZE;
 
 // "granted .. ports are managed; an I/O grant has base 1 or more, lines 1 to 16 and a count RequestIO allows"; and wherever its card answers is managed (K2)
 fn ports_sound(t: &[u8], rows: &[u16; ROWS], near: usize, held: HeldPorts) -> bool
-    requires t_len { (length t.now ≡ table_size) × (ranges_in t.now ≤ Table.most_ranges) × RangesSound t.now × GapsAre t.now held.lines rows.now }
-    requires base_bound { (held.base < Table.all_ports) × (held.count ≤ Table.most_asked) × RangeHas t.now near (range held).ports }
+    requires ranges { (length t.now ≡ table_size) × (ranges_in t.now ≤ Table.most_ranges) × RangesSound t.now × GapsAre t.now held.lines rows.now }
+    requires ports { (held.base < Table.all_ports) × (held.count ≤ Table.most_asked) × RangeHas t.now near (range held).ports }
     ensures { Says result (PortsSound t.now (range held).ports) }
 {
     if held.base == 0 {
@@ -53,7 +53,7 @@ fn ports_sound(t: &[u8], rows: &[u16; ROWS], near: usize, held: HeldPorts) -> bo
 
 // "every grant .. has a live client and a socket below the count": the I/O grant at a seat of such a socket, or a record that is all zero.
 fn io_place_sound(t: &[u8], rows: &[u16; ROWS], near: usize, s: Seat) -> bool
-    requires t_len { (length t.now ≡ table_size) × (socket_at s.0 < sockets_in t.now) × CountsSound t.now × ClientsSound t.now × RangesSound t.now }
+    requires sound { (length t.now ≡ table_size) × (socket_at s.0 < sockets_in t.now) × CountsSound t.now × ClientsSound t.now × RangesSound t.now }
     requires rows_serve { RowsServe t.now rows.now × RangeServes t.now near s.0 }
     ensures { Says result (IoPlaceSound t.now s.0) }
 {

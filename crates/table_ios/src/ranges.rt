@@ -38,8 +38,8 @@ fn in_range(t: &[u8], i: usize, base: usize, count: usize) -> bool
 // Whether the ports are managed, and every other where their card answers. One that decodes all lines answers nowhere else, so for it the range `near`
 // decides, if there is one: it has the ports.
 pub fn ports_managed(t: &[u8], rows: &[u16; ROWS], near: usize, held: HeldPorts) -> bool
-    requires t_len { (length t.now ≡ table_size) × (ranges_in t.now ≤ Table.most_ranges) × RangesSound t.now × GapsAre t.now held.lines rows.now }
-    requires base_bound { (held.base < Table.all_ports) × (1 ≤ held.count) × (held.count < 256) × (held.lines ≤ Table.most_lines) }
+    requires ranges { (length t.now ≡ table_size) × (ranges_in t.now ≤ Table.most_ranges) × RangesSound t.now × GapsAre t.now held.lines rows.now }
+    requires ports { (held.base < Table.all_ports) × (1 ≤ held.count) × (held.count < 256) × (held.lines ≤ Table.most_lines) }
     requires range_has { RangeHas t.now near (range held).ports }
     ensures { Says result (AllManagedIn t.now (range held).ports) }
 {

@@ -39,8 +39,8 @@ fn irq_holder_live(t: &[u8], client: Handle, s: Seat) -> bool
 
 // "every grant .. has a live client and a socket below the count": the IRQ grant at a seat of such a socket, or a record that is all zero.
 fn irq_place_sound(t: &[u8], s: Seat) -> bool
-    requires t_len { (length t.now ≡ table_size) × (socket_at s.0 < sockets_in t.now) × CountsSound t.now × ClientsSound t.now }
-    requires io_place_sound { IoPlaceSound t.now s.0 }
+    requires sound { (length t.now ≡ table_size) × (socket_at s.0 < sockets_in t.now) × CountsSound t.now × ClientsSound t.now }
+    requires place_sound { IoPlaceSound t.now s.0 }
     ensures { Says result (IrqPlaceSound t.now s.0) }
 {
     let at = seats::irq_place(s);

@@ -5,14 +5,12 @@ use Rattle.facts.specs.{word}
 use Rattle.layout.specs.{irq_place_lem, irq_in}
 use Rattle.seats.proofs.level_held.Goals as goal
 
--- the record stands at the seat's place, and says this client
-client : (c : goal.After-handle-client) → let a = c.args in c.handle-client.result.0 ≡ word (a.t.now) (irq_place_lem a.s.0)
-client c = c.handle-client.ensures ∙ ap (word (c.args.t.now)) c.irq_place-at.ensures.0
-
 pub returns : goal.returns
 unfolding irq_in
 returns c =
+    let client : let a = c.args in c.handle-client.result.0 ≡ word (a.t.now) (irq_place_lem a.s.0) =
+        c.handle-client.ensures ∙ ap (word (c.args.t.now)) c.irq_place-at.ensures.0 in
     (
-      λ e. c.if-client-eq-NOBODY.false (client (goal.at.returns c).After-handle-client ∙ e),
-      rw (client (goal.at.returns c).After-handle-client, c.manner_of-manner.ensures, c.byte-level.ensures.0, c.byte.ensures.0, c.irq_place-at.ensures.0) refl,
+      λ e. c.if-client-eq-NOBODY.false (client ∙ e),
+      rw (client, c.manner_of-manner.ensures, c.byte-level.ensures.0, c.byte.ensures.0, c.irq_place-at.ensures.0) refl,
     )

@@ -1,0 +1,48 @@
+-- `client_services::register` meets its contract: each check's answer says which end of the rule it is.
+-- Assumes nothing.
+use Rattle.facts.proofs.Words.{◌≡◌, refl, inl, arith, length}
+use Rattle.facts.specs.{register_length}
+use Rattle.layout.proofs.{size_in}
+use Rattle.client_services.specs.{Asks, NextIs}
+use Rattle.client_services.proofs.{register_refused, register_bad, register_full, register_done}
+use Rattle.client_services.proofs.register.Goals as goal
+
+pub returns-in_default : goal.returns-in_default
+returns-in_default c =
+    register_refused c.requires (inl (c.in_default.ensures, refl))
+
+pub returns-in_default-asks : goal.returns-in_default-asks
+returns-in_default-asks c =
+    let length_right : length c.args.p.now ≡ register_length =
+        c.in-Right.ensures in
+    register_bad c.requires length_right c.in_default-asks.ensures
+
+pub next_place-requires : goal.next_place-requires
+next_place-requires c = size_in _ c.requires
+
+pub returns-in_default-next_place : goal.returns-in_default-next_place
+returns-in_default-next_place c =
+    let length_right : length c.args.p.now ≡ register_length =
+        c.in-Right.ensures in
+    let client : let g = c.attributes-1.given.0 in Asks c.args.p.now g.0 g.1.0 =
+        c.in-Good.ensures in
+    register_full c.requires length_right client c.in_default-next_place.ensures
+
+pub enter-requires : goal.enter-requires
+enter-requires c =
+    let client : let g = c.attributes-1.given.0 in Asks c.args.p.now g.0 g.1.0 =
+        c.in-Good.ensures in
+    let room : let g = c.n-1.given.0 in NextIs c.args.t.now g.0 g.1.0.0 =
+        c.in-Next.ensures in
+    let few = client.attributes_allowed.bits in
+    (size_in _ c.requires, room.room, omega (arith, client.attributes_are, few))
+
+pub returns : goal.returns
+returns c =
+    let length_right : length c.args.p.now ≡ register_length =
+        c.in-Right.ensures in
+    let client : let g = c.attributes-1.given.0 in Asks c.args.p.now g.0 g.1.0 =
+        c.in-Good.ensures in
+    let room : let g = c.n-1.given.0 in NextIs c.args.t.now g.0 g.1.0.0 =
+        c.in-Next.ensures in
+    rw c.enter.ensures (register_done c.requires length_right client room)

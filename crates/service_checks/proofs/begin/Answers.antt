@@ -1,0 +1,90 @@
+-- `service_checks::begin` meets its contract: each check's answer says which of the first checks it is, or that none applies.
+-- Assumes nothing.
+use Rattle.facts.proofs.Words.{◌≡◌, List, ℕ, arith, length}
+use Rattle.facts.specs.{Live}
+use Rattle.layout.specs.{Accepted}
+use Rattle.layout.proofs.{size_in, sockets_in_lem, clients_in_lem}
+use Rattle.layout.proofs.Of.{live_listed}
+use Rattle.client_record.specs.{ListedAt}
+use Rattle.service_checks.specs.{NamesSocket}
+use Rattle.service_checks.proofs.{by_handle, by_socket, by_card}
+use Rattle.service_checks.proofs.begin.Goals as goal
+
+pub client_at-requires : goal.client_at-requires
+client_at-requires c =
+    let table : List ℕ =
+        c.args.t.now in
+    let a = c.requires.0 in
+    (size_in table a, omega (arith, clients_in_lem table a, a.formed.clients_most))
+
+pub returns-in_default-client_at : goal.returns-in_default-client_at
+returns-in_default-client_at c a =
+    let packet : List ℕ =
+        c.args.p.now in
+    let handle : ℕ =
+        c.args.h.0 in
+    let length_right : length packet ≡ c.args.n =
+        c.in-Right.ensures in
+    by_handle a packet c.args.n handle length_right c.args.need
+    c.in_default-client_at.ensures
+
+pub socket_named-requires : goal.socket_named-requires
+socket_named-requires c =
+    let table : List ℕ =
+        c.args.t.now in
+    let packet : List ℕ =
+        c.args.p.now in
+    let length_right : length packet ≡ c.args.n =
+        c.in-Right.ensures in
+    (size_in table c.requires.0, omega (arith, length_right, c.requires.1))
+
+pub returns-in_default-socket_named : goal.returns-in_default-socket_named
+returns-in_default-socket_named c a =
+    let packet : List ℕ =
+        c.args.p.now in
+    let handle : ℕ =
+        c.args.h.0 in
+    let length_right : length packet ≡ c.args.n =
+        c.in-Right.ensures in
+    let table : List ℕ =
+        c.args.t.now in
+    let client_listed : ListedAt table handle c.in-At.i =
+        c.in-At.ensures in
+    let client_live : (a : Accepted table) → Live a.facts handle =
+        λ a. live_listed table a _ _ client_listed.listed client_listed.handle in
+    by_socket a packet c.args.n handle length_right (client_live a) c.args.need
+    c.in_default-socket_named.ensures
+
+pub card_asked-requires : goal.card_asked-requires
+card_asked-requires c =
+    let table : List ℕ =
+        c.args.t.now in
+    let packet : List ℕ =
+        c.args.p.now in
+    let socket : ℕ =
+        c.in-At-socket_named.socket.0 in
+    let socket_named_lem : NamesSocket table packet socket =
+        c.in-At-socket_named.ensures in
+    let a = c.requires.0 in
+    (size_in table a, omega (arith, socket_named_lem.number, socket_named_lem.counted, sockets_in_lem table a, a.formed.sockets_most))
+
+pub returns-in_default-card_asked : goal.returns-in_default-card_asked
+returns-in_default-card_asked c a =
+    let packet : List ℕ =
+        c.args.p.now in
+    let handle : ℕ =
+        c.args.h.0 in
+    let length_right : length packet ≡ c.args.n =
+        c.in-Right.ensures in
+    let table : List ℕ =
+        c.args.t.now in
+    let client_listed : ListedAt table handle c.in-At.i =
+        c.in-At.ensures in
+    let client_live : (a : Accepted table) → Live a.facts handle =
+        λ a. live_listed table a _ _ client_listed.listed client_listed.handle in
+    let socket : ℕ =
+        c.in-At-socket_named.socket.0 in
+    let socket_named_lem : NamesSocket table packet socket =
+        c.in-At-socket_named.ensures in
+    by_card a packet c.args.n handle length_right (client_live a) socket_named_lem
+    c.args.need c.in_default-card_asked.ensures

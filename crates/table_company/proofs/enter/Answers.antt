@@ -1,0 +1,13 @@
+-- `table_company::enter` meets its contract: four numbers are written, which stand apart from those of the seats below.
+-- Assumes nothing.
+use Rattle.table_company.proofs.{lengths, entered_are}
+use Rattle.table_company.proofs.enter.Goals as goal
+
+pub returns : goal.returns
+returns c =
+    let a = c.args in
+    let rows = a.held.now in
+    let new = c.numbers_of-new in (
+      (lengths rows a.s.0 new.result).3,
+      entered_are rows a.s.0 new.result c.requires.seat.1 c.requires.rows.0 (a.t.now) c.requires.rows.1 new.ensures,
+    )

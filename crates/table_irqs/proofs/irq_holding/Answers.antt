@@ -1,0 +1,31 @@
+-- `table_irqs::irq_holding` meets its contract: a level below 16 and a manner below 4 are a number below 64, so no bit is shifted out.
+-- Assumes nothing.
+use Rattle.facts.proofs.Words.{◌≡◌, ◌∙◌, ◌<◌, arith, shl_exact, List, ℕ}
+use Rattle.layout.specs.{irq_size, irq_place_lem, IrqUsed}
+use Rattle.layout.proofs.{used_sound}
+use Rattle.table_read.proofs.{one_shifted}
+use Rattle.table_irqs.specs.{held_as}
+use Rattle.table_irqs.proofs.{own_held, apart_against}
+use Rattle.table_irqs.proofs.irq_holding.Goals as goal
+
+pub returns : goal.returns
+returns c =
+    let table : List ℕ =
+        c.args.t.now in
+    let seat : ℕ =
+        c.args.s.0 in
+    let place : c.irq_place-at.result ≡ irq_place_lem seat =
+        c.irq_place-at.ensures.0 in
+    let used : IrqUsed table seat =
+        λ e. c.if-word-eq0.false ((rw place at c.word.ensures.0) ∙ e) in
+    let number : held_as c.byte-first.result c.byte-manner.result < 64 =
+        let g = used_sound table (irq_place_lem seat) irq_size (omega arith) c.requires.2 used in
+        omega (arith, g.level, g.manner, rw place at c.byte-first.ensures.0, rw place at c.byte-manner.ensures.0) in
+    let manner = rw place at c.byte-manner.ensures.0 in
+    let level = rw place at c.byte-first.ensures.0 in
+    let here = used in
+    let apart = rw c.manner_of.ensures at c.apart.ensures in
+    record {
+      own = own_held table seat level manner here _ (one_shifted _ 64 number);
+      against = apart_against table seat level manner here _ _ apart (shl_exact 4 _ 64 apart.manners (omega (arith, number)));
+    }
