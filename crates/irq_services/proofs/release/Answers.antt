@@ -1,0 +1,74 @@
+-- `irq_services::release` meets its contract: each check's answer says which end of the rule it is.
+-- Assumes nothing.
+use Rattle.facts.proofs.Words.{◌≡◌, ℕ, arith}
+use Rattle.facts.specs.{Manner, release_irq_length, assigned_irq}
+use Rattle.layout.specs.{facts_in}
+use Rattle.service_checks.specs.{BegunAt}
+use Rattle.service_checks.specs.declared.CardNeed.TheVariants.{Ignored}
+use Rattle.service_checks.proofs.{in_table, refused_ahead}
+use Rattle.grants.specs.{LevelOf}
+use Rattle.grants.specs.declared.Level.{Level}
+use Rattle.grants.specs.declared.Level.TheVariants as grant
+use Rattle.irq_services.proofs.{releasing, release_unheld, release_differs, release_done}
+use Rattle.irq_services.proofs.release.Goals as goal
+
+pub level_of-requires : goal.level_of-requires
+level_of-requires c =
+    let seat : ℕ =
+        c.in-At.seat.0 in
+    let begun : BegunAt c.args.t.now c.args.p.now release_irq_length c.args.h.0 Ignored c.in-At.field-0 seat =
+        c.in-At.ensures in
+    in_table c.requires begun
+
+pub returns-in_default : goal.returns-in_default
+returns-in_default c =
+    let seat : ℕ =
+        c.in-At.seat.0 in
+    let begun : BegunAt c.args.t.now c.args.p.now release_irq_length c.args.h.0 Ignored c.in-At.field-0 seat =
+        c.in-At.ensures in
+    let granted : {r : Level} → c.level_of.result ≡ r → LevelOf (facts_in c.args.t.now) c.args.h.0 seat (assigned_irq c.args.p.now) r =
+        λ e. rw c.byte-level.ensures.0 at (rw e at c.level_of.ensures) in
+    release_unheld c.requires begun (granted c.in_default.is)
+
+pub returns-in_default-kind_of : goal.returns-in_default-kind_of
+returns-in_default-kind_of c =
+    let seat : ℕ =
+        c.in-At.seat.0 in
+    let begun : BegunAt c.args.t.now c.args.p.now release_irq_length c.args.h.0 Ignored c.in-At.field-0 seat =
+        c.in-At.ensures in
+    let manner : Manner =
+        c.in-Held.manner in
+    let granted : {r : Level} → c.level_of.result ≡ r → LevelOf (facts_in c.args.t.now) c.args.h.0 seat (assigned_irq c.args.p.now) r =
+        λ e. rw c.byte-level.ensures.0 at (rw e at c.level_of.ensures) in
+    let held : LevelOf (facts_in c.args.t.now) c.args.h.0 seat (assigned_irq c.args.p.now) (grant.Held manner) =
+        granted c.in-Held.is in
+    release_differs c.requires begun manner held c.in_default-kind_of.ensures
+
+pub enter_level-requires : goal.enter_level-requires
+enter_level-requires c =
+    let seat : ℕ =
+        c.in-At.seat.0 in
+    let begun : BegunAt c.args.t.now c.args.p.now release_irq_length c.args.h.0 Ignored c.in-At.field-0 seat =
+        c.in-At.ensures in
+    let t = in_table c.requires begun in
+    (t.0, t.1, omega arith, omega arith)
+
+pub returns-in-Same : goal.returns-in-Same
+returns-in-Same c =
+    let seat : ℕ =
+        c.in-At.seat.0 in
+    let begun : BegunAt c.args.t.now c.args.p.now release_irq_length c.args.h.0 Ignored c.in-At.field-0 seat =
+        c.in-At.ensures in
+    let manner : Manner =
+        c.in-Held.manner in
+    let granted : {r : Level} → c.level_of.result ≡ r → LevelOf (facts_in c.args.t.now) c.args.h.0 seat (assigned_irq c.args.p.now) r =
+        λ e. rw c.byte-level.ensures.0 at (rw e at c.level_of.ensures) in
+    let held : LevelOf (facts_in c.args.t.now) c.args.h.0 seat (assigned_irq c.args.p.now) (grant.Held manner) =
+        granted c.in-Held.is in
+    rw c.enter_level.ensures
+    (release_done c.requires begun manner held c.in-Same.ensures)
+
+pub returns-in-Refused : goal.returns-in-Refused
+returns-in-Refused c =
+    refused_ahead releasing c.requires c.args.h.0 c.args.p.now c.in-Refused.code
+    (c.in-Refused.ensures c.requires)
