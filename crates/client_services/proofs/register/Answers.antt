@@ -24,15 +24,15 @@ pub returns-in_default-next_place : goal.returns-in_default-next_place
 returns-in_default-next_place c =
     let length_right : length c.args.p.now ≡ register_length =
         c.in-Right.ensures in
-    let client : let g = c.attributes-1.given.0 in Asks c.args.p.now g.0 g.1.0 =
+    let client : Asks c.args.p.now c.in-Good.attributes c.in-Good.events =
         c.in-Good.ensures in
     register_full c.requires length_right client c.in_default-next_place.ensures
 
 pub enter-requires : goal.enter-requires
 enter-requires c =
-    let client : let g = c.attributes-1.given.0 in Asks c.args.p.now g.0 g.1.0 =
+    let client : Asks c.args.p.now c.in-Good.attributes c.in-Good.events =
         c.in-Good.ensures in
-    let room : let g = c.n-1.given.0 in NextIs c.args.t.now g.0 g.1.0.0 =
+    let room : NextIs c.args.t.now c.in-Next.n c.in-Next.handle.0 =
         c.in-Next.ensures in
     let few = client.attributes_allowed.bits in
     (size_in _ c.requires, room.room, omega (arith, client.attributes_are, few))
@@ -41,8 +41,8 @@ pub returns : goal.returns
 returns c =
     let length_right : length c.args.p.now ≡ register_length =
         c.in-Right.ensures in
-    let client : let g = c.attributes-1.given.0 in Asks c.args.p.now g.0 g.1.0 =
+    let client : Asks c.args.p.now c.in-Good.attributes c.in-Good.events =
         c.in-Good.ensures in
-    let room : let g = c.n-1.given.0 in NextIs c.args.t.now g.0 g.1.0.0 =
+    let room : NextIs c.args.t.now c.in-Next.n c.in-Next.handle.0 =
         c.in-Next.ensures in
     rw c.enter.ensures (register_done c.requires length_right client room)

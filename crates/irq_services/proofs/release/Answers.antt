@@ -26,9 +26,7 @@ returns-in_default c =
         c.in-At.seat.0 in
     let begun : BegunAt c.args.t.now c.args.p.now release_irq_length c.args.h.0 Ignored c.in-At.field-0 seat =
         c.in-At.ensures in
-    let granted : {r : Level} → c.level_of.result ≡ r → LevelOf (facts_in c.args.t.now) c.args.h.0 seat (assigned_irq c.args.p.now) r =
-        λ e. rw c.byte-level.ensures.0 at (rw e at c.level_of.ensures) in
-    release_unheld c.requires begun (granted c.in_default.is)
+    release_unheld c.requires begun (rw c.byte-level.ensures.0 at c.in_default.ensures)
 
 pub returns-in_default-kind_of : goal.returns-in_default-kind_of
 returns-in_default-kind_of c =
@@ -38,10 +36,8 @@ returns-in_default-kind_of c =
         c.in-At.ensures in
     let manner : Manner =
         c.in-Held.manner in
-    let granted : {r : Level} → c.level_of.result ≡ r → LevelOf (facts_in c.args.t.now) c.args.h.0 seat (assigned_irq c.args.p.now) r =
-        λ e. rw c.byte-level.ensures.0 at (rw e at c.level_of.ensures) in
     let held : LevelOf (facts_in c.args.t.now) c.args.h.0 seat (assigned_irq c.args.p.now) (grant.Held manner) =
-        granted c.in-Held.is in
+        (rw c.byte-level.ensures.0 at c.in-Held.ensures) in
     release_differs c.requires begun manner held c.in_default-kind_of.ensures
 
 pub enter_level-requires : goal.enter_level-requires
@@ -61,10 +57,8 @@ returns-in-Same c =
         c.in-At.ensures in
     let manner : Manner =
         c.in-Held.manner in
-    let granted : {r : Level} → c.level_of.result ≡ r → LevelOf (facts_in c.args.t.now) c.args.h.0 seat (assigned_irq c.args.p.now) r =
-        λ e. rw c.byte-level.ensures.0 at (rw e at c.level_of.ensures) in
     let held : LevelOf (facts_in c.args.t.now) c.args.h.0 seat (assigned_irq c.args.p.now) (grant.Held manner) =
-        granted c.in-Held.is in
+        (rw c.byte-level.ensures.0 at c.in-Held.ensures) in
     rw c.enter_level.ensures
     (release_done c.requires begun manner held c.in-Same.ensures)
 

@@ -65,11 +65,9 @@ returns-in_default-choose c =
         c.in-Good-info_asked.ensures in
     let place_free : LevelHeldIs c.args.t.now seat Free =
         c.in-Free.ensures in
-    let chosen : {r : TakenLevel} → c.choose.result ≡ r → TakenIs c.args.t.now (irq_asked c.args.p.now) r =
-        λ e. rw c.asked-asked.ensures at (rw e at c.choose.ensures) in
     let a = c.requires in
     request_none a begun attributes_good info_good place_free
-    (chosen c.in_default-choose.is a)
+    ((rw c.asked-asked.ensures at c.in_default-choose.ensures) a)
 
 pub enter_level-requires : goal.enter_level-requires
 enter_level-requires c =
@@ -79,10 +77,8 @@ enter_level-requires c =
         c.in-At.ensures in
     let level : ℕ =
         c.in-Level.level in
-    let chosen : {r : TakenLevel} → c.choose.result ≡ r → TakenIs c.args.t.now (irq_asked c.args.p.now) r =
-        λ e. rw c.asked-asked.ensures at (rw e at c.choose.ensures) in
     let level_taken : LevelTaken c.requires.facts (irq_asked c.args.p.now) level =
-        chosen c.in-Level.is c.requires in
+        (rw c.asked-asked.ensures at c.in-Level.ensures) c.requires in
     let level_below : level < all_levels =
         let a = c.requires in
         a.formed.levels level (taken_fits a.facts a.formed (irq_asked c.args.p.now) level level_taken).managed in
@@ -97,10 +93,8 @@ assign-requires c =
         c.in-At.ensures in
     let level : ℕ =
         c.in-Level.level in
-    let chosen : {r : TakenLevel} → c.choose.result ≡ r → TakenIs c.args.t.now (irq_asked c.args.p.now) r =
-        λ e. rw c.asked-asked.ensures at (rw e at c.choose.ensures) in
     let level_taken : LevelTaken c.requires.facts (irq_asked c.args.p.now) level =
-        chosen c.in-Level.is c.requires in
+        (rw c.asked-asked.ensures at c.in-Level.ensures) c.requires in
     let level_below : level < all_levels =
         let a = c.requires in
         a.formed.levels level (taken_fits a.facts a.formed (irq_asked c.args.p.now) level level_taken).managed in
@@ -109,7 +103,7 @@ assign-requires c =
 pub returns-in-Level : goal.returns-in-Level
 returns-in-Level c =
     let handle_fits : c.args.h.0 < 65536 =
-        let g = c.well-formed.1.0 in omega (arith, g) in
+        omega arith in
     let seat : ℕ =
         c.in-At.seat.0 in
     let begun : BegunAt c.args.t.now c.args.p.now request_irq_length c.args.h.0 Needed c.in-At.field-0 seat =
@@ -122,10 +116,8 @@ returns-in-Level c =
         c.in-Free.ensures in
     let level : ℕ =
         c.in-Level.level in
-    let chosen : {r : TakenLevel} → c.choose.result ≡ r → TakenIs c.args.t.now (irq_asked c.args.p.now) r =
-        λ e. rw c.asked-asked.ensures at (rw e at c.choose.ensures) in
     let level_taken : LevelTaken c.requires.facts (irq_asked c.args.p.now) level =
-        chosen c.in-Level.is c.requires in
+        (rw c.asked-asked.ensures at c.in-Level.ensures) c.requires in
     rw (c.enter_level.ensures, c.manner_byte.ensures, c.asked-asked.ensures, c.assign.ensures)
     (request_done c.requires begun attributes_good info_good place_free
     level level_taken handle_fits)

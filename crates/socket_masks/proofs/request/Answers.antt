@@ -10,19 +10,19 @@ use Rattle.socket_masks.proofs.request.Goals as goal
 
 pub returns-in_default : goal.returns-in_default
 returns-in_default c =
-    let begun : let a = c.args in let at = c.begun-1.given.0 in BegunAt (a.t.now) (a.p.now) request_mask_length a.h.0 Needed at.0 at.1.0.0 =
+    let begun : let a = c.args in BegunAt (a.t.now) (a.p.now) request_mask_length a.h.0 Needed c.in-At.i c.in-At.seat.0 =
         c.in-At.ensures in
     request_bad c.requires begun c.in_default.ensures
 
 pub mask_of-requires : goal.mask_of-requires
 mask_of-requires c =
-    let begun : let a = c.args in let at = c.begun-1.given.0 in BegunAt (a.t.now) (a.p.now) request_mask_length a.h.0 Needed at.0 at.1.0.0 =
+    let begun : let a = c.args in BegunAt (a.t.now) (a.p.now) request_mask_length a.h.0 Needed c.in-At.i c.in-At.seat.0 =
         c.in-At.ensures in
     in_table c.requires begun
 
 pub returns-in_default-mask_of : goal.returns-in_default-mask_of
 returns-in_default-mask_of c =
-    let begun : let a = c.args in let at = c.begun-1.given.0 in BegunAt (a.t.now) (a.p.now) request_mask_length a.h.0 Needed at.0 at.1.0.0 =
+    let begun : let a = c.args in BegunAt (a.t.now) (a.p.now) request_mask_length a.h.0 Needed c.in-At.i c.in-At.seat.0 =
         c.in-At.ensures in
     let events : ℕ =
         c.in-Allowed.events in
@@ -32,13 +32,13 @@ returns-in_default-mask_of c =
 
 pub write-requires : goal.write-requires
 write-requires c =
-    let begun : let a = c.args in let at = c.begun-1.given.0 in BegunAt (a.t.now) (a.p.now) request_mask_length a.h.0 Needed at.0 at.1.0.0 =
+    let begun : let a = c.args in BegunAt (a.t.now) (a.p.now) request_mask_length a.h.0 Needed c.in-At.i c.in-At.seat.0 =
         c.in-At.ensures in
     in_table c.requires begun
 
 pub returns-in-Free : goal.returns-in-Free
 returns-in-Free c =
-    let begun : let a = c.args in let at = c.begun-1.given.0 in BegunAt (a.t.now) (a.p.now) request_mask_length a.h.0 Needed at.0 at.1.0.0 =
+    let begun : let a = c.args in BegunAt (a.t.now) (a.p.now) request_mask_length a.h.0 Needed c.in-At.i c.in-At.seat.0 =
         c.in-At.ensures in
     let events : ℕ =
         c.in-Allowed.events in
