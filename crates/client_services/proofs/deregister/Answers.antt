@@ -18,41 +18,27 @@ client_at-requires c =
 
 pub returns-in_default-client_at : goal.returns-in_default-client_at
 returns-in_default-client_at c =
-    let length_right : length c.args.p.now ≡ deregister_length =
-        c.in-Right.ensures in
     let a = c.requires in
     let nobody = c.in_default-client_at.ensures in
-    deregister_refused a (inr ((λ d. d length_right), inl ((λ x. nobody (Of.listed_live _ a _ x)), refl)))
+    deregister_refused a (inr ((λ d. d c.in-Right.ensures), inl ((λ x. nobody (Of.listed_live _ a _ x)), refl)))
 
 pub holds-requires : goal.holds-requires
 holds-requires c =
-    let listed : let a = c.args in ListedAt (a.t.now) a.h.0 c.in-At.i =
-        c.in-At.ensures in
     let sound = sound_in _ c.requires in
-    (sound.size, omega (arith, listed.listed, sound.clients_most))
+    (sound.size, omega (arith, c.in-At.ensures.listed, sound.clients_most))
 
 pub returns-in_default-holds : goal.returns-in_default-holds
 returns-in_default-holds c =
-    let length_right : length c.args.p.now ≡ deregister_length =
-        c.in-Right.ensures in
-    let listed : let a = c.args in ListedAt (a.t.now) a.h.0 c.in-At.i =
-        c.in-At.ensures in
     let a = c.requires in
-    let held = holds_all a listed c.in_default-holds.ensures in
-    deregister_refused a (inr ((λ d. d length_right), inr ((λ d. d (found_live a listed)), inl (held, refl))))
+    let held = holds_all a c.in-At.ensures c.in_default-holds.ensures in
+    deregister_refused a (inr ((λ d. d c.in-Right.ensures), inr ((λ d. d (found_live a c.in-At.ensures)), inl (held, refl))))
 
 pub withdraw-requires : goal.withdraw-requires
 withdraw-requires c =
-    let listed : let a = c.args in ListedAt (a.t.now) a.h.0 c.in-At.i =
-        c.in-At.ensures in
     let sound = sound_in _ c.requires in
-    (sound.size, listed.listed, sound.clients_most)
+    (sound.size, c.in-At.ensures.listed, sound.clients_most)
 
 pub returns : goal.returns
 returns c =
-    let length_right : length c.args.p.now ≡ deregister_length =
-        c.in-Right.ensures in
-    let listed : let a = c.args in ListedAt (a.t.now) a.h.0 c.in-At.i =
-        c.in-At.ensures in
-    deregister_done c.requires length_right listed c.in-Nothing.ensures
+    deregister_done c.requires c.in-Right.ensures c.in-At.ensures c.in-Nothing.ensures
     c.withdraw.ensures

@@ -13,36 +13,20 @@ returns-in_default c =
 
 pub returns-in_default-asks : goal.returns-in_default-asks
 returns-in_default-asks c =
-    let length_right : length c.args.p.now ≡ register_length =
-        c.in-Right.ensures in
-    register_bad c.requires length_right c.in_default-asks.ensures
+    register_bad c.requires c.in-Right.ensures c.in_default-asks.ensures
 
 pub next_place-requires : goal.next_place-requires
 next_place-requires c = size_in _ c.requires
 
 pub returns-in_default-next_place : goal.returns-in_default-next_place
 returns-in_default-next_place c =
-    let length_right : length c.args.p.now ≡ register_length =
-        c.in-Right.ensures in
-    let client : Asks c.args.p.now c.in-Good.attributes c.in-Good.events =
-        c.in-Good.ensures in
-    register_full c.requires length_right client c.in_default-next_place.ensures
+    register_full c.requires c.in-Right.ensures c.in-Good.ensures c.in_default-next_place.ensures
 
 pub enter-requires : goal.enter-requires
 enter-requires c =
-    let client : Asks c.args.p.now c.in-Good.attributes c.in-Good.events =
-        c.in-Good.ensures in
-    let room : NextIs c.args.t.now c.in-Next.n c.in-Next.handle.0 =
-        c.in-Next.ensures in
-    let few = client.attributes_allowed.bits in
-    (size_in _ c.requires, room.room, omega (arith, client.attributes_are, few))
+    let few = c.in-Good.ensures.attributes_allowed.bits in
+    (size_in _ c.requires, c.in-Next.ensures.room, omega (arith, c.in-Good.ensures.attributes_are, few))
 
 pub returns : goal.returns
 returns c =
-    let length_right : length c.args.p.now ≡ register_length =
-        c.in-Right.ensures in
-    let client : Asks c.args.p.now c.in-Good.attributes c.in-Good.events =
-        c.in-Good.ensures in
-    let room : NextIs c.args.t.now c.in-Next.n c.in-Next.handle.0 =
-        c.in-Next.ensures in
-    rw c.enter.ensures (register_done c.requires length_right client room)
+    rw c.enter.ensures (register_done c.requires c.in-Right.ensures c.in-Good.ensures c.in-Next.ensures)

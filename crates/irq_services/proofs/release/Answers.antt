@@ -14,53 +14,29 @@ use Rattle.irq_services.proofs.release.Goals as goal
 
 pub level_of-requires : goal.level_of-requires
 level_of-requires c =
-    let seat : ℕ =
-        c.in-At.seat.0 in
-    let begun : BegunAt c.args.t.now c.args.p.now release_irq_length c.args.h.0 Ignored c.in-At.field-0 seat =
-        c.in-At.ensures in
-    in_table c.requires begun
+    in_table c.requires c.in-At.ensures
 
 pub returns-in_default : goal.returns-in_default
 returns-in_default c =
-    let seat : ℕ =
-        c.in-At.seat.0 in
-    let begun : BegunAt c.args.t.now c.args.p.now release_irq_length c.args.h.0 Ignored c.in-At.field-0 seat =
-        c.in-At.ensures in
-    release_unheld c.requires begun (rw c.byte-level.ensures.0 at c.in_default.ensures)
+    release_unheld c.requires c.in-At.ensures (rw c.byte-level.ensures.0 at c.in_default.ensures)
 
 pub returns-in_default-kind_of : goal.returns-in_default-kind_of
 returns-in_default-kind_of c =
-    let seat : ℕ =
-        c.in-At.seat.0 in
-    let begun : BegunAt c.args.t.now c.args.p.now release_irq_length c.args.h.0 Ignored c.in-At.field-0 seat =
-        c.in-At.ensures in
-    let manner : Manner =
-        c.in-Held.manner in
-    let held : LevelOf (facts_in c.args.t.now) c.args.h.0 seat (assigned_irq c.args.p.now) (grant.Held manner) =
+    let held : LevelOf (facts_in c.args.t.now) c.args.h.0 c.in-At.seat.0 (assigned_irq c.args.p.now) (grant.Held c.in-Held.manner) =
         (rw c.byte-level.ensures.0 at c.in-Held.ensures) in
-    release_differs c.requires begun manner held c.in_default-kind_of.ensures
+    release_differs c.requires c.in-At.ensures c.in-Held.manner held c.in_default-kind_of.ensures
 
 pub enter_level-requires : goal.enter_level-requires
 enter_level-requires c =
-    let seat : ℕ =
-        c.in-At.seat.0 in
-    let begun : BegunAt c.args.t.now c.args.p.now release_irq_length c.args.h.0 Ignored c.in-At.field-0 seat =
-        c.in-At.ensures in
-    let t = in_table c.requires begun in
+    let t = in_table c.requires c.in-At.ensures in
     (t.0, t.1, omega arith, omega arith)
 
 pub returns-in-Same : goal.returns-in-Same
 returns-in-Same c =
-    let seat : ℕ =
-        c.in-At.seat.0 in
-    let begun : BegunAt c.args.t.now c.args.p.now release_irq_length c.args.h.0 Ignored c.in-At.field-0 seat =
-        c.in-At.ensures in
-    let manner : Manner =
-        c.in-Held.manner in
-    let held : LevelOf (facts_in c.args.t.now) c.args.h.0 seat (assigned_irq c.args.p.now) (grant.Held manner) =
+    let held : LevelOf (facts_in c.args.t.now) c.args.h.0 c.in-At.seat.0 (assigned_irq c.args.p.now) (grant.Held c.in-Held.manner) =
         (rw c.byte-level.ensures.0 at c.in-Held.ensures) in
     rw c.enter_level.ensures
-    (release_done c.requires begun manner held c.in-Same.ensures)
+    (release_done c.requires c.in-At.ensures c.in-Held.manner held c.in-Same.ensures)
 
 pub returns-in-Refused : goal.returns-in-Refused
 returns-in-Refused c =

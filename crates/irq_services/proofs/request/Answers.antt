@@ -16,57 +16,25 @@ use Rattle.irq_services.proofs.request.Goals as goal
 
 pub returns-in_default : goal.returns-in_default
 returns-in_default c =
-    let seat : ℕ =
-        c.in-At.seat.0 in
-    let begun : BegunAt c.args.t.now c.args.p.now request_irq_length c.args.h.0 Needed c.in-At.field-0 seat =
-        c.in-At.ensures in
-    request_attributes c.requires begun c.in_default.ensures
+    request_attributes c.requires c.in-At.ensures c.in_default.ensures
 
 pub returns-in_default-info_asked : goal.returns-in_default-info_asked
 returns-in_default-info_asked c =
-    let seat : ℕ =
-        c.in-At.seat.0 in
-    let begun : BegunAt c.args.t.now c.args.p.now request_irq_length c.args.h.0 Needed c.in-At.field-0 seat =
-        c.in-At.ensures in
-    let attributes_good : IrqAttributesBad c.args.p.now → ⊥ =
-        c.in-Good.ensures in
-    request_info c.requires begun attributes_good c.in_default-info_asked.ensures
+    request_info c.requires c.in-At.ensures c.in-Good.ensures c.in_default-info_asked.ensures
 
 pub level_held-requires : goal.level_held-requires
 level_held-requires c =
-    let seat : ℕ =
-        c.in-At.seat.0 in
-    let begun : BegunAt c.args.t.now c.args.p.now request_irq_length c.args.h.0 Needed c.in-At.field-0 seat =
-        c.in-At.ensures in
-    in_table c.requires begun
+    in_table c.requires c.in-At.ensures
 
 pub returns-in_default-level_held : goal.returns-in_default-level_held
 returns-in_default-level_held c =
-    let seat : ℕ =
-        c.in-At.seat.0 in
-    let begun : BegunAt c.args.t.now c.args.p.now request_irq_length c.args.h.0 Needed c.in-At.field-0 seat =
-        c.in-At.ensures in
-    let attributes_good : IrqAttributesBad c.args.p.now → ⊥ =
-        c.in-Good.ensures in
-    let info_good : IrqInfoBad c.args.p.now → ⊥ =
-        c.in-Good-info_asked.ensures in
-    request_held c.requires begun attributes_good info_good _
+    request_held c.requires c.in-At.ensures c.in-Good.ensures c.in-Good-info_asked.ensures _
     c.in_default-level_held.ensures
 
 pub returns-in_default-choose : goal.returns-in_default-choose
 returns-in_default-choose c =
-    let seat : ℕ =
-        c.in-At.seat.0 in
-    let begun : BegunAt c.args.t.now c.args.p.now request_irq_length c.args.h.0 Needed c.in-At.field-0 seat =
-        c.in-At.ensures in
-    let attributes_good : IrqAttributesBad c.args.p.now → ⊥ =
-        c.in-Good.ensures in
-    let info_good : IrqInfoBad c.args.p.now → ⊥ =
-        c.in-Good-info_asked.ensures in
-    let place_free : LevelHeldIs c.args.t.now seat Free =
-        c.in-Free.ensures in
     let a = c.requires in
-    request_none a begun attributes_good info_good place_free
+    request_none a c.in-At.ensures c.in-Good.ensures c.in-Good-info_asked.ensures c.in-Free.ensures
     ((rw c.asked-asked.ensures at c.in_default-choose.ensures) a)
 
 pub enter_level-requires : goal.enter_level-requires

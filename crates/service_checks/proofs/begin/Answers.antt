@@ -12,31 +12,17 @@ use Rattle.service_checks.proofs.begin.Goals as goal
 
 pub client_at-requires : goal.client_at-requires
 client_at-requires c =
-    let table : List ℕ =
-        c.args.t.now in
     let a = c.requires.0 in
-    (size_in table a, omega (arith, clients_in_lem table a, a.formed.clients_most))
+    (size_in c.args.t.now a, omega (arith, clients_in_lem c.args.t.now a, a.formed.clients_most))
 
 pub returns-in_default-client_at : goal.returns-in_default-client_at
 returns-in_default-client_at c a =
-    let packet : List ℕ =
-        c.args.p.now in
-    let handle : ℕ =
-        c.args.h.0 in
-    let length_right : length packet ≡ c.args.n =
-        c.in-Right.ensures in
-    by_handle a packet c.args.n handle length_right c.args.need
+    by_handle a c.args.p.now c.args.n c.args.h.0 c.in-Right.ensures c.args.need
     c.in_default-client_at.ensures
 
 pub socket_named-requires : goal.socket_named-requires
 socket_named-requires c =
-    let table : List ℕ =
-        c.args.t.now in
-    let packet : List ℕ =
-        c.args.p.now in
-    let length_right : length packet ≡ c.args.n =
-        c.in-Right.ensures in
-    (size_in table c.requires.0, omega (arith, length_right, c.requires.1))
+    (size_in c.args.t.now c.requires.0, omega (arith, c.in-Right.ensures, c.requires.1))
 
 pub returns-in_default-socket_named : goal.returns-in_default-socket_named
 returns-in_default-socket_named c a =
@@ -57,16 +43,8 @@ returns-in_default-socket_named c a =
 
 pub card_asked-requires : goal.card_asked-requires
 card_asked-requires c =
-    let table : List ℕ =
-        c.args.t.now in
-    let packet : List ℕ =
-        c.args.p.now in
-    let socket : ℕ =
-        c.in-At-socket_named.socket.0 in
-    let socket_named_lem : NamesSocket table packet socket =
-        c.in-At-socket_named.ensures in
     let a = c.requires.0 in
-    (size_in table a, omega (arith, socket_named_lem.number, socket_named_lem.counted, sockets_in_lem table a, a.formed.sockets_most))
+    (size_in c.args.t.now a, omega (arith, c.in-At-socket_named.ensures.number, c.in-At-socket_named.ensures.counted, sockets_in_lem c.args.t.now a, a.formed.sockets_most))
 
 pub returns-in_default-card_asked : goal.returns-in_default-card_asked
 returns-in_default-card_asked c a =

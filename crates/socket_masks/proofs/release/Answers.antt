@@ -9,28 +9,20 @@ use Rattle.socket_masks.proofs.release.Goals as goal
 
 pub mask_of-requires : goal.mask_of-requires
 mask_of-requires c =
-    let begun : let a = c.args in BegunAt (a.t.now) (a.p.now) release_mask_length a.h.0 Ignored c.in-At.i c.in-At.seat.0 =
-        c.in-At.ensures in
-    in_table c.requires begun
+    in_table c.requires c.in-At.ensures
 
 pub returns-in_default : goal.returns-in_default
 returns-in_default c =
-    let begun : let a = c.args in BegunAt (a.t.now) (a.p.now) release_mask_length a.h.0 Ignored c.in-At.i c.in-At.seat.0 =
-        c.in-At.ensures in
-    release_nothing c.requires begun c.in_default.ensures
+    release_nothing c.requires c.in-At.ensures c.in_default.ensures
 
 pub write-requires : goal.write-requires
 write-requires c =
-    let begun : let a = c.args in BegunAt (a.t.now) (a.p.now) release_mask_length a.h.0 Ignored c.in-At.i c.in-At.seat.0 =
-        c.in-At.ensures in
-    in_table c.requires begun
+    in_table c.requires c.in-At.ensures
 
 pub returns-in-Held : goal.returns-in-Held
 returns-in-Held c =
-    let begun : let a = c.args in BegunAt (a.t.now) (a.p.now) release_mask_length a.h.0 Ignored c.in-At.i c.in-At.seat.0 =
-        c.in-At.ensures in
     rw c.write.ensures
-    (release_done c.requires begun c.in-Held.ensures)
+    (release_done c.requires c.in-At.ensures c.in-Held.ensures)
 
 pub returns-in-Refused : goal.returns-in-Refused
 returns-in-Refused c =
