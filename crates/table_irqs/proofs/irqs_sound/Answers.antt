@@ -13,8 +13,6 @@ use Rattle.table_irqs.proofs.irqs_sound.Goals as goal
 
 pub returns-then-not-zero : goal.returns-then-not-zero
 returns-then-not-zero c =
-    let below : c.loop.s < sockets_in c.args.t.now =
-        omega (arith, c.loop-test.true, c.byte-sockets.ensures.0) in
     says_false_by c.zero-2.ensures c.if-not-zero.true
     (sound_zero c.args.t.now _ _ irq_size irq_place_lem (λ i. (i - irqs_at) / irq_size)
     (λ i f l. (omega arith, omega arith, record { from = omega arith; below = omega arith })) (λ s g. omega (arith, g.socket, c.byte-sockets.ensures.0)))
