@@ -1,5 +1,4 @@
 -- What the loops of `table_irqs::irqs_sound` keep.
-use Rattle.facts.proofs.Words.{◌-◌}
 use Rattle.layout.specs.{IrqPlaceSound, IrqPairSound}
 use Rattle.table_read.specs.{HasJust}
 use Rattle.table_read.proofs.{SoFar}
