@@ -9,30 +9,24 @@ use Rattle.managed_levels.proofs.{marked_managed, unmarked_unmanaged}
 use Rattle.managed_levels.proofs.remove.Goals as goal
 
 pub returns-in_default : goal.returns-in_default
-returns-in_default c =
-    stays _ _ c.requires (inl (c.in_default.ensures, refl), refl)
+returns-in_default c = stays _ _ c.requires (inl (c.in_default.ensures, refl), refl)
 
 pub returns-in_default-below_levels : goal.returns-in_default-below_levels
 returns-in_default-below_levels c =
-    let no_bits : c.args.attributes ≡ 0 =
-        c.in-Clear.ensures in
+    let no_bits : c.args.attributes ≡ 0 = c.in-Clear.ensures in
     stays _ _ c.requires
     (inr ((λ n. n no_bits), inl (c.in_default-below_levels.ensures, refl)), refl)
 
 pub whether_managed-requires : goal.whether_managed-requires
 whether_managed-requires c =
-    let level : LevelIs c.args.level (Below c.in-Below.l) =
-        c.in-Below.ensures in
-    let level_below : c.in-Below.l < all_levels =
-        omega (arith, level) in
+    let level : LevelIs c.args.level (Below c.in-Below.l) = c.in-Below.ensures in
+    let level_below : c.in-Below.l < all_levels = omega (arith, level) in
     (size_in _ c.requires, level_below)
 
 pub returns-in_default-whether_managed : goal.returns-in_default-whether_managed
 returns-in_default-whether_managed c =
-    let no_bits : c.args.attributes ≡ 0 =
-        c.in-Clear.ensures in
-    let level : LevelIs c.args.level (Below c.in-Below.l) =
-        c.in-Below.ensures in
+    let no_bits : c.args.attributes ≡ 0 = c.in-Clear.ensures in
+    let level : LevelIs c.args.level (Below c.in-Below.l) = c.in-Below.ensures in
     let a = c.requires in
     let here = rw (c.in_default-whether_managed.is, level.0) at c.whether_managed.ensures in
     stays _ _ a
@@ -40,10 +34,8 @@ returns-in_default-whether_managed c =
 
 pub returns-in_default-of_level : goal.returns-in_default-of_level
 returns-in_default-of_level c =
-    let no_bits : c.args.attributes ≡ 0 =
-        c.in-Clear.ensures in
-    let level : LevelIs c.args.level (Below c.in-Below.l) =
-        c.in-Below.ensures in
+    let no_bits : c.args.attributes ≡ 0 = c.in-Clear.ensures in
+    let level : LevelIs c.args.level (Below c.in-Below.l) = c.in-Below.ensures in
     let managed : (c.requires.facts.level c.args.level).managed ≢ false =
         λ f. let here = rw (c.in-Managed.is, level.0) at c.whether_managed.ensures in
         true≢false (sym (marked_managed c.requires level.1 here) ∙ f) in
@@ -53,18 +45,14 @@ returns-in_default-of_level c =
 
 pub mark-requires : goal.mark-requires
 mark-requires c =
-    let level : LevelIs c.args.level (Below c.in-Below.l) =
-        c.in-Below.ensures in
-    let level_below : c.in-Below.l < all_levels =
-        omega (arith, level) in
+    let level : LevelIs c.args.level (Below c.in-Below.l) = c.in-Below.ensures in
+    let level_below : c.in-Below.l < all_levels = omega (arith, level) in
     (size_in _ c.requires, level_below)
 
 pub returns : goal.returns
 returns c =
-    let no_bits : c.args.attributes ≡ 0 =
-        c.in-Clear.ensures in
-    let level : LevelIs c.args.level (Below c.in-Below.l) =
-        c.in-Below.ensures in
+    let no_bits : c.args.attributes ≡ 0 = c.in-Clear.ensures in
+    let level : LevelIs c.args.level (Below c.in-Below.l) = c.in-Below.ensures in
     let managed : (c.requires.facts.level c.args.level).managed ≢ false =
         λ f. let here = rw (c.in-Managed.is, level.0) at c.whether_managed.ensures in
         true≢false (sym (marked_managed c.requires level.1 here) ∙ f) in
