@@ -1,9 +1,6 @@
 -- The walk along a boot list, over a slice of records and over bytes. Assumes nothing.
-mod ByHand
 pub mod Bytes
-pub mod Lending
 pub mod Walking
 pub use Bytes.{record_read, taken_more}
-pub use Lending.{several, word, table_ty, byte_ty, lent_ty, free, held, local, puts, bytes, Kept, lends, home, Front, Others, apart, together}
 pub use Walking.{range_adds, level_adds, Walked, walked_none, ends_length, walked_length, walked_through, walked_one}
 pub use Walking.{walked_refused, bytes_all, bytes_broken, bytes_more, bytes_stopped}

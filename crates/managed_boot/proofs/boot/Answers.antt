@@ -1,0 +1,39 @@
+-- `managed_boot::boot` meets its contract: a record is refused, some more are added, and at the end too few bytes are left for a record, or none.
+-- Assumes nothing.
+use Rattle.facts.proofs.Words.{refl, List, ℕ, ◌+◌, ◌*◌, ◌≤◌, arith, length}
+use Rattle.facts.specs.{record_size}
+use Rattle.managed_boot.proofs.{walked_none, bytes_all, bytes_broken, bytes_more, bytes_stopped}
+use Rattle.managed_boot.proofs.boot.Goals as goal
+
+pub loop-at-init : goal.loop-at-init
+loop-at-init c = (omega arith, refl, walked_none c.requires)
+
+pub overflow_add-result : goal.overflow_add-result
+overflow_add-result c =
+    let list : List ℕ = c.args.records.now in
+    let full : c.loop-at.at + c.next-n.result * record_size ≤ length list = omega (arith, c.next-n.ensures, c.loop-at.invariant.0) in
+    let refusal = bytes_stopped list c.loop-at.at c.loop-at.invariant.2 c.next-n.result full c.in-Stopped.ensures in
+    omega (arith, c.next-n.ensures, c.loop-at.invariant.1, refusal.0)
+
+pub returns-in-Stopped : goal.returns-in-Stopped
+returns-in-Stopped c =
+    let list : List ℕ = c.args.records.now in
+    let full : c.loop-at.at + c.next-n.result * record_size ≤ length list = omega (arith, c.next-n.ensures, c.loop-at.invariant.0) in
+    (bytes_stopped list c.loop-at.at c.loop-at.invariant.2 c.next-n.result full c.in-Stopped.ensures).1
+
+pub loop-at-preserved : goal.loop-at-preserved
+loop-at-preserved c =
+    let list : List ℕ = c.args.records.now in
+    let l = c.loop-at in
+    let full : l.at + c.next-n.result * record_size ≤ length list = omega (arith, c.next-n.ensures, l.invariant.0) in
+    (full, omega (arith, l.invariant.1), bytes_more list l.at l.invariant.2 c.next-n.result full c.in-All.ensures)
+
+pub returns-then-at-bytes : goal.returns-then-at-bytes
+returns-then-at-bytes c =
+    let l = c.loop-at in
+    bytes_broken c.args.records.now l.at l.invariant.2 l.invariant.1 c.if-at-bytes.true (omega (arith, c.loop-at-test.false))
+
+pub returns : goal.returns
+returns c =
+    let l = c.loop-at in
+    bytes_all c.args.records.now l.at l.invariant.2 l.invariant.1 (omega (arith, c.if-at-bytes.false)) l.invariant.0

@@ -1,0 +1,28 @@
+-- `managed_ranges::add` meets its contract: the bits, or the ports that are named, are wrong, or the ports are put in.
+-- Assumes nothing.
+use Rattle.facts.proofs.Words.{refl, inl, ℕ, eqb}
+use Rattle.facts.specs.{Facts, put_checks, range_added, reserve_bit}
+use Rattle.layout.proofs.{stays}
+use Rattle.managed_changes.specs.declared.Reserve.TheVariants.{Mark}
+use Rattle.managed_changes.specs.{ReserveIs}
+use Rattle.managed_ranges.specs.{NamesPorts}
+use Rattle.managed_ranges.proofs.{ports_wrong, own_change}
+use Rattle.managed_ranges.proofs.add.Goals as goal
+
+pub returns-in_default : goal.returns-in_default
+returns-in_default c = stays _ _ c.requires (inl (inl c.in_default.ensures, refl), refl)
+
+pub returns-in-Ports : goal.returns-in-Ports
+returns-in-Ports c =
+    let bits : ReserveIs c.args.r.attributes (Mark c.in-Mark.reserved) = c.in-Mark.ensures in
+    let ports : let r = c.args.r in NamesPorts r.base r.count r.lines c.in-Ports.base c.in-Ports.count = c.in-Ports.ensures in
+    let bits = bits in
+    let a = c.args.r.attributes in
+    own_change put_checks (λ (x y : ℕ) (F : Facts). range_added F x y a) _ _ bits.0 ports c.put.result
+    (c.put.ensures (eqb a reserve_bit) bits.1)
+
+pub returns-in-Wrong : goal.returns-in-Wrong
+returns-in-Wrong c =
+    let bits : ReserveIs c.args.r.attributes (Mark c.in-Mark.reserved) = c.in-Mark.ensures in
+    let wrong = c.in-Wrong.ensures in
+    stays _ _ c.requires (ports_wrong c.args.r.base (put_checks _ _ _) bits.0 wrong, refl)

@@ -1,0 +1,8 @@
+-- `managed_ranges::place` meets its contract. The invariant: the ranges from `i` on have no base below the number.
+-- Assumes nothing.
+use Rattle.facts.proofs.Words.{arith}
+use Rattle.managed_ranges.proofs.{down_found}
+use Rattle.managed_ranges.proofs.place.Goals as goal
+
+pub returns-then-word-from : goal.returns-then-word-from
+returns-then-word-from c = down_found c.loop-i.invariant.1 c.requires.2 (omega arith) (omega (arith, c.if-word-from.true, c.word.ensures.0))
