@@ -1,6 +1,6 @@
 -- `io_obstacles::lowest` meets its contract: the search has come to the multiple `base`, and every one before it is barred; so is what is known.
 -- Assumes nothing.
-use Rattle.facts.proofs.Words.{inl, ℕ, ◌+◌, ◌-◌, ◌≤◌, arith}
+use Rattle.facts.proofs.Words.{inl, ℕ, ◌+◌, ◌≤◌, arith}
 use Rattle.io_obstacles.specs.{LiesInRows, Barring, grant_places, BarredFor, SearchFits}
 use Rattle.io_obstacles.proofs.{power_most, AllBarred, leap_barred, Gone, gone_on, gone_along, gone_free, gone_past}
 use Rattle.io_obstacles.proofs.{rows_repeat, rows_more, learnt_barring}

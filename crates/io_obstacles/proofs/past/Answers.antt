@@ -11,7 +11,7 @@ returns-then-width-behind c =
         let a = c.args in record { start = a.start; ones = a.ones; width = a.width } in
     let behind : let a = c.args in bit_and c.wrapping_sub_u16.result a.ones ≡ (a.base + around - a.start) % (a.ones + 1) =
         wrapped_behind c.args.start c.args.base c.wrapping_sub_u16.result c.args.ones (omega arith) (omega arith)
-        c.wrapping_sub_u16.ensures c.requires (omega arith) in
+        c.wrapping_sub_u16.ensures.value c.requires (omega arith) in
     let a = c.args in
     leap_none bar a.base a.limit (omega arith) (omega arith) (rw (← behind) c.if-width-behind.true)
 
@@ -21,7 +21,7 @@ returns c =
         let a = c.args in record { start = a.start; ones = a.ones; width = a.width } in
     let behind : let a = c.args in bit_and c.wrapping_sub_u16.result a.ones ≡ (a.base + around - a.start) % (a.ones + 1) =
         wrapped_behind c.args.start c.args.base c.wrapping_sub_u16.result c.args.ones (omega arith) (omega arith)
-        c.wrapping_sub_u16.ensures c.requires (omega arith) in
+        c.wrapping_sub_u16.ensures.value c.requires (omega arith) in
     let a = c.args in
     rw behind
     (leap_some bar a.base a.limit (omega arith) (omega arith) (omega (arith, c.if-limit-ones.false))

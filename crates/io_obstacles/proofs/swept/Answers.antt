@@ -1,6 +1,6 @@
 -- `io_obstacles::swept` meets its contract: what the search passed from 0 on is barred again after each period.
 -- Assumes nothing.
-use Rattle.facts.proofs.Words.{ℕ, ◌+◌, ◌-◌, ◌<◌, arith}
+use Rattle.facts.proofs.Words.{ℕ, ◌+◌, ◌<◌, arith}
 use Rattle.facts.specs.{all_ports}
 use Rattle.io_obstacles.specs.{Stretch, BarredFor, Barring, LearntIs}
 use Rattle.io_obstacles.proofs.{power_most, leap_barred, gone_on, bars_repeat, learnt_barring}
