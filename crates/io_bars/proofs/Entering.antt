@@ -1,5 +1,5 @@
 -- Bars are entered in the rows, one after the other. Assumes nothing.
-use Rattle.facts.proofs.Words.{◌≡◌, ap, sym, ◌∙◌, subst, ◌⊎◌, inl, inr, ◌≢◌, List, ℕ, ◌+◌, ◌-◌, ◌≤◌, ◌<◌, eq-or-lt_of_le, arith}
+use Rattle.facts.proofs.Words.{◌≡◌, ap, sym, ◌∙◌, subst, ◌⊎◌, inl, inr, ◌≢◌, List, ℕ, ◌+◌, ◌≤◌, ◌<◌, eq-or-lt_of_le, arith}
 use Rattle.facts.proofs.Words.{length, set, get_or, get_or-set_same, get_or-set_other, length-set}
 use Rattle.io_obstacles.specs.{gap_places, Stretch, bar_at, StretchFits, RowsFit, LiesInRows, Lies}
 use Rattle.io_bars.specs.{Bar, stretch, bar_entered}

@@ -1,5 +1,5 @@
 -- The rows that were filled bar just the bases at which ports meet a live grant, or a gap. Assumes nothing.
-use Rattle.facts.proofs.Words.{◌≡◌, ap, sym, ◌∙◌, subst, List, none, some-injective, none-ne-some, ℕ, ◌+◌, ◌-◌, ◌<◌, arith}
+use Rattle.facts.proofs.Words.{◌≡◌, ap, sym, ◌∙◌, subst, List, some-injective, none-ne-some, ℕ, ◌+◌, ◌<◌, arith}
 use Rattle.facts.proofs.Words.{length, get_or, replicate, length-replicate}
 use Rattle.facts.specs.{MeetsHeld, Facts, HeldPorts, Held, Meet, most_seats, most_lines, all_ports}
 use Rattle.layout.specs.{Accepted}

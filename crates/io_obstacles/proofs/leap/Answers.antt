@@ -1,6 +1,6 @@
 -- `io_obstacles::leap` meets its contract: the farthest end of the bars passed.
 -- Assumes nothing.
-use Rattle.facts.proofs.Words.{◌-◌, arith}
+use Rattle.facts.proofs.Words.{arith}
 use Rattle.io_obstacles.proofs.{leap_more}
 use Rattle.io_obstacles.proofs.leap.Goals as goal
 

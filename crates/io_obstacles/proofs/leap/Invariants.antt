@@ -1,5 +1,5 @@
 -- What the loops of `io_obstacles::leap` keep.
-use Rattle.facts.proofs.Words.{◌-◌, ◌≤◌}
+use Rattle.facts.proofs.Words.{◌≤◌}
 use Rattle.io_obstacles.specs.{LiesInFirst, Leaps}
 use Rattle.io_obstacles.proofs.leap.Given as goal
 

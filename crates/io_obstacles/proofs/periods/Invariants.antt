@@ -1,5 +1,5 @@
 -- What the loops of `io_obstacles::periods` keep.
-use Rattle.facts.proofs.Words.{◌-◌, ◌≤◌}
+use Rattle.facts.proofs.Words.{◌≤◌}
 use Rattle.io_obstacles.specs.{grant_places}
 use Rattle.io_obstacles.proofs.periods.Given as goal
 

@@ -1,6 +1,6 @@
 -- `io_obstacles::run_end` meets its contract: the search has come to the multiple `base`, and every one before it lies in a bar with a short period.
 -- Assumes nothing.
-use Rattle.facts.proofs.Words.{◌+◌, ◌-◌, arith}
+use Rattle.facts.proofs.Words.{◌+◌, arith}
 use Rattle.io_obstacles.proofs.{power_most, leap_barred, gone_on}
 use Rattle.io_obstacles.proofs.run_end.Goals as goal
 

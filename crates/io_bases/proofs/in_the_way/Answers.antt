@@ -1,0 +1,16 @@
+-- `io_bases::in_the_way` meets its contract: what is held at some seat stands in the way, or at none.
+-- Assumes nothing.
+use Rattle.facts.proofs.Words.{arith}
+use Rattle.io_bases.proofs.{way-said, said_way}
+use Rattle.io_bases.proofs.in_the_way.Goals as goal
+
+pub returns-then-stands : goal.returns-then-stands
+returns-then-stands c =
+    let a = c.args in
+    λ b. way-said (a.t.now) a.asked b c.loop-s.s (c.stands.ensures.holds c.if-stands.true)
+
+pub returns : goal.returns
+returns c =
+    let a = c.args in
+    λ b w. let x = said_way (a.t.now) a.asked b w in
+    c.loop-s.invariant.each x.0 (omega (arith, x.1, c.loop-s-test.false)) x.2
