@@ -4,10 +4,10 @@ use Rattle.io_bases.proofs.{none, first, low}
 use Rattle.io_bases.proofs.chosen.Goals as goal
 
 pub returns-in_default : goal.returns-in_default
-returns-in_default c =
-    λ a. none a.facts _ c.requires.2 (c.in_default.ensures a)
+returns-in_default c = λ a. none a.facts _ c.requires.2 (c.in_default.ensures a)
 
 pub returns : goal.returns
 returns c =
     let taken = c.in-Base.ensures in
-    (low c.requires.0.facts _ c.requires.2 c.in-Base.base c.requires.1.port (taken c.requires.0), λ a. first a.facts _ c.requires.2 c.in-Base.base (taken a))
+    let x = c.in-Base.base in
+    (low c.requires.0.facts _ c.requires.2 x c.requires.1.port (taken c.requires.0), λ a. first a.facts _ c.requires.2 x (taken a))

@@ -5,12 +5,9 @@ use Rattle.io_bases.proofs.{way-said, said_way}
 use Rattle.io_bases.proofs.in_the_way.Goals as goal
 
 pub returns-then-stands : goal.returns-then-stands
-returns-then-stands c =
-    let a = c.args in
-    λ b. way-said (a.t.now) a.asked b c.loop-s.s (c.stands.ensures.holds c.if-stands.true)
+returns-then-stands c = λ b. way-said c.args.t.now c.args.asked b c.loop-s.s (c.stands.ensures.holds c.if-stands.true)
 
 pub returns : goal.returns
 returns c =
-    let a = c.args in
-    λ b w. let x = said_way (a.t.now) a.asked b w in
+    λ b w. let x = said_way c.args.t.now c.args.asked b w in
     c.loop-s.invariant.each x.0 (omega (arith, x.1, c.loop-s-test.false)) x.2
