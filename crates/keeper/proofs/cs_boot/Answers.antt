@@ -22,4 +22,4 @@ pack-requires-2 c =
         c.args.table.now in
     let list : List ℕ =
         c.args.records.now in
-    low_place list table c.boot.new.0 c.boot.result c.boot.ensures
+    low_place list table c.boot.new.t c.boot.result c.boot.ensures

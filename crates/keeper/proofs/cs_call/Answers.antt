@@ -1,6 +1,6 @@
 -- `keeper::cs_call` meets its contract: the table is not well formed, or the service rules, or the number is no service's.
 -- Assumes nothing.
-use Rattle.facts.proofs.Words.{subst, List, ℕ, arith}
+use Rattle.facts.proofs.Words.{rules, subst, List, ℕ, arith}
 use Rattle.facts.specs.{Bytes, register_client, deregister_client, adjust_resource_info, request_irq, release_irq, request_io, release_io, request_socket_mask}
 use Rattle.facts.specs.{release_socket_mask}
 use Rattle.layout.specs.{Accepted}
@@ -17,7 +17,7 @@ returns-in_default c =
     let unformed : Accepted table → ⊥ =
         subst (LoadedIs table) c.in_default.is c.load.ensures in
     let bytes : Bytes packet =
-        λ at. omega (arith, c.slice_known-2-1.given at) in
+        λ at. omega (arith, c.type_inv.packet at) in
     let a = c.args in
     call_unformed table unformed a.service a.handle packet c.unformed.result bytes
     c.unformed.ensures
@@ -29,9 +29,9 @@ returns-in-2 c =
     let packet : List ℕ =
         c.args.packet.now in
     let bytes : Bytes packet =
-        λ at. omega (arith, c.slice_known-2-1.given at) in
+        λ at. search rules in
     let a = c.args in
-    by_service deregister_client table c.deregister.new.0 packet packet a.service a.handle c.pack.result
+    by_service deregister_client table c.deregister.new.t packet packet a.service a.handle c.pack.result
     c.deregister.result bytes c.in-2.is c.deregister.ensures c.pack.ensures
 
 pub returns-in-16 : goal.returns-in-16
@@ -41,9 +41,9 @@ returns-in-16 c =
     let packet : List ℕ =
         c.args.packet.now in
     let bytes : Bytes packet =
-        λ at. omega (arith, c.slice_known-2-1.given at) in
+        λ at. search rules in
     let a = c.args in
-    by_service register_client table c.register.new.0 packet packet a.service a.handle c.pack-in-16.result
+    by_service register_client table c.register.new.t packet packet a.service a.handle c.pack-in-16.result
     c.register.result bytes c.in-16.is c.register.ensures c.pack-in-16.ensures
 
 pub returns-in-27 : goal.returns-in-27
@@ -53,9 +53,9 @@ returns-in-27 c =
     let packet : List ℕ =
         c.args.packet.now in
     let bytes : Bytes packet =
-        λ at. omega (arith, c.slice_known-2-1.given at) in
+        λ at. search rules in
     let a = c.args in
-    by_service release_io table c.release.new.0 packet packet a.service a.handle c.pack-in-27.result
+    by_service release_io table c.release.new.t packet packet a.service a.handle c.pack-in-27.result
     c.release.result bytes c.in-27.is c.release.ensures c.pack-in-27.ensures
 
 pub returns-in-28 : goal.returns-in-28
@@ -65,9 +65,9 @@ returns-in-28 c =
     let packet : List ℕ =
         c.args.packet.now in
     let bytes : Bytes packet =
-        λ at. omega (arith, c.slice_known-2-1.given at) in
+        λ at. search rules in
     let a = c.args in
-    by_service release_irq table c.release-in-28.new.0 packet packet a.service a.handle c.pack-in-28.result
+    by_service release_irq table c.release-in-28.new.t packet packet a.service a.handle c.pack-in-28.result
     c.release-in-28.result bytes c.in-28.is c.release-in-28.ensures c.pack-in-28.ensures
 
 pub returns-in-31 : goal.returns-in-31
@@ -77,7 +77,7 @@ returns-in-31 c =
     let packet : List ℕ =
         c.args.packet.now in
     let bytes : Bytes packet =
-        λ at. omega (arith, c.slice_known-2-1.given at) in
+        λ at. search rules in
     let a = c.args in
     by_service request_io table c.request.new.t packet c.request.new.p a.service a.handle c.pack-in-31.result
     c.request.result bytes c.in-31.is c.request.ensures c.pack-in-31.ensures
@@ -89,7 +89,7 @@ returns-in-32 c =
     let packet : List ℕ =
         c.args.packet.now in
     let bytes : Bytes packet =
-        λ at. omega (arith, c.slice_known-2-1.given at) in
+        λ at. search rules in
     let a = c.args in
     by_service request_irq table c.request-in-32.new.t packet c.request-in-32.new.p a.service a.handle c.pack-in-32.result
     c.request-in-32.result bytes c.in-32.is c.request-in-32.ensures c.pack-in-32.ensures
@@ -101,9 +101,9 @@ returns-in-34 c =
     let packet : List ℕ =
         c.args.packet.now in
     let bytes : Bytes packet =
-        λ at. omega (arith, c.slice_known-2-1.given at) in
+        λ at. search rules in
     let a = c.args in
-    by_service request_socket_mask table c.request-in-34.new.0 packet packet a.service a.handle c.pack-in-34.result
+    by_service request_socket_mask table c.request-in-34.new.t packet packet a.service a.handle c.pack-in-34.result
     c.request-in-34.result bytes c.in-34.is c.request-in-34.ensures c.pack-in-34.ensures
 
 pub returns-in-47 : goal.returns-in-47
@@ -113,9 +113,9 @@ returns-in-47 c =
     let packet : List ℕ =
         c.args.packet.now in
     let bytes : Bytes packet =
-        λ at. omega (arith, c.slice_known-2-1.given at) in
+        λ at. search rules in
     let a = c.args in
-    by_service release_socket_mask table c.release-in-47.new.0 packet packet a.service a.handle c.pack-in-47.result
+    by_service release_socket_mask table c.release-in-47.new.t packet packet a.service a.handle c.pack-in-47.result
     c.release-in-47.result bytes c.in-47.is c.release-in-47.ensures c.pack-in-47.ensures
 
 pub returns-in-53 : goal.returns-in-53
@@ -125,7 +125,7 @@ returns-in-53 c =
     let packet : List ℕ =
         c.args.packet.now in
     let bytes : Bytes packet =
-        λ at. omega (arith, c.slice_known-2-1.given at) in
+        λ at. search rules in
     let a = c.args in
     by_service adjust_resource_info table c.adjust.new.t packet c.adjust.new.p a.service a.handle c.pack-in-53.result
     c.adjust.result bytes c.in-53.is c.adjust.ensures c.pack-in-53.ensures
@@ -139,22 +139,18 @@ returns-in_default-service c =
     let formed : Accepted table =
         subst (LoadedIs table) c.in-Formed.is c.load.ensures in
     let bytes : Bytes packet =
-        λ at. omega (arith, c.slice_known-2-1.given at) in
+        λ at. omega (arith, c.type_inv.packet at) in
     let no_service : NoService c.args.service =
-        let masks = c.in_default-service.rest.0 in
-        let requests = masks.0.0 in
-        let releases = requests.0.0 in
-        let clients = releases.0.0 in
         record {
-          no_deregister = clients.0.1;
-          no_register = clients.1;
-          no_io_release = releases.0.1;
-          no_irq_release = releases.1;
-          no_io_request = requests.0.1;
-          no_irq_request = requests.1;
-          no_mask_request = masks.0.1;
-          no_mask_release = masks.1;
-          no_adjust = c.in_default-service.rest.1;
+          no_deregister = omega arith;
+          no_register = omega arith;
+          no_io_release = omega arith;
+          no_irq_release = omega arith;
+          no_io_request = omega arith;
+          no_irq_request = omega arith;
+          no_mask_request = omega arith;
+          no_mask_release = omega arith;
+          no_adjust = omega arith;
         } in
     let a = c.args in
     unsupported table packet a.service a.handle c.pack-in_default-service.result bytes formed no_service
