@@ -19,7 +19,7 @@ loop-s-preserved c =
     let k = c.loop-s in
     let a = c.args in (
       omega arith,
-      rw c.joined-holders.ensures (holders_more k.s (LevelHolds (facts_in (a.t.now)) a.l) k.holders c.level_at.result k.invariant.1 c.level_at.ensures),
+      rw c.joined-holders.ensures (holders_more k.s (LevelHolds (facts_in a.t.now) a.l) k.holders c.level_at.result k.invariant.1 c.level_at.ensures),
     )
 
 pub returns : goal.returns

@@ -18,7 +18,7 @@ pub loop-s-preserved : goal.loop-s-preserved
 loop-s-preserved c =
     let k = c.loop-s in
     let a = c.args in
-    let P : ℕ → ℕ → ℕ → Type 0 = PortsHold (facts_in (a.t.now)) a.base a.count in (
+    let P : ℕ → ℕ → ℕ → Type 0 = PortsHold (facts_in a.t.now) a.base a.count in (
       omega arith,
       rw c.joined-holders.ensures (holders_more k.s P k.holders c.ports_at.result k.invariant.1 c.ports_at.ensures),
     )
