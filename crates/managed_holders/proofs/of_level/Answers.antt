@@ -11,8 +11,7 @@ use Rattle.managed_holders.proofs.{holders_more, level_shown}
 use Rattle.managed_holders.proofs.of_level.Goals as goal
 
 pub level_at-requires : goal.level_at-requires
-level_at-requires c =
-    (size_in c.args.t.now c.requires, omega (arith, c.loop-s-test.true))
+level_at-requires c = (size_in c.args.t.now c.requires, omega (arith, c.loop-s-test.true))
 
 pub loop-s-preserved : goal.loop-s-preserved
 loop-s-preserved c =

@@ -11,8 +11,7 @@ use Rattle.managed_holders.proofs.{holders_more, range_shown}
 use Rattle.managed_holders.proofs.of_range.Goals as goal
 
 pub ports_at-requires : goal.ports_at-requires
-ports_at-requires c =
-    (size_in c.args.t.now c.requires, omega (arith, c.loop-s-test.true))
+ports_at-requires c = (size_in c.args.t.now c.requires, omega (arith, c.loop-s-test.true))
 
 pub loop-s-preserved : goal.loop-s-preserved
 loop-s-preserved c =
