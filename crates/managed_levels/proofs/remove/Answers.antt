@@ -1,6 +1,6 @@
 -- `managed_levels::remove` meets its contract: each check's answer says which end of the rule it is.
 -- Assumes nothing.
-use Rattle.facts.proofs.Words.{refl, sym, ◌∙◌, inl, inr, ◌≢◌, true, false, true≢false, arith}
+use Rattle.facts.proofs.Words.{refl, sym, ◌∙◌, inl, inr, ◌≢◌, false, true≢false, arith}
 use Rattle.layout.proofs.{size_in, stays, becomes, level_written}
 use Rattle.irq_levels.specs.declared.LevelNumber.TheVariants.{Below}
 use Rattle.irq_levels.specs.{LevelIs}
