@@ -1,7 +1,6 @@
 -- `managed_adjust::adjust_io` meets its contract: the length is wrong, or the action rules, at the packet's width.
 -- Assumes nothing.
-use Rattle.facts.proofs.Words.{◌≡◌, refl, sym, ◌∙◌, inl, inr, arith, length}
-use Rattle.facts.specs.{Width, io_adjust_length}
+use Rattle.facts.proofs.Words.{refl, sym, ◌∙◌, inl, inr, arith}
 use Rattle.managed_adjust.specs.{Shows}
 use Rattle.managed_adjust.proofs.{wrong_length, io_serves, first_or_next}
 use Rattle.managed_adjust.proofs.adjust_io.Goals as goal
@@ -13,25 +12,16 @@ returns-in_default c =
 
 pub returns-in-0 : goal.returns-in-0
 returns-in-0 c =
-    let width : Width = c.in-Of.w in
-    let right : length c.args.p.now ≡ io_adjust_length width = c.in-Of.ensures in
     let reached = c.requires.1 in
-    io_serves width reached right
-    (λ F G x. inr (inl (sym reached.names.action_is ∙ c.in-0.is, x))) c.remove_range.ensures
+    io_serves c.in-Of.w reached c.in-Of.ensures (λ F G x. inr (inl (sym reached.names.action_is ∙ c.in-0.is, x))) c.remove_range.ensures
 
 pub returns-in-1 : goal.returns-in-1
 returns-in-1 c =
-    let width : Width = c.in-Of.w in
-    let right : length c.args.p.now ≡ io_adjust_length width = c.in-Of.ensures in
     let reached = c.requires.1 in
-    io_serves width reached right
-    (λ F G x. inl (sym reached.names.action_is ∙ c.in-1.is, x)) c.add_range.ensures
+    io_serves c.in-Of.w reached c.in-Of.ensures (λ F G x. inl (sym reached.names.action_is ∙ c.in-1.is, x)) c.add_range.ensures
 
 pub returns-in-2-to-255 : goal.returns-in-2-to-255
 returns-in-2-to-255 c =
-    let width : Width = c.in-Of.w in
-    let right : length c.args.p.now ≡ io_adjust_length width = c.in-Of.ensures in
-    let shows : Shows c.args.p.now c.args.action =
-        record { action_is = c.requires.1.names.action_is; least = omega arith; most = c.requires.1.most } in
-    io_serves width c.requires.1 right
-    (λ F G x. inr (inr (first_or_next shows, x))) c.show_range.ensures
+    let reached = c.requires.1 in
+    let shows : Shows c.args.p.now c.args.action = record { action_is = reached.names.action_is; least = omega arith; most = reached.most } in
+    io_serves c.in-Of.w reached c.in-Of.ensures (λ F G x. inr (inr (first_or_next shows, x))) c.show_range.ensures

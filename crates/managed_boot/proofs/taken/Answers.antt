@@ -10,6 +10,6 @@ loop-i-preserved c =
     let l = c.loop-i in (
       omega (arith, c.loop-i-test.true),
       length-set l.all l.i c.record_at.result ∙ l.invariant.1,
-      taken_more (a.records.now) a.at l.i l.all c.record_at.result
+      taken_more a.records.now a.at l.i l.all c.record_at.result
           (omega (arith, l.invariant.1, c.requires.0, c.loop-i-test.true)) c.record_at.ensures l.invariant.2,
     )

@@ -10,22 +10,20 @@ use Rattle.managed_holders.proofs.level_at.Goals as goal
 
 pub returns-in_default : goal.returns-in_default
 returns-in_default c =
-    let answered : let a = c.args in (facts_in (a.t.now)).irq a.s.0 ≡ irq_at c.level_held.result =
-        irq_read c.args.t.now c.args.s.0 c.requires.1 c.level_held.result c.level_held.ensures in
+    let a = c.args in
+    let answered = irq_read a.t.now a.s.0 c.requires.1 c.level_held.result c.level_held.ensures in
     level_free _ _ _ (answered ∙ ap irq_at c.in_default.is)
 
 pub returns-then-held-l : goal.returns-then-held-l
 returns-then-held-l c =
-    let answered : let a = c.args in (facts_in (a.t.now)).irq a.s.0 ≡ irq_at c.level_held.result =
-        irq_read c.args.t.now c.args.s.0 c.requires.1 c.level_held.result c.level_held.ensures in
-    let found : let a = c.args in (facts_in (a.t.now)).irq a.s.0 ≡ some (grant c.in-Held.held) =
-        answered ∙ ap irq_at c.in-Held.is in
+    let a = c.args in
+    let answered = irq_read a.t.now a.s.0 c.requires.1 c.level_held.result c.level_held.ensures in
+    let found : (facts_in a.t.now).irq a.s.0 ≡ some (grant c.in-Held.held) = answered ∙ ap irq_at c.in-Held.is in
     level_other _ _ _ _ found c.if-held-l.true
 
 pub returns : goal.returns
 returns c =
-    let answered : let a = c.args in (facts_in (a.t.now)).irq a.s.0 ≡ irq_at c.level_held.result =
-        irq_read c.args.t.now c.args.s.0 c.requires.1 c.level_held.result c.level_held.ensures in
-    let found : let a = c.args in (facts_in (a.t.now)).irq a.s.0 ≡ some (grant c.in-Held.held) =
-        answered ∙ ap irq_at c.in-Held.is in
+    let a = c.args in
+    let answered = irq_read a.t.now a.s.0 c.requires.1 c.level_held.result c.level_held.ensures in
+    let found : (facts_in a.t.now).irq a.s.0 ≡ some (grant c.in-Held.held) = answered ∙ ap irq_at c.in-Held.is in
     level_here _ _ _ _ found c.if-held-l.false _ (ap (λ (n : ℕ). held_bit + n) c.type_of.ensures.0)

@@ -1,7 +1,6 @@
 -- `managed_levels::add` meets its contract: each check's answer says which end of the rule it is.
 -- Assumes nothing.
-use Rattle.facts.proofs.Words.{refl, inl, inr, ◌<◌, true, arith}
-use Rattle.facts.specs.{all_levels}
+use Rattle.facts.proofs.Words.{refl, inl, inr, true, arith}
 use Rattle.layout.proofs.{size_in, stays, becomes, level_written}
 use Rattle.irq_levels.specs.declared.LevelNumber.TheVariants.{Below}
 use Rattle.irq_levels.specs.{LevelIs}
@@ -16,14 +15,10 @@ returns-in_default c = stays _ _ c.requires (inl (c.in_default.ensures, refl), r
 pub returns-in_default-below_levels : goal.returns-in_default-below_levels
 returns-in_default-below_levels c =
     let bits : ReserveIs c.args.attributes (Mark c.in-Mark.reserved) = c.in-Mark.ensures in
-    stays _ _ c.requires
-    (inr ((λ n. n bits.0), inl (c.in_default-below_levels.ensures, refl)), refl)
+    stays _ _ c.requires (inr ((λ n. n bits.0), inl (c.in_default-below_levels.ensures, refl)), refl)
 
 pub whether_managed-requires : goal.whether_managed-requires
-whether_managed-requires c =
-    let level : LevelIs c.args.level (Below c.in-Below.l) = c.in-Below.ensures in
-    let level_below : c.in-Below.l < all_levels = omega (arith, level) in
-    (size_in _ c.requires, level_below)
+whether_managed-requires c = (size_in _ c.requires, omega (arith, c.in-Below.ensures))
 
 pub returns-in_default-whether_managed : goal.returns-in_default-whether_managed
 returns-in_default-whether_managed c =
@@ -34,10 +29,7 @@ returns-in_default-whether_managed c =
     stays _ _ a (inr ((λ n. n bits.0), inr ((λ h. omega (arith, level.1)), inl (marked_managed a level.1 here, refl))), refl)
 
 pub mark-requires : goal.mark-requires
-mark-requires c =
-    let level : LevelIs c.args.level (Below c.in-Below.l) = c.in-Below.ensures in
-    let level_below : c.in-Below.l < all_levels = omega (arith, level) in
-    (size_in _ c.requires, level_below)
+mark-requires c = (size_in _ c.requires, omega (arith, c.in-Below.ensures))
 
 pub returns : goal.returns
 returns c =

@@ -1,43 +1,38 @@
 -- `managed_ranges::take` meets its contract: no range is just that, a card answers at a port of it, or it is taken out.
 -- Assumes nothing.
-use Rattle.facts.proofs.Words.{refl, ◌<◌, arith}
-use Rattle.facts.specs.{most_ranges}
-use Rattle.layout.proofs.{size_in, sound_in, stays}
+use Rattle.facts.proofs.Words.{refl, arith}
+use Rattle.layout.proofs.{sound_in, stays}
 use Rattle.managed_ranges.specs.{FoundAt}
 use Rattle.managed_ranges.proofs.{take_nowhere, take_held, take_made}
 use Rattle.managed_ranges.proofs.take.Goals as goal
 
 pub find-requires : goal.find-requires
-find-requires c =
-    let sound = sound_in _ c.requires in
-    (sound.size, sound.ranges_most, sound.ranges)
+find-requires c = let sound = sound_in _ c.requires in (sound.size, sound.ranges_most, sound.ranges)
 
 pub returns-in_default : goal.returns-in_default
-returns-in_default c =
-    let a = c.requires in
-    stays _ _ a (take_nowhere a c.in_default.ensures, refl)
+returns-in_default c = let a = c.requires in stays _ _ a (take_nowhere a c.in_default.ensures, refl)
 
 pub cards_at-requires : goal.cards_at-requires
 cards_at-requires c =
-    let found : let a = c.args in FoundAt (a.t.now) a.base a.count c.in-At.i = c.in-At.ensures in
-    let f = found in
-    let a = c.requires in
-    let range = (sound_in _ a).ranges _ f.listed in
-    (a, omega (arith, range, f.base_is), omega (arith, range.within, f.count_is))
+    let a = c.args in
+    let found : FoundAt a.t.now a.base a.count c.in-At.i = c.in-At.ensures in
+    let range = (sound_in _ c.requires).ranges _ found.listed in
+    (c.requires, omega (arith, range, found.base_is), omega (arith, range.within, found.count_is))
 
 pub returns-in_default-cards_at : goal.returns-in_default-cards_at
-returns-in_default-cards_at c =
-    let found : let a = c.args in FoundAt (a.t.now) a.base a.count c.in-At.i = c.in-At.ensures in
-    let a = c.requires in
-    stays _ _ a (take_held a found c.in_default-cards_at.ensures, refl)
+returns-in_default-cards_at c = let a = c.requires in stays _ _ a (take_held a c.in-At.ensures c.in_default-cards_at.ensures, refl)
 
 pub take_out-requires : goal.take_out-requires
 take_out-requires c =
-    let found : let a = c.args in FoundAt (a.t.now) a.base a.count c.in-At.i = c.in-At.ensures in
-    let in_table : c.in-At.i < most_ranges = omega (arith, found.listed, (sound_in _ c.requires).ranges_most) in
-    (omega arith, omega (arith, in_table), omega (arith, size_in _ c.requires), omega arith, omega (arith, found.listed))
+    let a = c.args in
+    let found : FoundAt a.t.now a.base a.count c.in-At.i = c.in-At.ensures in
+    let sound = sound_in _ c.requires in (
+      omega arith,
+      omega (arith, found.listed, sound.ranges_most),
+      omega (arith, sound.size),
+      omega arith,
+      omega (arith, found.listed),
+    )
 
 pub returns : goal.returns
-returns c =
-    let found : let a = c.args in FoundAt (a.t.now) a.base a.count c.in-At.i = c.in-At.ensures in
-    take_made c.requires found c.in-Silent.ensures c.take_out.ensures
+returns c = take_made c.requires c.in-At.ensures c.in-Silent.ensures c.take_out.ensures
