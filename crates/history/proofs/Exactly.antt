@@ -1,5 +1,5 @@
 -- A call of RequestIRQ or RequestIO whose earlier checks pass is refused exactly when no resource fits. Assumes nothing.
-use Rattle.facts.proofs.Words.{◌≡◌, refl, ap, sym, subst, ◌⊎◌, inl, inr, ⊎_elim, ◌≢◌, List, ℕ, T, WellFormed}
+use Rattle.facts.proofs.Words.{◌≡◌, refl, ap, sym, subst, inl, inr, ⊎_elim, ◌≢◌, List, ℕ, T, WellFormed}
 use Rattle.facts.specs.{Code, Success, Facts, Check, Outcome, Passed, Ruled, RequestIrq, GrantsIrq, Fits, assigned_irq, irq_request_checks, RequestIo}
 use Rattle.facts.specs.{GrantsIo, Candidate, BaseTaken, base_asked_lem, io_request_checks, Service, request_irq, request_io, service_number, rule_of, Call}
 use Rattle.facts.specs.{io_asked, irq_asked}

@@ -9,7 +9,7 @@ use Rattle.facts.specs.{show_range_checks, irq_request_checks, irq_release_check
 use Rattle.facts.specs.{deregister_client, adjust_resource_info, request_irq, release_irq, request_io, release_io, request_socket_mask, release_socket_mask}
 use Rattle.facts.specs.{service_number, rule_of, Call}
 use Rattle.facts.proofs.{code_injective, number_injective, width_one, no_success, none_succeeds, first_not_success, put_same}
-use Rattle.history.specs.{Event, make_fresh, call, card_in, card_out, boot, sharers, Fact, card, level, range, Made, GivenBack, Makes, GivesBack}
+use Rattle.history.specs.{Event, make_fresh, call, card_in, card_out, boot, sharers, Fact, level, range, Made, GivenBack, Makes, GivesBack}
 use Rattle.history.specs.{registration, level_made, range_made, level_back, range_back, Tells}
 use Rattle.history.proofs.Answered.{Rules}
 use Rattle.history.proofs.Turns.{Turns, unturned, turns_as}

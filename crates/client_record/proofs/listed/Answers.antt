@@ -1,6 +1,6 @@
 -- `client_record::listed` meets its contract: what is gathered is not 0 exactly if one of the clients passed has the handle.
 -- Assumes nothing.
-use Rattle.facts.proofs.Words.{◌-◌, arith}
+use Rattle.facts.proofs.Words.{arith}
 use Rattle.client_record.proofs.{some_more}
 use Rattle.client_record.proofs.listed.Goals as goal
 

@@ -1,10 +1,8 @@
 -- What the loops of `client_record::listed` keep.
-use Rattle.facts.proofs.Words.{◌≡◌, ◌-◌, ◌≤◌, arith}
-use Rattle.facts.proofs.{says_as}
+use Rattle.facts.proofs.Words.{◌≡◌, ◌≤◌}
 use Rattle.layout.specs.{handle_in}
 use Rattle.table_read.proofs.Some.{Some}
 use Rattle.client_record.specs.Finding.{Tells}
-use Rattle.client_record.proofs.{some_none, some_more, tells_says}
 use Rattle.client_record.proofs.listed.Given as goal
 
 abbrev pub invariant-loop-i : goal.invariant-loop-i

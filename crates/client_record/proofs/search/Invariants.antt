@@ -1,7 +1,7 @@
 -- What the loops of `client_record::search` keep.
-use Rattle.facts.proofs.Words.{◌≡◌, ◌∙◌, ◌-◌, arith}
+use Rattle.facts.proofs.Words.{◌≡◌}
 use Rattle.layout.specs.{handle_in}
-use Rattle.table_read.proofs.{SoFar, so_far_none, so_far_more}
+use Rattle.table_read.proofs.{SoFar}
 use Rattle.client_record.proofs.search.Given as goal
 
 abbrev pub invariant-loop-i : goal.invariant-loop-i

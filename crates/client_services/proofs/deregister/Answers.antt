@@ -1,10 +1,8 @@
 -- `client_services::deregister` meets its contract: each check's answer says which end of the rule it is.
 -- Assumes nothing.
-use Rattle.facts.proofs.Words.{◌≡◌, refl, inl, inr, arith, length}
-use Rattle.facts.specs.{deregister_length}
+use Rattle.facts.proofs.Words.{refl, inl, inr, arith}
 use Rattle.layout.proofs.Of
 use Rattle.layout.proofs.{sound_in}
-use Rattle.client_record.specs.{ListedAt}
 use Rattle.client_services.proofs.{found_live, holds_all, deregister_refused, deregister_done}
 use Rattle.client_services.proofs.deregister.Goals as goal
 

@@ -1,5 +1,4 @@
 -- What the loops of `client_services::grant_held` keep.
-use Rattle.facts.proofs.Words.{◌-◌}
 use Rattle.facts.specs.{most_seats}
 use Rattle.table_read.proofs.{NoneYet}
 use Rattle.client_services.specs.{GrantAt}

@@ -1,9 +1,7 @@
 -- `client_services::register` meets its contract: each check's answer says which end of the rule it is.
 -- Assumes nothing.
-use Rattle.facts.proofs.Words.{◌≡◌, refl, inl, arith, length}
-use Rattle.facts.specs.{register_length}
+use Rattle.facts.proofs.Words.{refl, inl, arith}
 use Rattle.layout.proofs.{size_in}
-use Rattle.client_services.specs.{Asks, NextIs}
 use Rattle.client_services.proofs.{register_refused, register_bad, register_full, register_done}
 use Rattle.client_services.proofs.register.Goals as goal
 

@@ -1,5 +1,5 @@
 -- What the loops of `io_answering::clear` keep.
-use Rattle.facts.proofs.Words.{◌-◌, ◌≤◌}
+use Rattle.facts.proofs.Words.{◌≤◌}
 use Rattle.facts.specs.{Meet}
 use Rattle.table_read.proofs.{Flawless}
 use Rattle.io_answering.specs.{most_gaps, row_at, ports_from}

@@ -1,5 +1,5 @@
 -- What the loops of `io_answering::gap_rows` keep.
-use Rattle.facts.proofs.Words.{◌≡◌, length, ◌-◌}
+use Rattle.facts.proofs.Words.{◌≡◌, length}
 use Rattle.io_answering.proofs.Filling.{Filling}
 use Rattle.io_answering.proofs.gap_rows.Given as goal
 

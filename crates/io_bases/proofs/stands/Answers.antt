@@ -25,12 +25,12 @@ meets-requires c =
     let f = c.requires.2 in
     -- what is held there fits
     let g =
-        let b = c.args.t.now in
-        let s = c.args.s.0 in
-        subst (λ (r : IoSeat). SeatFits r × ((seat_ports r).base < all_ports)) c.in-Held.is (
-          seat_fits b s c.requires.1 c.requires.0 c.held.result c.held.ensures,
-          seat_below b s c.requires.1 c.requires.0 c.held.result c.held.ensures,
-        ) in
+    let b = c.args.t.now in
+    let s = c.args.s.0 in
+    subst (λ (r : IoSeat). SeatFits r × ((seat_ports r).base < all_ports)) c.in-Held.is (
+      seat_fits b s c.requires.1 c.requires.0 c.held.result c.held.ensures,
+      seat_below b s c.requires.1 c.requires.0 c.held.result c.held.ensures,
+    ) in
     (f.base, omega (arith, f.ports), f.lines, g.1, g.0.lines, omega (arith, g.0.ports))
 
 pub returns-then-not-meets : goal.returns-then-not-meets

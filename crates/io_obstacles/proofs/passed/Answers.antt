@@ -26,7 +26,7 @@ so_learnt : (grants : List ℕ) (w : Wanted) (most base : ℕ) (known : Stretch)
 so_learnt grants w most base known s fit limit long end run counts is period o learnt l =
     let longer : s.limit ≤ limit = omega (arith, s.short) in
     let gone : Gone (LiesInRows grants grant_places limit) w.step 0 run =
-        gone_along _ _ _ base (gone_as _ _ _ (rows_more _ _ _ _ longer) s.gone) run o.past o.barred o.multiple o.near in
+    gone_along _ _ _ base (gone_as _ _ _ (rows_more _ _ _ _ longer) s.gone) run o.past o.barred o.multiple o.near in
     record {
       limit = limit;
       within = counts;
@@ -48,6 +48,6 @@ pub loop-most-preserved : goal.loop-most-preserved
 loop-most-preserved c = (
   omega arith,
   so_on _ _ _ _ _
-  (so_learnt _ _ _ _ _ c.loop-most.invariant.1 c.requires.0 _ _ _ _ c.if-wanted-limit.false c.limit_of-limit.ensures c.period-long.ensures
-  c.run_end-base.ensures _ c.learnt-known.ensures),
+      (so_learnt _ _ _ _ _ c.loop-most.invariant.1 c.requires.0 _ _ _ _ c.if-wanted-limit.false c.limit_of-limit.ensures c.period-long.ensures
+      c.run_end-base.ensures _ c.learnt-known.ensures),
 )

@@ -25,7 +25,7 @@ pub returns-in_default-ports_of : goal.returns-in_default-ports_of
 returns-in_default-ports_of c =
     let begun : BegunAt c.args.t.now c.args.p.now release_io_length c.args.h.0 Ignored c.in-At.field-0 c.in-At.seat.0 = c.in-At.ensures in
     let granted : PortsOf (facts_in c.args.t.now) c.args.h.0 c.in-At.seat.0 (base_asked_lem c.args.p.now) (count_asked_lem c.args.p.now) ports.Other =
-        rw (c.base_asked-base.ensures.0, c.count_asked-count.ensures.0) at c.in_default-ports_of.ensures in
+    rw (c.base_asked-base.ensures.0, c.count_asked-count.ensures.0) at c.in_default-ports_of.ensures in
     release_unheld c.requires begun c.in-Absent.ensures granted
 
 pub enter_ports-requires : goal.enter_ports-requires
@@ -37,7 +37,7 @@ pub returns-in-Held : goal.returns-in-Held
 returns-in-Held c =
     let begun : BegunAt c.args.t.now c.args.p.now release_io_length c.args.h.0 Ignored c.in-At.field-0 c.in-At.seat.0 = c.in-At.ensures in
     let granted : PortsOf (facts_in c.args.t.now) c.args.h.0 c.in-At.seat.0 (base_asked_lem c.args.p.now) (count_asked_lem c.args.p.now) ports.Held =
-        rw (c.base_asked-base.ensures.0, c.count_asked-count.ensures.0) at c.in-Held.ensures in
+    rw (c.base_asked-base.ensures.0, c.count_asked-count.ensures.0) at c.in-Held.ensures in
     rw c.enter_ports.ensures (release_done c.requires begun c.in-Absent.ensures granted)
 
 pub returns-in-Refused : goal.returns-in-Refused

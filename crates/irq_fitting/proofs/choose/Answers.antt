@@ -11,23 +11,23 @@ use Rattle.irq_fitting.proofs.choose.Goals as goal
 pub returns-then-joined-eq0 : goal.returns-then-joined-eq0
 returns-then-joined-eq0 c =
     let table : List ℕ =
-        c.args.t.now in
+    c.args.t.now in
     let asked : IrqAsked =
-        c.args.asked in
+    c.args.asked in
     let joined : ℕ =
-        bit_and c.levels_held-held.result.together asked.named in
+    bit_and c.levels_held-held.result.together asked.named in
     let said : HasJust joined (Joins (facts_in table) asked) =
-        joined_said _ (formed_in table c.requires) asked _ c.levels_held-held.ensures.together in
+    joined_said _ (formed_in table c.requires) asked _ c.levels_held-held.ensures.together in
     first_is_taken table asked joined said c.if-joined-eq0.true c.first_fitting.result c.first_fitting.ensures
 
 pub returns : goal.returns
 returns c =
     let table : List ℕ =
-        c.args.t.now in
+    c.args.t.now in
     let asked : IrqAsked =
-        c.args.asked in
+    c.args.asked in
     let joined : ℕ =
-        bit_and c.levels_held-held.result.together asked.named in
+    bit_and c.levels_held-held.result.together asked.named in
     let said : HasJust joined (Joins (facts_in table) asked) =
-        joined_said _ (formed_in table c.requires) asked _ c.levels_held-held.ensures.together in
+    joined_said _ (formed_in table c.requires) asked _ c.levels_held-held.ensures.together in
     lowest_taken table asked joined said _ c.lowest.ensures

@@ -17,59 +17,59 @@ level_held-requires c =
 pub returns-in_default : goal.returns-in_default
 returns-in_default c =
     let said : Facts =
-        facts_in c.args.t.now in
+    facts_in c.args.t.now in
     let seat : ℕ =
-        c.args.s.0 in
+    c.args.s.0 in
     let answered : said.irq seat ≡ irq_at c.level_held.result =
-        irq_read c.args.t.now seat c.requires.1 c.level_held.result c.level_held.ensures in
+    irq_read c.args.t.now seat c.requires.1 c.level_held.result c.level_held.ensures in
     none_at _ _ _ (answered ∙ ap irq_at c.in_default.is)
 
 pub overflow_shl-level : goal.overflow_shl-level
 overflow_shl-level c =
     let said : Facts =
-        facts_in c.args.t.now in
+    facts_in c.args.t.now in
     let seat : ℕ =
-        c.args.s.0 in
+    c.args.s.0 in
     let held : IrqGrant =
-        grant c.in-Held.held in
+    grant c.in-Held.held in
     let answered : said.irq seat ≡ irq_at c.level_held.result =
-        irq_read c.args.t.now seat c.requires.1 c.level_held.result c.level_held.ensures in
+    irq_read c.args.t.now seat c.requires.1 c.level_held.result c.level_held.ensures in
     let found : said.irq seat ≡ some held =
-        answered ∙ ap irq_at c.in-Held.is in
+    answered ∙ ap irq_at c.in-Held.is in
     let below : held.level < all_levels =
-        level_below said (formed_in c.args.t.now c.requires.0) seat held found in
+    level_below said (formed_in c.args.t.now c.requires.0) seat held found in
     omega (arith, below)
 
 pub returns-then-goes : goal.returns-then-goes
 returns-then-goes c =
     let said : Facts =
-        facts_in c.args.t.now in
+    facts_in c.args.t.now in
     let seat : ℕ =
-        c.args.s.0 in
+    c.args.s.0 in
     let answered : said.irq seat ≡ irq_at c.level_held.result =
-        irq_read c.args.t.now seat c.requires.1 c.level_held.result c.level_held.ensures in
+    irq_read c.args.t.now seat c.requires.1 c.level_held.result c.level_held.ensures in
     let held : IrqGrant =
-        grant c.in-Held.held in
+    grant c.in-Held.held in
     let found : said.irq seat ≡ some held =
-        answered ∙ ap irq_at c.in-Held.is in
+    answered ∙ ap irq_at c.in-Held.is in
     let below : held.level < all_levels =
-        level_below said (formed_in c.args.t.now c.requires.0) seat held found in
+    level_below said (formed_in c.args.t.now c.requires.0) seat held found in
     goes_at _ _ _ _ found _ (one_shifted _ 64 (omega (arith, below)))
     (c.goes.ensures.holds c.if-goes.true)
 
 pub returns : goal.returns
 returns c =
     let said : Facts =
-        facts_in c.args.t.now in
+    facts_in c.args.t.now in
     let seat : ℕ =
-        c.args.s.0 in
+    c.args.s.0 in
     let answered : said.irq seat ≡ irq_at c.level_held.result =
-        irq_read c.args.t.now seat c.requires.1 c.level_held.result c.level_held.ensures in
+    irq_read c.args.t.now seat c.requires.1 c.level_held.result c.level_held.ensures in
     let held : IrqGrant =
-        grant c.in-Held.held in
+    grant c.in-Held.held in
     let found : said.irq seat ≡ some held =
-        answered ∙ ap irq_at c.in-Held.is in
+    answered ∙ ap irq_at c.in-Held.is in
     let below : held.level < all_levels =
-        level_below said (formed_in c.args.t.now c.requires.0) seat held found in
+    level_below said (formed_in c.args.t.now c.requires.0) seat held found in
     stands_at _ _ _ _ found _ (one_shifted _ 64 (omega (arith, below)))
     (c.goes.ensures.fails c.if-goes.false)

@@ -1,6 +1,6 @@
 -- `irq_fitting::levels_fitting` meets its contract: each level in turn.
 -- Assumes nothing.
-use Rattle.facts.proofs.Words.{◌≡◌, ◌-◌, arith}
+use Rattle.facts.proofs.Words.{◌≡◌, arith}
 use Rattle.facts.specs.{all_levels}
 use Rattle.layout.specs.{facts_in}
 use Rattle.table_read.proofs.{exactly_more}

@@ -1,5 +1,5 @@
 -- What the loops of `irq_fitting::levels_fitting` keep.
-use Rattle.facts.proofs.Words.{◌-◌, ◌≤◌, true, false}
+use Rattle.facts.proofs.Words.{◌≤◌, true, false}
 use Rattle.facts.specs.{all_levels}
 use Rattle.layout.specs.{facts_in}
 use Rattle.table_read.specs.{HasJust, SomeBelow}

@@ -1,6 +1,6 @@
 -- `irq_fitting::levels_held` meets its contract: each seat in turn.
 -- Assumes nothing.
-use Rattle.facts.proofs.Words.{◌-◌, arith}
+use Rattle.facts.proofs.Words.{arith}
 use Rattle.table_read.proofs.{exactly_more}
 use Rattle.irq_fitting.proofs.levels_held.Goals as goal
 

@@ -1,5 +1,5 @@
 -- What the loops of `irq_fitting::levels_held` keep.
-use Rattle.facts.proofs.Words.{◌-◌, ◌≤◌}
+use Rattle.facts.proofs.Words.{◌≤◌}
 use Rattle.facts.specs.{most_seats}
 use Rattle.layout.specs.{facts_in}
 use Rattle.table_read.specs.{HasJust, SomeBelow}

@@ -12,16 +12,16 @@ use Rattle.irq_sharers.proofs.of_level.Goals as goal
 pub count-requires : goal.count-requires
 count-requires c =
     let table : List ℕ =
-        c.args.t.now in
+    c.args.t.now in
     let b = table in
     (size_in b c.requires, omega (arith, sockets_in_lem b c.requires, c.requires.formed.sockets_most))
 
 pub returns : goal.returns
 returns c =
     let table : List ℕ =
-        c.args.t.now in
+    c.args.t.now in
     let below : LevelIs c.args.level (Below c.in-Below.l) =
-        subst (LevelIs c.args.level) c.in-Below.is c.below_levels.ensures in
+    subst (LevelIs c.args.level) c.in-Below.is c.below_levels.ensures in
     let l = below in
     let b = table in (
       c.requires,

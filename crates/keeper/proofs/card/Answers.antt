@@ -9,8 +9,8 @@ use Rattle.keeper.proofs.card.Goals as goal
 pub returns-in_default : goal.returns-in_default
 returns-in_default c =
     let table : List ℕ =
-        c.args.table.now in
+    c.args.table.now in
     let unformed : Accepted table → ⊥ =
-        subst (LoadedIs table) c.in_default.is c.load.ensures in
+    subst (LoadedIs table) c.in_default.is c.load.ensures in
     card_unformed table unformed c.args.present c.args.socket.0 c.unformed.result
     c.unformed.ensures

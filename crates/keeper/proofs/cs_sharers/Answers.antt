@@ -9,7 +9,7 @@ use Rattle.keeper.proofs.cs_sharers.Goals as goal
 pub returns-in_default : goal.returns-in_default
 returns-in_default c =
     let table : List ℕ =
-        c.args.table.now in
+    c.args.table.now in
     let unformed : Accepted table → ⊥ =
-        subst (LoadedIs table) c.in_default.is c.load.ensures in
+    subst (LoadedIs table) c.in_default.is c.load.ensures in
     sharers_unformed table unformed c.args.level c.unformed.result c.unformed.ensures

@@ -11,7 +11,7 @@ use Rattle.managed_adjust.proofs.show_level.Goals as goal
 pub returns-in_default : goal.returns-in_default
 returns-in_default c =
     let from_given : let p = c.args.p.now in FromIs (action_of p) (level_given p) c.from.result =
-        subst₂ (λ (x y : ℕ). FromIs x y c.from.result) c.requires.2.action_is c.byte-given.ensures.0 c.from.ensures in
+    subst₂ (λ (x y : ℕ). FromIs x y c.from.result) c.requires.2.action_is c.byte-given.ensures.0 c.from.ensures in
     level_none _ c.requires.0 from_given c.in_default.ensures
 
 pub overflow_cast-p : goal.overflow_cast-p
@@ -24,7 +24,7 @@ overflow_cast-p c =
 pub returns : goal.returns
 returns c =
     let from_given : let p = c.args.p.now in FromIs (action_of p) (level_given p) c.from.result =
-        subst₂ (λ (x y : ℕ). FromIs x y c.from.result) c.requires.2.action_is c.byte-given.ensures.0 c.from.ensures in
+    subst₂ (λ (x y : ℕ). FromIs x y c.from.result) c.requires.2.action_is c.byte-given.ensures.0 c.from.ensures in
     let level : ℕ = c.in-At.l in
     let level_next : NextLevelIs c.args.t.now c.from.result (At level) = c.in-At.ensures in
     level_shown _ c.requires.0 from_given c.of_level-x.result level_next c.of_level-x.ensures

@@ -11,13 +11,13 @@ use Rattle.managed_adjust.proofs.show_range.Goals as goal
 pub returns-in_default : goal.returns-in_default
 returns-in_default c =
     let from_given : let a = c.args in FromIs (action_of a.p.now) (base_given a.w a.p.now) c.from.result =
-        subst₂ (λ (x y : ℕ). FromIs x y c.from.result) c.requires.2.action_is c.asked-a.ensures.base_is c.from.ensures in
+    subst₂ (λ (x y : ℕ). FromIs x y c.from.result) c.requires.2.action_is c.asked-a.ensures.base_is c.from.ensures in
     range_none _ c.requires.0 from_given c.in_default.ensures
 
 pub returns-in_default-can_show : goal.returns-in_default-can_show
 returns-in_default-can_show c =
     let from_given : let a = c.args in FromIs (action_of a.p.now) (base_given a.w a.p.now) c.from.result =
-        subst₂ (λ (x y : ℕ). FromIs x y c.from.result) c.requires.2.action_is c.asked-a.ensures.base_is c.from.ensures in
+    subst₂ (λ (x y : ℕ). FromIs x y c.from.result) c.requires.2.action_is c.asked-a.ensures.base_is c.from.ensures in
     let range_next : NextRangeIs c.args.t.now c.from.result (At c.in-At.base c.in-At.count) = c.in-At.ensures in
     let a = c.requires.0 in
     range_too_many _ a from_given (range_next a) c.in_default-can_show.ensures
@@ -25,7 +25,7 @@ returns-in_default-can_show c =
 pub returns : goal.returns
 returns c =
     let from_given : let a = c.args in FromIs (action_of a.p.now) (base_given a.w a.p.now) c.from.result =
-        subst₂ (λ (x y : ℕ). FromIs x y c.from.result) c.requires.2.action_is c.asked-a.ensures.base_is c.from.ensures in
+    subst₂ (λ (x y : ℕ). FromIs x y c.from.result) c.requires.2.action_is c.asked-a.ensures.base_is c.from.ensures in
     let range_next : NextRangeIs c.args.t.now c.from.result (At c.in-At.base c.in-At.count) = c.in-At.ensures in
     let few_enough : TooMany c.args.w c.in-At.count → ⊥ = c.in-Shown.ensures in
     let a = c.requires.0 in

@@ -1,6 +1,6 @@
 -- `managed_search::managed` meets its contract: every port from the base up to `p` is managed, and `p` is in none of the ranges passed.
 -- Assumes nothing.
-use Rattle.facts.proofs.Words.{◌-◌, arith}
+use Rattle.facts.proofs.Words.{arith}
 use Rattle.facts.proofs.{says_true}
 use Rattle.managed_search.proofs.{passed_move, passed_found, passed_stop, passed_says}
 use Rattle.managed_search.proofs.managed.Goals as goal
@@ -15,11 +15,10 @@ returns-then-end-next c =
     (passed_found _ _ _ _ c.loop-i.invariant.1 c.requires.ranges.2 (omega arith) (record { from = omega arith; below = omega arith }) _ (omega arith))
 
 pub loop-i-preserved : goal.loop-i-preserved
-loop-i-preserved c =
-    (
-      omega arith,
-      passed_move _ _ _ _ c.loop-i.invariant.1 c.requires.ranges.2 (omega arith) (record { from = omega arith; below = omega arith }) _ (omega arith),
-    )
+loop-i-preserved c = (
+  omega arith,
+  passed_move _ _ _ _ c.loop-i.invariant.1 c.requires.ranges.2 (omega arith) (record { from = omega arith; below = omega arith }) _ (omega arith),
+)
 
 pub returns : goal.returns
 returns c =

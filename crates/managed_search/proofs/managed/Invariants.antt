@@ -1,5 +1,5 @@
 -- What the loops of `managed_search::managed` keep.
-use Rattle.facts.proofs.Words.{◌-◌, ◌≤◌}
+use Rattle.facts.proofs.Words.{◌≤◌}
 use Rattle.managed_search.proofs.{Passed}
 use Rattle.managed_search.proofs.managed.Given as goal
 

@@ -1,6 +1,6 @@
 -- `managed_search::search_from` meets its contract: the range at the place that the loop has come to is the first, or starts at or before the port.
 -- Assumes nothing.
-use Rattle.facts.proofs.Words.{◌-◌, arith}
+use Rattle.facts.proofs.Words.{arith}
 use Rattle.managed_search.proofs.{skipped_to}
 use Rattle.managed_search.proofs.search_from.Goals as goal
 

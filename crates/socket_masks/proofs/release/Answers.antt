@@ -1,8 +1,5 @@
 -- `socket_masks::release` meets its contract: each check's answer says which end of the rule it is.
 -- Assumes nothing.
-use Rattle.facts.specs.{release_mask_length}
-use Rattle.service_checks.specs.{BegunAt}
-use Rattle.service_checks.specs.declared.CardNeed.TheVariants.{Ignored}
 use Rattle.service_checks.proofs.{refused_ahead}
 use Rattle.socket_masks.proofs.{releasing, in_table, release_nothing, release_done}
 use Rattle.socket_masks.proofs.release.Goals as goal

@@ -1,9 +1,6 @@
 -- `socket_masks::request` meets its contract: each check's answer says which end of the rule it is.
 -- Assumes nothing.
-use Rattle.facts.proofs.Words.{◌≡◌, ap, ℕ, ◌+◌}
-use Rattle.facts.specs.{word, EventsAllowed, request_mask_length}
-use Rattle.service_checks.specs.{BegunAt}
-use Rattle.service_checks.specs.declared.CardNeed.TheVariants.{Needed}
+use Rattle.facts.proofs.Words.{ap, ℕ, ◌+◌}
 use Rattle.service_checks.proofs.{refused_ahead}
 use Rattle.socket_masks.proofs.{requesting, in_table, request_bad, request_held, request_done}
 use Rattle.socket_masks.proofs.request.Goals as goal

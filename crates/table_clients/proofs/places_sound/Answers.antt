@@ -1,6 +1,6 @@
 -- `table_clients::places_sound` meets its contract: what is wrong is 0 exactly if the places passed are sound.
 -- Assumes nothing.
-use Rattle.facts.proofs.Words.{◌-◌, arith}
+use Rattle.facts.proofs.Words.{arith}
 use Rattle.table_read.proofs.{flawless_more}
 use Rattle.table_clients.proofs.places_sound.Goals as goal
 

@@ -1,5 +1,5 @@
 -- What the loops of `table_clients::places_sound` keep.
-use Rattle.facts.proofs.Words.{◌-◌, ◌≤◌}
+use Rattle.facts.proofs.Words.{◌≤◌}
 use Rattle.facts.specs.{most_clients}
 use Rattle.table_clients.specs.{PlaceSoundIn}
 use Rattle.table_read.proofs.{Flawless}

@@ -1,5 +1,4 @@
 -- What the loops of `table_company::all_shared` keep.
-use Rattle.facts.proofs.Words.{◌-◌}
 use Rattle.table_read.proofs.{SoFar}
 use Rattle.table_company.specs.{SharedAt}
 use Rattle.table_company.proofs.all_shared.Given as goal

@@ -1,6 +1,6 @@
 -- `table_company::apart` meets its contract: what is reached of the seats passed, or-ed together, is 0 exactly if nothing of any is.
 -- Assumes nothing.
-use Rattle.facts.proofs.Words.{sym, ◌∙◌, ◌-◌, arith}
+use Rattle.facts.proofs.Words.{sym, ◌∙◌, arith}
 use Rattle.facts.proofs.{says_as, says_eq}
 use Rattle.table_read.proofs.{flawless_more}
 use Rattle.table_company.proofs.{reached_by}

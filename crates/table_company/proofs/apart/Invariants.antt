@@ -1,5 +1,5 @@
 -- What the loops of `table_company::apart` keep.
-use Rattle.facts.proofs.Words.{◌≡◌, ◌-◌, ◌≤◌}
+use Rattle.facts.proofs.Words.{◌≡◌, ◌≤◌}
 use Rattle.table_read.proofs.{Flawless}
 use Rattle.table_company.specs.{reached}
 use Rattle.table_company.proofs.apart.Given as goal

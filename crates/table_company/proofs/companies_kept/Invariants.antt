@@ -1,5 +1,5 @@
 -- What the loops of `table_company::companies_kept` keep.
-use Rattle.facts.proofs.Words.{◌≡◌, length, ◌-◌}
+use Rattle.facts.proofs.Words.{◌≡◌, length}
 use Rattle.layout.specs.{IoPairSound}
 use Rattle.table_read.proofs.{SoFar}
 use Rattle.seats.specs.{CompanySound}

@@ -1,5 +1,5 @@
 -- What the loops of `table_masks::fill_steps` keep.
-use Rattle.facts.proofs.Words.{◌-◌, ◌≤◌}
+use Rattle.facts.proofs.Words.{◌≤◌}
 use Rattle.facts.specs.{most_sockets}
 use Rattle.table_masks.proofs.{Filling}
 use Rattle.table_masks.proofs.fill_steps.Given as goal

@@ -1,5 +1,5 @@
 -- What the loops of `table_masks::row_flaws` keep.
-use Rattle.facts.proofs.Words.{List, ℕ, ◌+◌, ◌*◌, ◌-◌, ◌≤◌, get_or}
+use Rattle.facts.proofs.Words.{List, ℕ, ◌+◌, ◌*◌, ◌≤◌, get_or}
 use Rattle.facts.specs.{word}
 use Rattle.layout.specs.{seat_room, mask_size}
 use Rattle.table_read.proofs.{Flawless}

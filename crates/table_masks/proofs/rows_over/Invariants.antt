@@ -1,5 +1,5 @@
 -- What the loops of `table_masks::rows_over` keep.
-use Rattle.facts.proofs.Words.{◌-◌, ◌≤◌}
+use Rattle.facts.proofs.Words.{◌≤◌}
 use Rattle.layout.specs.{masks_place}
 use Rattle.table_masks.specs.{RowUnder}
 use Rattle.table_read.proofs.{Flawless}

@@ -1,6 +1,6 @@
 -- `table_read::four_zero` meets its contract. The loop's invariant: of each stretch, what is or-ed together is zero exactly if the bytes passed are.
 -- The measure is what is left of one. Assumes nothing.
-use Rattle.facts.proofs.Words.{◌-◌, arith}
+use Rattle.facts.proofs.Words.{arith}
 use Rattle.table_read.proofs.{quarters_more, quarters_says}
 use Rattle.table_read.proofs.four_zero.Goals as goal
 

@@ -1,7 +1,6 @@
 -- What the loops of `table_read::four_zero` keep.
-use Rattle.facts.proofs.Words.{◌-◌, ◌≤◌, arith}
+use Rattle.facts.proofs.Words.{◌-◌, ◌≤◌}
 use Rattle.table_read.proofs.Quarters.{Quarters}
-use Rattle.table_read.proofs.{quarters_none, quarters_more, quarters_says}
 use Rattle.table_read.proofs.four_zero.Given as goal
 
 abbrev pub invariant-loop-i : goal.invariant-loop-i

@@ -1,6 +1,6 @@
 -- What the loops of `table_read::zero` keep.
-use Rattle.facts.proofs.Words.{◌-◌, ◌≤◌, arith}
-use Rattle.table_read.proofs.{Gathered, gathered_none, gathered_more, gathered_says}
+use Rattle.facts.proofs.Words.{◌-◌, ◌≤◌}
+use Rattle.table_read.proofs.{Gathered}
 use Rattle.table_read.proofs.zero.Given as goal
 
 abbrev pub invariant-loop-i : goal.invariant-loop-i

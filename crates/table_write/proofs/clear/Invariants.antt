@@ -1,7 +1,6 @@
 -- What the loops of `table_write::clear` keep.
-use Rattle.facts.proofs.Words.{refl, subst, ◌≤◌, ◌-◌, arith}
+use Rattle.facts.proofs.Words.{◌≤◌, ◌-◌}
 use Rattle.table_write.specs.{Cleared}
-use Rattle.table_write.proofs.{filled_none, filled_more}
 use Rattle.table_write.proofs.clear.Given as goal
 
 abbrev pub invariant-loop-i : goal.invariant-loop-i

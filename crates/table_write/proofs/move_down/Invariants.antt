@@ -1,7 +1,6 @@
 -- What the loops of `table_write::move_down` keep.
-use Rattle.facts.proofs.Words.{subst, inr, ◌≤◌, ◌-◌, arith}
-use Rattle.table_write.specs.{Filled, Moved}
-use Rattle.table_write.proofs.{filled_none, filled_more}
+use Rattle.facts.proofs.Words.{◌≤◌, ◌-◌}
+use Rattle.table_write.specs.{Moved}
 use Rattle.table_write.proofs.move_down.Given as goal
 
 abbrev pub invariant-loop-i : goal.invariant-loop-i

@@ -1,8 +1,6 @@
 -- What the loops of `table_write::move_up` keep.
-use Rattle.facts.proofs.Words.{◌≡◌, ap, ◌∙◌, subst, inl, ℕ, ◌+◌, ◌-◌, ◌≤◌, arith}
-use Rattle.facts.specs.{byte}
+use Rattle.facts.proofs.Words.{◌-◌, ◌≤◌}
 use Rattle.table_write.specs.{MovedUp}
-use Rattle.table_write.proofs.{filled_none, filled_less}
 use Rattle.table_write.proofs.move_up.Given as goal
 
 abbrev pub invariant-loop-i : goal.invariant-loop-i
