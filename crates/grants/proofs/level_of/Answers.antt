@@ -18,22 +18,19 @@ pub returns-then-client-h : goal.returns-then-client-h
 returns-then-client-h c =
     let answered : let a = c.args in (facts_in (a.t.now)).irq a.seat.0 ≡ irq_at c.level_held.result =
     irq_read c.args.t.now c.args.seat.0 c.requires.1 c.level_held.result c.level_held.ensures in
-    let found : let a = c.args in (facts_in (a.t.now)).irq a.seat.0 ≡ some (grant c.in-Held.x) =
-    answered ∙ ap irq_at c.in-Held.is in
+    let found : let a = c.args in (facts_in (a.t.now)).irq a.seat.0 ≡ some (grant c.in-Held.x) = answered ∙ ap irq_at c.in-Held.is in
     λ g x. c.if-client-h.true (ap (λ (y : IrqGrant). y.client) (level_is _ _ _ _ _ (found) g x) ∙ x.client)
 
 pub returns-then-x-level : goal.returns-then-x-level
 returns-then-x-level c =
     let answered : let a = c.args in (facts_in (a.t.now)).irq a.seat.0 ≡ irq_at c.level_held.result =
     irq_read c.args.t.now c.args.seat.0 c.requires.1 c.level_held.result c.level_held.ensures in
-    let found : let a = c.args in (facts_in (a.t.now)).irq a.seat.0 ≡ some (grant c.in-Held.x) =
-    answered ∙ ap irq_at c.in-Held.is in
+    let found : let a = c.args in (facts_in (a.t.now)).irq a.seat.0 ≡ some (grant c.in-Held.x) = answered ∙ ap irq_at c.in-Held.is in
     λ g x. c.if-x-level.true (ap (λ (y : IrqGrant). y.level) (level_is _ _ _ _ _ (found) g x) ∙ x.level)
 
 pub returns : goal.returns
 returns c =
     let answered : let a = c.args in (facts_in (a.t.now)).irq a.seat.0 ≡ irq_at c.level_held.result =
     irq_read c.args.t.now c.args.seat.0 c.requires.1 c.level_held.result c.level_held.ensures in
-    let found : let a = c.args in (facts_in (a.t.now)).irq a.seat.0 ≡ some (grant c.in-Held.x) =
-    answered ∙ ap irq_at c.in-Held.is in
+    let found : let a = c.args in (facts_in (a.t.now)).irq a.seat.0 ≡ some (grant c.in-Held.x) = answered ∙ ap irq_at c.in-Held.is in
     level_held _ _ _ _ _ (found) c.if-client-h.false c.if-x-level.false

@@ -8,14 +8,11 @@ use Rattle.io_answering.proofs.clear.Goals as goal
 
 pub loop-i-preserved : goal.loop-i-preserved
 loop-i-preserved c =
-    let period : (1 ≤ c.power-period.result) × (c.power-period.result ≤ 2 ^ 15) =
-    let lines = c.args.lines in
+    let period : (1 ≤ c.power-period.result) × (c.power-period.result ≤ 2 ^ 15) = let lines = c.args.lines in
     let l : lines ≤ 15 = omega (arith, c.requires.4) in
     (omega (arith, c.power-period.ensures, pow_pos lines), omega (arith, c.power-period.ensures, pow_mono l)) in
-    let whole : c.power-period.result - 1 + 1 ≡ 2 ^ c.args.lines =
-    omega (arith, period.0, c.power-period.ensures) in
-    let low_bits : LowBits (c.power-period.result - 1) =
-    record { lines = c.args.lines; fewer = c.requires.4; is = whole } in
+    let whole : c.power-period.result - 1 + 1 ≡ 2 ^ c.args.lines = omega (arith, period.0, c.power-period.ensures) in
+    let low_bits : LowBits (c.power-period.result - 1) = record { lines = c.args.lines; fewer = c.requires.4; is = whole } in
     let remainder : let a = c.args in bit_and (a.base + a.count - 1) (c.power-period.result - 1) ≡ (a.base + a.count - 1) % 2 ^ a.lines =
     let a = c.args in
     masked (a.base + a.count - 1) _ low_bits ∙ ap (λ (n : ℕ). (a.base + a.count - 1) % n) whole in

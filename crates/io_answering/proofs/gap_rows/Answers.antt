@@ -12,22 +12,17 @@ twice_set rows i j x y = length-set (set rows i x) j y ∙ length-set rows i x
 
 pub loop-i-preserved : goal.loop-i-preserved
 loop-i-preserved c =
-    let table : List ℕ =
-    c.args.t.now in
-    let listed : c.loop-i.i < ranges_in table =
+    let listed : c.loop-i.i < ranges_in c.args.t.now =
     omega (arith, c.loop-i-test.true, c.byte-ranges.ensures.0) in (
-      filling_more table c.loop-i.rows c.requires.ranges.2 c.requires.ranges.1 c.loop-i.end c.word-start.result c.smaller.result
+      filling_more c.args.t.now c.loop-i.rows c.requires.ranges.2 c.requires.ranges.1 c.loop-i.end c.word-start.result c.smaller.result
           c.range_end-end.result c.loop-i.i c.loop-i.invariant.0 listed c.word-start.ensures.0 c.smaller.ensures c.range_end-end.ensures,
       twice_set c.loop-i.rows _ _ _ _ ∙ c.loop-i.invariant.1,
     )
 
 pub returns : goal.returns
 returns c =
-    let table : List ℕ =
-    c.args.t.now in
-    let walked : Filling table c.loop-i.rows c.loop-i.end (ranges_in table) =
-    let f = c.loop-i.invariant.0 in
-    let all : c.loop-i.i ≡ ranges_in table = omega (arith, f.listed, c.loop-i-test.false, c.byte-ranges.ensures.0) in
-    subst (Filling table c.loop-i.rows c.loop-i.end) all f in
-    rows_are table c.loop-i.rows c.requires.ranges.2 c.requires.ranges.1 c.loop-i.end _ c.smaller-2.result walked refl
+    let walked : Filling c.args.t.now c.loop-i.rows c.loop-i.end (ranges_in c.args.t.now) = let f = c.loop-i.invariant.0 in
+    let all : c.loop-i.i ≡ ranges_in c.args.t.now = omega (arith, f.listed, c.loop-i-test.false, c.byte-ranges.ensures.0) in
+    subst (Filling c.args.t.now c.loop-i.rows c.loop-i.end) all f in
+    rows_are c.args.t.now c.loop-i.rows c.requires.ranges.2 c.requires.ranges.1 c.loop-i.end _ c.smaller-2.result walked refl
     c.smaller-2.ensures _

@@ -7,10 +7,8 @@ use Rattle.io_bars.proofs.bar_of.Goals as goal
 
 pub returns-then-ports-eq0 : goal.returns-then-ports-eq0
 returns-then-ports-eq0 c =
-    let ports : Ports =
-    let a = c.args in record { base = a.base; count = a.ports; lines = a.decoded } in
-    let fit : PortsFit ports =
-    let pre = c.requires in record { base = pre.0; ports = pre.1; lines = pre.2 } in
+    let ports : Ports = let a = c.args in record { base = a.base; count = a.ports; lines = a.decoded } in
+    let fit : PortsFit ports = let pre = c.requires in record { base = pre.0; ports = pre.1; lines = pre.2 } in
     let ones : c.limit_of-ones.result + 1 ≡ 2 ^ min c.args.lines c.args.decoded =
     c.limit_of-ones.ensures ∙ ap (λ (k : ℕ). 2 ^ k) c.smaller.ensures in
     let pre = c.requires in
@@ -18,10 +16,8 @@ returns-then-ports-eq0 c =
 
 pub returns : goal.returns
 returns c =
-    let ports : Ports =
-    let a = c.args in record { base = a.base; count = a.ports; lines = a.decoded } in
-    let fit : PortsFit ports =
-    let pre = c.requires in record { base = pre.0; ports = pre.1; lines = pre.2 } in
+    let ports : Ports = let a = c.args in record { base = a.base; count = a.ports; lines = a.decoded } in
+    let fit : PortsFit ports = let pre = c.requires in record { base = pre.0; ports = pre.1; lines = pre.2 } in
     let ones : c.limit_of-ones.result + 1 ≡ 2 ^ min c.args.lines c.args.decoded =
     c.limit_of-ones.ensures ∙ ap (λ (k : ℕ). 2 ^ k) c.smaller.ensures in
     let pre = c.requires in

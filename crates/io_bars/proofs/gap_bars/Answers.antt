@@ -1,6 +1,6 @@
 -- `io_bars::gap_bars` meets its contract: the gaps passed have become bars, and the others still stand.
 -- Assumes nothing.
-use Rattle.facts.proofs.Words.{◌≡◌, subst, sym, List, ℕ, ◌+◌, ◌≤◌, arith, length, get_or}
+use Rattle.facts.proofs.Words.{◌≡◌, subst, sym, ◌+◌, ◌≤◌, arith, length, get_or}
 use Rattle.layout.proofs.{size_in, sound_in}
 use Rattle.io_answering.proofs.{none_yet}
 use Rattle.io_obstacles.specs.{gap_places, gap_rows_lem}
@@ -21,11 +21,10 @@ gap_rows-requires-clause-no_gaps c = none_yet gap_rows_lem c.args.rows.now c.req
 pub loop-i-preserved : goal.loop-i-preserved
 loop-i-preserved c =
     let k = c.loop-i in
-    let gaps : List ℕ = c.gap_rows.new.rows in
     let below = c.loop-i-test.true in
     let room : gap_places + gap_places + gap_places ≤ length k.rows = omega (arith, k.invariant.0.size) in
-    let base_is : get_or k.rows k.i 0 ≡ get_or gaps k.i 0 = k.invariant.1.bases k.i (omega arith) below in
-    let ports_are : get_or k.rows (gap_places + k.i) 0 ≡ get_or gaps (gap_places + k.i) 0 = k.invariant.1.counts k.i (omega arith) below in
+    let base_is : get_or k.rows k.i 0 ≡ get_or c.gap_rows.new.rows k.i 0 = k.invariant.1.bases k.i (omega arith) below in
+    let ports_are : get_or k.rows (gap_places + k.i) 0 ≡ get_or c.gap_rows.new.rows (gap_places + k.i) 0 = k.invariant.1.counts k.i (omega arith) below in
     let bar_is = rw (base_is, ports_are) at c.bar_of-bar.ensures in (
       subst (Entered _ _ _) (sym c.enter.ensures) (one_entered _ _ k.i k.rows k.invariant.0 below c.bar_of-bar.result bar_is),
       subst (Kept _ _) (sym c.enter.ensures) (kept_on _ k.i k.rows k.invariant.1 room below c.bar_of-bar.result),

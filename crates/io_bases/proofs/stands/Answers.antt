@@ -24,8 +24,7 @@ pub meets-requires : goal.meets-requires
 meets-requires c =
     let f = c.requires.2 in
     -- what is held there fits
-    let g =
-    let b = c.args.t.now in
+    let g = let b = c.args.t.now in
     let s = c.args.s.0 in
     subst (λ (r : IoSeat). SeatFits r × ((seat_ports r).base < all_ports)) c.in-Held.is (
       seat_fits b s c.requires.1 c.requires.0 c.held.result c.held.ensures,

@@ -23,8 +23,7 @@ pub meets-requires : goal.meets-requires
 meets-requires c =
     let answered : let a = c.args in (facts_in a.t.now).io a.s.0 ≡ io_at c.held.result =
     io_read _ _ c.requires.accepted.1 c.held.result c.held.ensures in
-    let there : let a = c.args in Held (facts_in a.t.now) a.s.0 (range c.in-Held.held) =
-    answered ∙ ap io_at c.in-Held.is in
+    let there : let a = c.args in Held (facts_in a.t.now) a.s.0 (range c.in-Held.held) = answered ∙ ap io_at c.in-Held.is in
     let asked = c.requires.ports in
     let fits = held_fits _ (formed_in c.args.t.now c.requires.accepted.0) _ _ there in
     (asked.0, asked.1, asked.2, fits.base, omega (arith, asked.2, fits.lines), fits.count)
@@ -33,6 +32,5 @@ pub returns : goal.returns
 returns c =
     let answered : let a = c.args in (facts_in a.t.now).io a.s.0 ≡ io_at c.held.result =
     io_read _ _ c.requires.accepted.1 c.held.result c.held.ensures in
-    let there : let a = c.args in Held (facts_in a.t.now) a.s.0 (range c.in-Held.held) =
-    answered ∙ ap io_at c.in-Held.is in
+    let there : let a = c.args in Held (facts_in a.t.now) a.s.0 (range c.in-Held.held) = answered ∙ ap io_at c.in-Held.is in
     meets_held _ _ _ _ there c.meets.ensures

@@ -33,12 +33,11 @@ module _ (grants gaps : List ℕ) (w : Wanted) (fits : SearchFits grants gaps w)
 
 pub loop-base-preserved-then-near-ne0 : goal.loop-base-preserved-then-near-ne0
 loop-base-preserved-then-near-ne0 c =
-    let below : c.loop-base.base + c.args.wanted.count ≤ c.args.end = c.loop-base-test.true in
     let step = c.requires.search_fits.0.numbers.step in
     let known = c.loop-base.invariant.1 in (
       gone_on _ _ _ c.loop-base.base c.loop-base.invariant.0 (c.loop-base.base + c.ahead-near.result) c.up-base.result (omega arith)
           (λ y m f l. known.barred y m (leap_barred _ _ _ c.ahead-near.ensures y m f l).1) c.up-base.ensures
-          (omega (arith, c.up-base.ensures.near, below, c.requires.barring.1, c.ahead-near.ensures.most, power_most _ step)),
+          (omega (arith, c.up-base.ensures.near, c.loop-base-test.true, c.requires.barring.1, c.ahead-near.ensures.most, power_most _ step)),
       known,
     )
 

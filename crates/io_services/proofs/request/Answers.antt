@@ -39,46 +39,38 @@ module _ {b p : List ℕ} {h i s : ℕ} (a : Accepted b) (begun : BegunAt b p re
 
 pub returns-in_default : goal.returns-in_default
 returns-in_default c =
-    let begun : BegunAt c.args.t.now c.args.p.now request_io_length c.args.h.0 Needed c.in-At.field-0 c.in-At.seat.0 = c.in-At.ensures in
-    request_attributes c.requires begun c.in_default.ensures
+    request_attributes c.requires c.in-At.ensures c.in_default.ensures
 
 pub returns-in_default-sizes_asked : goal.returns-in_default-sizes_asked
 returns-in_default-sizes_asked c =
-    let begun : BegunAt c.args.t.now c.args.p.now request_io_length c.args.h.0 Needed c.in-At.field-0 c.in-At.seat.0 = c.in-At.ensures in
-    request-sizes c.requires begun c.in-Good.ensures c.in_default-sizes_asked.ensures
+    request-sizes c.requires c.in-At.ensures c.in-Good.ensures c.in_default-sizes_asked.ensures
 
 pub held-requires : goal.held-requires
 held-requires c =
-    let begun : BegunAt c.args.t.now c.args.p.now request_io_length c.args.h.0 Needed c.in-At.field-0 c.in-At.seat.0 = c.in-At.ensures in
-    in_table c.requires begun
+    in_table c.requires c.in-At.ensures
 
 pub returns-in_default-held : goal.returns-in_default-held
 returns-in_default-held c =
-    let begun : BegunAt c.args.t.now c.args.p.now request_io_length c.args.h.0 Needed c.in-At.field-0 c.in-At.seat.0 = c.in-At.ensures in
-    request_held c.requires begun c.in-Good.ensures c.in-Good-sizes_asked.ensures c.in_default-held.ensures.0
+    request_held c.requires c.in-At.ensures c.in-Good.ensures c.in-Good-sizes_asked.ensures c.in_default-held.ensures.0
 
 pub settle-requires : goal.settle-requires
 settle-requires c =
-    let begun : BegunAt c.args.t.now c.args.p.now request_io_length c.args.h.0 Needed c.in-At.field-0 c.in-At.seat.0 = c.in-At.ensures in
-    settles c.requires begun c.in-Good.ensures c.in-Good-sizes_asked.ensures c.asked-asked.result c.asked-asked.ensures c.chosen-chosen.result
+    settles c.requires c.in-At.ensures c.in-Good.ensures c.in-Good-sizes_asked.ensures c.asked-asked.result c.asked-asked.ensures c.chosen-chosen.result
     c.chosen-chosen.ensures
 
 pub returns-then-asked-eq0 : goal.returns-then-asked-eq0
 returns-then-asked-eq0 c =
-    let begun : BegunAt c.args.t.now c.args.p.now request_io_length c.args.h.0 Needed c.in-At.field-0 c.in-At.seat.0 = c.in-At.ensures in
-    settled_as c.requires begun c.in-Good.ensures c.in-Good-sizes_asked.ensures c.asked-asked.result c.asked-asked.ensures c.chosen-chosen.result
+    settled_as c.requires c.in-At.ensures c.in-Good.ensures c.in-Good-sizes_asked.ensures c.asked-asked.result c.asked-asked.ensures c.chosen-chosen.result
     c.chosen-chosen.ensures c.in-Free.ensures (omega arith) _ _ _ c.settle.ensures
 
 pub settle-requires-in-At : goal.settle-requires-in-At
 settle-requires-in-At c =
-    let begun : BegunAt c.args.t.now c.args.p.now request_io_length c.args.h.0 Needed c.in-At.field-0 c.in-At.seat.0 = c.in-At.ensures in
-    settles c.requires begun c.in-Good.ensures c.in-Good-sizes_asked.ensures c.asked-asked.result c.asked-asked.ensures c.named-named.result
+    settles c.requires c.in-At.ensures c.in-Good.ensures c.in-Good-sizes_asked.ensures c.asked-asked.result c.asked-asked.ensures c.named-named.result
     c.named-named.ensures
 
 pub returns-else-asked-eq0 : goal.returns-else-asked-eq0
 returns-else-asked-eq0 c =
-    let begun : BegunAt c.args.t.now c.args.p.now request_io_length c.args.h.0 Needed c.in-At.field-0 c.in-At.seat.0 = c.in-At.ensures in
-    settled_as c.requires begun c.in-Good.ensures c.in-Good-sizes_asked.ensures c.asked-asked.result c.asked-asked.ensures c.named-named.result
+    settled_as c.requires c.in-At.ensures c.in-Good.ensures c.in-Good-sizes_asked.ensures c.asked-asked.result c.asked-asked.ensures c.named-named.result
     c.named-named.ensures c.in-Free.ensures (omega arith) _ _ _ c.settle-in-At.ensures
 
 pub returns-in-Refused : goal.returns-in-Refused

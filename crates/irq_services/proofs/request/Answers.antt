@@ -1,13 +1,9 @@
 -- `irq_services::request` meets its contract: each check's answer says which end of the rule it is.
 -- Assumes nothing.
-use Rattle.facts.proofs.Words.{ap, ℕ, ◌<◌, arith}
-use Rattle.facts.specs.{request_irq_length, IrqAttributesBad, IrqInfoBad, LevelTaken, all_levels, IrqAsked, irq_asked}
+use Rattle.facts.proofs.Words.{ap, ◌<◌, arith}
+use Rattle.facts.specs.{LevelTaken, all_levels, IrqAsked, irq_asked}
 use Rattle.facts.proofs.{taken_fits}
 use Rattle.layout.proofs.{manner_most}
-use Rattle.seats.specs.{LevelHeldIs}
-use Rattle.seats.specs.declared.IrqSeat.TheVariants.{Free}
-use Rattle.service_checks.specs.{BegunAt}
-use Rattle.service_checks.specs.declared.CardNeed.TheVariants.{Needed}
 use Rattle.service_checks.proofs.{in_table, refused_ahead}
 use Rattle.irq_services.proofs.{requesting, request_attributes, request_info, request_held, request_none, request_done}
 use Rattle.irq_services.proofs.request.Goals as goal
@@ -37,56 +33,26 @@ returns-in_default-choose c =
 
 pub enter_level-requires : goal.enter_level-requires
 enter_level-requires c =
-    let seat : ℕ =
-    c.in-At.seat.0 in
-    let begun : BegunAt c.args.t.now c.args.p.now request_irq_length c.args.h.0 Needed c.in-At.field-0 seat =
-    c.in-At.ensures in
-    let level : ℕ =
-    c.in-Level.level in
-    let level_taken : LevelTaken c.requires.facts (irq_asked c.args.p.now) level =
-    (rw c.asked-asked.ensures at c.in-Level.ensures) c.requires in
-    let level_below : level < all_levels =
-    let a = c.requires in
-    a.formed.levels level (taken_fits a.facts a.formed (irq_asked c.args.p.now) level level_taken).managed in
-    let t = in_table c.requires begun in
+    let level_taken : LevelTaken c.requires.facts (irq_asked c.args.p.now) c.in-Level.level = (rw c.asked-asked.ensures at c.in-Level.ensures) c.requires in
+    let level_below : c.in-Level.level < all_levels = let a = c.requires in
+    a.formed.levels c.in-Level.level (taken_fits a.facts a.formed (irq_asked c.args.p.now) c.in-Level.level level_taken).managed in
+    let t = in_table c.requires c.in-At.ensures in
     (t.0, t.1, level_below, omega (arith, c.manner_byte.ensures, manner_most c.asked-asked.result.manner))
 
 pub assign-requires : goal.assign-requires
 assign-requires c =
-    let seat : ℕ =
-    c.in-At.seat.0 in
-    let begun : BegunAt c.args.t.now c.args.p.now request_irq_length c.args.h.0 Needed c.in-At.field-0 seat =
-    c.in-At.ensures in
-    let level : ℕ =
-    c.in-Level.level in
-    let level_taken : LevelTaken c.requires.facts (irq_asked c.args.p.now) level =
-    (rw c.asked-asked.ensures at c.in-Level.ensures) c.requires in
-    let level_below : level < all_levels =
-    let a = c.requires in
-    a.formed.levels level (taken_fits a.facts a.formed (irq_asked c.args.p.now) level level_taken).managed in
-    (begun.size, level_below, ap (λ (q : IrqAsked). q.manner) c.asked-asked.ensures)
+    let level_taken : LevelTaken c.requires.facts (irq_asked c.args.p.now) c.in-Level.level = (rw c.asked-asked.ensures at c.in-Level.ensures) c.requires in
+    let level_below : c.in-Level.level < all_levels = let a = c.requires in
+    a.formed.levels c.in-Level.level (taken_fits a.facts a.formed (irq_asked c.args.p.now) c.in-Level.level level_taken).managed in
+    (c.in-At.ensures.size, level_below, ap (λ (q : IrqAsked). q.manner) c.asked-asked.ensures)
 
 pub returns-in-Level : goal.returns-in-Level
 returns-in-Level c =
-    let handle_fits : c.args.h.0 < 65536 =
-    omega arith in
-    let seat : ℕ =
-    c.in-At.seat.0 in
-    let begun : BegunAt c.args.t.now c.args.p.now request_irq_length c.args.h.0 Needed c.in-At.field-0 seat =
-    c.in-At.ensures in
-    let attributes_good : IrqAttributesBad c.args.p.now → ⊥ =
-    c.in-Good.ensures in
-    let info_good : IrqInfoBad c.args.p.now → ⊥ =
-    c.in-Good-info_asked.ensures in
-    let place_free : LevelHeldIs c.args.t.now seat Free =
-    c.in-Free.ensures in
-    let level : ℕ =
-    c.in-Level.level in
-    let level_taken : LevelTaken c.requires.facts (irq_asked c.args.p.now) level =
-    (rw c.asked-asked.ensures at c.in-Level.ensures) c.requires in
+    let handle_fits : c.args.h.0 < 65536 = omega arith in
+    let level_taken : LevelTaken c.requires.facts (irq_asked c.args.p.now) c.in-Level.level = (rw c.asked-asked.ensures at c.in-Level.ensures) c.requires in
     rw (c.enter_level.ensures, c.manner_byte.ensures, c.asked-asked.ensures, c.assign.ensures)
-    (request_done c.requires begun attributes_good info_good place_free
-    level level_taken handle_fits)
+    (request_done c.requires c.in-At.ensures c.in-Good.ensures c.in-Good-info_asked.ensures c.in-Free.ensures
+    c.in-Level.level level_taken handle_fits)
 
 pub returns-in-Refused : goal.returns-in-Refused
 returns-in-Refused c =

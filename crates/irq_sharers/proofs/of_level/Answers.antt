@@ -1,6 +1,6 @@
 -- `irq_sharers::of_level` meets its contract: the level is one of a table's, or not.
 -- Assumes nothing.
-use Rattle.facts.proofs.Words.{◌≡◌, subst, List, ℕ, arith}
+use Rattle.facts.proofs.Words.{◌≡◌, subst, ℕ, arith}
 use Rattle.layout.proofs.{size_in, sockets_in_lem}
 use Rattle.irq_levels.specs.declared.LevelNumber.TheVariants.{Below}
 use Rattle.irq_levels.specs.{LevelIs}
@@ -11,19 +11,14 @@ use Rattle.irq_sharers.proofs.of_level.Goals as goal
 
 pub count-requires : goal.count-requires
 count-requires c =
-    let table : List ℕ =
-    c.args.t.now in
-    let b = table in
+    let b = c.args.t.now in
     (size_in b c.requires, omega (arith, sockets_in_lem b c.requires, c.requires.formed.sockets_most))
 
 pub returns : goal.returns
 returns c =
-    let table : List ℕ =
-    c.args.t.now in
-    let below : LevelIs c.args.level (Below c.in-Below.l) =
-    subst (LevelIs c.args.level) c.in-Below.is c.below_levels.ensures in
+    let below : LevelIs c.args.level (Below c.in-Below.l) = subst (LevelIs c.args.level) c.in-Below.is c.below_levels.ensures in
     let l = below in
-    let b = table in (
+    let b = c.args.t.now in (
       c.requires,
       sharers_done b c.requires c.args.level c.count.result l.1
           (subst (λ (n : ℕ). c.count.result ≡ sharers_below (facts_in b) n (sockets_in b)) l.0 c.count.ensures.0),

@@ -1,6 +1,6 @@
 -- `keeper::cs_sharers` meets its contract: the table is not well formed, or the rule of sharers holds.
 -- Assumes nothing.
-use Rattle.facts.proofs.Words.{subst, List, ℕ}
+use Rattle.facts.proofs.Words.{subst}
 use Rattle.layout.specs.{Accepted}
 use Rattle.table_test.specs.{LoadedIs}
 use Rattle.keeper.proofs.{sharers_unformed}
@@ -8,8 +8,5 @@ use Rattle.keeper.proofs.cs_sharers.Goals as goal
 
 pub returns-in_default : goal.returns-in_default
 returns-in_default c =
-    let table : List ℕ =
-    c.args.table.now in
-    let unformed : Accepted table → ⊥ =
-    subst (LoadedIs table) c.in_default.is c.load.ensures in
-    sharers_unformed table unformed c.args.level c.unformed.result c.unformed.ensures
+    let unformed : Accepted c.args.table.now → ⊥ = subst (LoadedIs c.args.table.now) c.in_default.is c.load.ensures in
+    sharers_unformed c.args.table.now unformed c.args.level c.unformed.result c.unformed.ensures

@@ -2,7 +2,6 @@
 -- Assumes nothing.
 use Rattle.facts.proofs.Words.{refl}
 use Rattle.layout.proofs.{size_in, sound_in, stays}
-use Rattle.managed_ranges.specs.{FreeAt}
 use Rattle.managed_ranges.proofs.{put_taken, put_full, put_made}
 use Rattle.managed_ranges.proofs.put.Goals as goal
 
@@ -21,8 +20,7 @@ returns-in_default-has_room c = let a = c.requires.0 in λ t e. stays _ _ a (put
 pub enter-requires-clause-room : goal.enter-requires-clause-room
 enter-requires-clause-room c =
     let a = c.args in
-    let free : FreeAt a.t.now a.base a.count c.in-Free.i = c.in-Free.ensures in
-    (size_in _ c.requires.0, free.place.within, c.in-Left.ensures)
+    (size_in _ c.requires.0, c.in-Free.ensures.place.within, c.in-Left.ensures)
 
 pub returns : goal.returns
 returns c = λ t e. put_made c.requires.0 c.in-Free.ensures c.requires.1 c.in-Left.ensures e c.enter.ensures

@@ -2,7 +2,6 @@
 -- Assumes nothing.
 use Rattle.facts.proofs.Words.{refl, arith}
 use Rattle.layout.proofs.{sound_in, stays}
-use Rattle.managed_ranges.specs.{FoundAt}
 use Rattle.managed_ranges.proofs.{take_nowhere, take_held, take_made}
 use Rattle.managed_ranges.proofs.take.Goals as goal
 
@@ -15,9 +14,8 @@ returns-in_default c = let a = c.requires in stays _ _ a (take_nowhere a c.in_de
 pub cards_at-requires : goal.cards_at-requires
 cards_at-requires c =
     let a = c.args in
-    let found : FoundAt a.t.now a.base a.count c.in-At.i = c.in-At.ensures in
-    let range = (sound_in _ c.requires).ranges _ found.listed in
-    (c.requires, omega (arith, range, found.base_is), omega (arith, range.within, found.count_is))
+    let range = (sound_in _ c.requires).ranges _ c.in-At.ensures.listed in
+    (c.requires, omega (arith, range, c.in-At.ensures.base_is), omega (arith, range.within, c.in-At.ensures.count_is))
 
 pub returns-in_default-cards_at : goal.returns-in_default-cards_at
 returns-in_default-cards_at c = let a = c.requires in stays _ _ a (take_held a c.in-At.ensures c.in_default-cards_at.ensures, refl)
@@ -25,13 +23,12 @@ returns-in_default-cards_at c = let a = c.requires in stays _ _ a (take_held a c
 pub take_out-requires : goal.take_out-requires
 take_out-requires c =
     let a = c.args in
-    let found : FoundAt a.t.now a.base a.count c.in-At.i = c.in-At.ensures in
     let sound = sound_in _ c.requires in (
       omega arith,
-      omega (arith, found.listed, sound.ranges_most),
+      omega (arith, c.in-At.ensures.listed, sound.ranges_most),
       omega (arith, sound.size),
       omega arith,
-      omega (arith, found.listed),
+      omega (arith, c.in-At.ensures.listed),
     )
 
 pub returns : goal.returns

@@ -26,19 +26,8 @@ socket_named-requires c =
 
 pub returns-in_default-socket_named : goal.returns-in_default-socket_named
 returns-in_default-socket_named c a =
-    let packet : List ℕ =
-    c.args.p.now in
-    let handle : ℕ =
-    c.args.h.0 in
-    let length_right : length packet ≡ c.args.n =
-    c.in-Right.ensures in
-    let table : List ℕ =
-    c.args.t.now in
-    let client_listed : ListedAt table handle c.in-At.i =
-    c.in-At.ensures in
-    let client_live : (a : Accepted table) → Live a.facts handle =
-    λ a. live_listed table a _ _ client_listed.listed client_listed.handle in
-    by_socket a packet c.args.n handle length_right (client_live a) c.args.need
+    let client_live : (a : Accepted c.args.t.now) → Live a.facts c.args.h.0 = λ a. live_listed c.args.t.now a _ _ c.in-At.ensures.listed c.in-At.ensures.handle in
+    by_socket a c.args.p.now c.args.n c.args.h.0 c.in-Right.ensures (client_live a) c.args.need
     c.in_default-socket_named.ensures
 
 pub card_asked-requires : goal.card_asked-requires
@@ -48,21 +37,6 @@ card_asked-requires c =
 
 pub returns-in_default-card_asked : goal.returns-in_default-card_asked
 returns-in_default-card_asked c a =
-    let packet : List ℕ =
-    c.args.p.now in
-    let handle : ℕ =
-    c.args.h.0 in
-    let length_right : length packet ≡ c.args.n =
-    c.in-Right.ensures in
-    let table : List ℕ =
-    c.args.t.now in
-    let client_listed : ListedAt table handle c.in-At.i =
-    c.in-At.ensures in
-    let client_live : (a : Accepted table) → Live a.facts handle =
-    λ a. live_listed table a _ _ client_listed.listed client_listed.handle in
-    let socket : ℕ =
-    c.in-At-socket_named.socket.0 in
-    let socket_named_lem : NamesSocket table packet socket =
-    c.in-At-socket_named.ensures in
-    by_card a packet c.args.n handle length_right (client_live a) socket_named_lem
+    let client_live : (a : Accepted c.args.t.now) → Live a.facts c.args.h.0 = λ a. live_listed c.args.t.now a _ _ c.in-At.ensures.listed c.in-At.ensures.handle in
+    by_card a c.args.p.now c.args.n c.args.h.0 c.in-Right.ensures (client_live a) c.in-At-socket_named.ensures
     c.args.need c.in_default-card_asked.ensures

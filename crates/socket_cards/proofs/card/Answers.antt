@@ -21,6 +21,5 @@ bounds-t-number c =
 
 pub returns : goal.returns
 returns c =
-    let below : let a = c.args in CountedIs (a.t.now) a.socket.0 (Below c.in-Below.s) =
-    c.in-Below.ensures in
+    let below : let a = c.args in CountedIs (a.t.now) a.socket.0 (Below c.in-Below.s) = c.in-Below.ensures in
     rw (below.0, mark_byte c.args.present) (card_done c.requires c.args.present below.1)
