@@ -8,17 +8,18 @@ warnings='-pedantic -Wall -Wextra -Werror'
 archive=target/staticlib/libkeeper.a
 programs=target/tests
 
-kit() { dirname "$(dirname "$(rt doc)")"; }
-
-# Twice as many checks at a time as there are processors: checks run in batches that
-# wait for their slowest, and a check also waits for files.
-RT_JOBS=${RT_JOBS:-$((2 * $(nproc)))}
-export RT_JOBS
-
-# rt staticlib proves one crate after the other; rt check, before it, several at a time.
+# The archive: the static library of the crate keeper_c, under the name that firmware
+# links. What is proved already is not proved again.
 build_archive() {
-    rt check
-    rt staticlib keeper
+    (cd crates/keeper_c && rt lib)
+    mkdir -p "$(dirname "$archive")"
+    cp crates/keeper_c/out/libkeeper_c.a "$archive"
+}
+
+# copy_crates FOLDER: the repository's crates, without what was made of them
+copy_crates() {
+    mkdir -p "$1"
+    tar -cf - --exclude=out crates crates.txt | tar -xf - -C "$1"
 }
 
 # need COMMAND PACKAGE...: Debian's packages, where the command is missing

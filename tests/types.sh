@@ -9,18 +9,12 @@ set -eu
 copy=$(mktemp -d)
 trap 'rm -rf "$copy"' EXIT
 trap 'exit 1' TERM
-mkdir "$copy/target"
-# What is proved already needs no second proof there.
-for made in target/rlib target/stamp; do
-    if [ -d "$made" ]; then cp -r "$made" "$copy/target/"; fi
-done
+copy_crates "$copy"
 
 # refused CRATE FILE OLD NEW EXPECTED FOUND: with NEW for OLD, which stands
 # once in the file, the compiler expects one type and finds another
 refused() {
-    rm -rf "$copy/crates"
-    cp -r crates crates.txt "$copy"
-    file=$copy/crates/$1/src/$2
+    file=crates/$1/src/$2
     line=$(grep -nF -- "$3" "$file" | cut -d: -f1)
     case $line in
     '' | *[!0-9]*)
@@ -32,11 +26,11 @@ refused() {
         at = index($0, ENVIRON["OLD"])
         if (at) $0 = substr($0, 1, at - 1) ENVIRON["NEW"] substr($0, at + length(ENVIRON["OLD"]))
         print
-    }' "$file" >"$copy/edited"
-    mv "$copy/edited" "$file"
-    said=$(cd "$copy" && rt mir "$1" 2>&1) || true
+    }' "$file" >"$copy/$file"
+    said=$(cd "$copy/crates/$1" && rt check 2>&1) || true
+    cp "$file" "$copy/$file"
     case $said in
-    *"/src/$2:$line:"*"error[mismatched-types]: expected \`$5\`, found \`$6\`"*)
+    *"src/$2:$line:"*"error[mismatched-types]: expected \`$5\`, found \`$6\`"*)
         echo "types: $1/src/$2:$line: '$4' is refused: expected $5, found $6"
         ;;
     *)
