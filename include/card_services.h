@@ -73,7 +73,7 @@
  *
  * Linking
  * -------
- * `rt staticlib keeper` writes target/staticlib/libkeeper.a, for x86-64 with
+ * `sh tests/demo.sh` writes target/staticlib/libkeeper.a, for x86-64 with
  * the System V calling convention:
  *
  *   gcc -Iinclude firmware.c target/staticlib/libkeeper.a

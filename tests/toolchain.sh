@@ -9,9 +9,10 @@ archive=target/staticlib/libkeeper.a
 programs=target/tests
 
 # The archive: the static library of the crate keeper_c, under the name that firmware
-# links. What is proved already is not proved again.
+# links, for every processor of the kind: rt's own choice would be one with SSE4. What
+# is proved already is not proved again.
 build_archive() {
-    (cd crates/keeper_c && rt lib)
+    (cd crates/keeper_c && rt lib --cpu=x86-64)
     mkdir -p "$(dirname "$archive")"
     cp crates/keeper_c/out/libkeeper_c.a "$archive"
 }
@@ -32,7 +33,7 @@ need() {
 }
 
 # The compilers for the archive, which is for x86-64. Another processor runs
-# what they make under the kit's emulator, and so links it statically.
+# what they make under an emulator, and so links it statically.
 install_compilers() {
     if [ "$machine" = x86_64 ]; then
         c_compiler=gcc cxx_compiler=g++ link='' emulator=''
@@ -40,7 +41,8 @@ install_compilers() {
         need g++ build-essential
     else
         c_compiler=x86_64-linux-gnu-gcc cxx_compiler=x86_64-linux-gnu-g++ link=-static
-        emulator=$(kit)/on/$machine/toolchain/bin/qemu-x86_64
+        emulator=qemu-x86_64
+        need $emulator qemu-user
         need $c_compiler gcc-x86-64-linux-gnu libc6-dev-amd64-cross
         need $cxx_compiler g++-x86-64-linux-gnu
     fi
