@@ -2,7 +2,8 @@
 # entries.sh: the contracts of the C entries are held by a caller's proofs. In one
 # copy of the crates each entry is given a contract that assumes more, in another
 # one that promises nothing. `keeper` is proved all the same; `caller`, which
-# calls each entry in a function of its own, has to be refused at all six.
+# calls each entry in a function of its own, has to be refused at all six. And what
+# `keeper_c` exports to C has to repeat the contracts of `keeper`.
 set -eu
 # shellcheck source=tests/toolchain.sh
 . "$(dirname "$0")/toolchain.sh"
@@ -87,6 +88,27 @@ each_promises_nothing() {
     refused 'each entry promises nothing'
 }
 
+# promises FILE BEGINNING: each entry's parameters, result and clauses, one entry after
+# the other
+promises() {
+    awk -v begins="$2" '
+        index($0, begins "cs_") == 1 { at = 1; $0 = substr($0, length(begins) + 1) }
+        /^{/ { at = 0 }
+        at { print }' "$1"
+}
+
+# What C calls repeats what the caller's proofs hold.
+same_at_the_boundary() {
+    promises crates/keeper/src/lib.rt 'pub fn ' >"$copies/entries"
+    promises crates/keeper_c/src/lib.rt 'pub extern "C" fn ' >"$copies/exports"
+    if [ "$(grep -c '^cs_' "$copies/entries")" -ne 6 ] || ! diff "$copies/entries" "$copies/exports"; then
+        echo "entries: keeper_c doesn't export the six entries of keeper with their own promises"
+        exit 1
+    fi
+    echo "entries: keeper_c exports the six entries, each with its own promise"
+}
+
+same_at_the_boundary
 # Side by side, a processor for each.
 each_assumes_more >"$copies/more" 2>&1 &
 more=$!
