@@ -28,7 +28,7 @@ pub host_laws : HostLaws
 host_laws =
     record {
       fresh_formed = fresh_formed;
-      one_card_lem = card_unique;
+      one_card = card_unique;
       card_refusal = card_refusal_keeps;
       card_stays = card_stays;
       one_count = sharers_unique;

@@ -33,7 +33,7 @@ pub record ServiceLaws : Type 0 where
 -- of the host's calls
 pub record HostLaws : Type 0 where
   pub fresh_formed : (n : ℕ) → 1 ≤ n → n ≤ Table.most_sockets → WellFormed (fresh n)
-  pub one_card_lem : (present : Bool) (F : Facts) (s : ℕ) → Coincide (CardTo present F s)
+  pub one_card : (present : Bool) (F : Facts) (s : ℕ) → Coincide (CardTo present F s)
   pub card_refusal : (present : Bool) (F : Facts) (s : ℕ) (o : CardOutcome) → CardTo present F s o → o.code ≢ Success → o.facts ≡ F
   pub card_stays : (present : Bool) (F : Facts) (s : ℕ) (o : CardOutcome) → WellFormed F → CardTo present F s o → WellFormed o.facts
   pub one_count : (F : Facts) (l : ℕ) → Coincide (Sharers F l)

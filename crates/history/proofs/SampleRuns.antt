@@ -53,20 +53,20 @@ ungranted : (s : ℕ) (g : IrqGrant) → (fresh 2).irq s ≡ some g → ⊥
 ungranted s g e = none-ne-some g e
 
 -- the tables between, and the steps
-abbrev one_card : Facts
-one_card = with_card one_client 0 true
+abbrev one_card_facts : Facts
+one_card_facts = with_card one_client 0 true
 
 abbrev carded : Facts
-carded = with_card one_card 1 true
+carded = with_card one_card_facts 1 true
 
 abbrev levelled : Facts
 levelled = level_added carded 3 0
 
-one_card_formed : WellFormed one_card
+one_card_formed : WellFormed one_card_facts
 one_card_formed = card_formed one_client one_client_lem.formed 0 true (omega arith)
 
 carded_formed : WellFormed carded
-carded_formed = card_formed one_card one_card_formed 1 true (omega arith)
+carded_formed = card_formed one_card_facts one_card_formed 1 true (omega arith)
 
 level_free : Passed (add_level_checks carded 3 0)
 level_free = (λ e. e (inl refl)) then (omega arith) then false≢true then tt
@@ -151,10 +151,10 @@ set_up K begins es b rest =
     (tt, image idle, begins.calls _ _ _ _ _ _ levelled idle levelled_formed ungranted range_in_lem, rest) in
     let level-step : Runs K (image carded) (adjusts add_level ∷ adjusts add_range ∷ es) b =
     (tt, image levelled, begins.calls _ _ _ _ _ _ carded levelled carded_formed ungranted level_in, range-step) in
-    let card-step : Runs K (image one_card) (card_in 1 Success ∷ adjusts add_level ∷ adjusts add_range ∷ es) b =
-    (tt, image carded, begins.cards _ _ one_card carded one_card_formed ungranted (card_in_case 1 one_card one_card_formed (omega arith)), level-step) in
+    let card-step : Runs K (image one_card_facts) (card_in 1 Success ∷ adjusts add_level ∷ adjusts add_range ∷ es) b =
+    (tt, image carded, begins.cards _ _ one_card_facts carded one_card_formed ungranted (card_in_case 1 one_card_facts one_card_formed (omega arith)), level-step) in
     let first-card : Runs K (image one_client) (card_in 0 Success ∷ card_in 1 Success ∷ adjusts add_level ∷ adjusts add_range ∷ es) b =
-    (tt, image one_card, begins.cards _ _ one_client one_card one_client_lem.formed ungranted (card_in_case 0 one_client one_client_lem.formed (omega arith)), card-step) in
+    (tt, image one_card_facts, begins.cards _ _ one_client one_card_facts one_client_lem.formed ungranted (card_in_case 0 one_client one_client_lem.formed (omega arith)), card-step) in
     from_two (begins.makes 2 Success (fresh 2) (fresh 2) two_sockets ungranted made_two) (before ++ es) b
     (tt, image one_client, begins.calls _ _ _ _ _ _ (fresh 2) one_client two_sockets ungranted registered, first-card)
 

@@ -102,7 +102,7 @@ module _ (present : Bool) (socket : ℕ) (b : List ℕ) where
       in_each_case : CardPermitted present socket b b₁ x.code → CardPermitted present socket b b₂ y.code → (r₁ ≡ r₂) × (b₁ ≡ b₂)
       in_each_case (inl s) (inl t) =
           let e =
-          one_served (λ (o : CardOutcome). o.facts) (λ (F : Facts). CardTo present F socket) (λ F w. host_laws.one_card_lem present F socket) b b₁ b₂
+          one_served (λ (o : CardOutcome). o.facts) (λ (F : Facts). CardTo present F socket) (λ F w. host_laws.one_card present F socket) b b₁ b₂
           (answer x.code) (answer y.code) (λ G. refl) (λ G. refl) s t in
           (x.is ∙ ap (λ (o : CardOutcome). number_of o.code) e.0 ∙ sym y.is, e.1)
       in_each_case (inl s) (inr u) = absurd (u.unformed s.accepted)

@@ -4,9 +4,6 @@ use Rattle.facts.proofs.Words.{arith}
 use Rattle.io_ranges.proofs.{meet_says}
 use Rattle.io_ranges.proofs.meets.Goals as goal
 
--- where the call began, once both ranges were found to have ports
--- NAV start : After-smaller-2 → Start: start c = c.before.before.before
-
 pub returns : goal.returns
 returns c =
     let lines = c.smaller-2 in

@@ -1,6 +1,6 @@
 -- `managed_boot::boot` meets its contract: a record is refused, some more are added, and at the end too few bytes are left for a record, or none.
 -- Assumes nothing.
-use Rattle.facts.proofs.Words.{refl, List, ℕ, ◌+◌, ◌*◌, ◌≤◌, arith, length}
+use Rattle.facts.proofs.Words.{refl, ◌+◌, ◌*◌, ◌≤◌, arith, length}
 use Rattle.facts.specs.{record_size}
 use Rattle.managed_boot.proofs.{walked_none, bytes_all, bytes_broken, bytes_more, bytes_stopped}
 use Rattle.managed_boot.proofs.boot.Goals as goal

@@ -9,7 +9,7 @@ pub returns : goal.returns
 unfolding irq_in
 returns c =
     let client : let a = c.args in c.handle-client.result.0 ≡ word (a.t.now) (irq_place_lem a.s.0) =
-    c.handle-client.ensures ∙ ap (word (c.args.t.now)) c.irq_place-at.ensures.0 in (
+    c.handle-client.ensures ∙ ap (word c.args.t.now) c.irq_place-at.ensures.0 in (
       λ e. c.if-client-eq-NOBODY.false (client ∙ e),
       rw (client, c.manner_of-manner.ensures, c.byte-level.ensures.0, c.byte.ensures.0, c.irq_place-at.ensures.0) refl,
     )

@@ -1,12 +1,10 @@
 -- `service_checks::begin` meets its contract: each check's answer says which of the first checks it is, or that none applies.
 -- Assumes nothing.
-use Rattle.facts.proofs.Words.{◌≡◌, List, ℕ, arith, length}
+use Rattle.facts.proofs.Words.{arith}
 use Rattle.facts.specs.{Live}
 use Rattle.layout.specs.{Accepted}
 use Rattle.layout.proofs.{size_in, sockets_in_lem, clients_in_lem}
 use Rattle.layout.proofs.Of.{live_listed}
-use Rattle.client_record.specs.{ListedAt}
-use Rattle.service_checks.specs.{NamesSocket}
 use Rattle.service_checks.proofs.{by_handle, by_socket, by_card}
 use Rattle.service_checks.proofs.begin.Goals as goal
 

@@ -1,6 +1,6 @@
 -- `table_irqs::irq_holding` meets its contract: a level below 16 and a manner below 4 are a number below 64, so no bit is shifted out.
 -- Assumes nothing.
-use Rattle.facts.proofs.Words.{◌≡◌, ◌∙◌, ◌<◌, arith, shl_exact, List, ℕ}
+use Rattle.facts.proofs.Words.{◌∙◌, ◌<◌, arith, shl_exact}
 use Rattle.layout.specs.{irq_size, irq_place_lem, IrqUsed}
 use Rattle.layout.proofs.{used_sound}
 use Rattle.table_read.proofs.{one_shifted}

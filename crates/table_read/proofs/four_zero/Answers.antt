@@ -5,9 +5,6 @@ use Rattle.table_read.proofs.{quarters_more, quarters_says}
 use Rattle.table_read.proofs.four_zero.Goals as goal
 
 -- where two of the four bytes of a turn were read, and where the turn began
--- NAV halfway : After-shared_slice_known-in-loop-i-3-1 → After-shared_slice_known-in-loop-i-1: halfway c = c.before.before
-
--- NAV turn : After-shared_slice_known-in-loop-i-1 → At-loop-i: turn c = c.before.before.before
 
 pub loop-i-preserved : goal.loop-i-preserved
 loop-i-preserved c = (omega arith, quarters_more _ _ _ _ _ _ _ _ _ _ c.loop-i.invariant.1)
