@@ -1,9 +1,7 @@
 -- What a search among the clients listed finds. Assumes nothing.
-use Rattle.std.specs.Prelude.{◌≡◌, ◌≢◌, List, ℕ, ◌-◌, ◌≤◌, ◌<◌}
+use Rattle.std.specs.Prelude.{◌≡◌, ◌≢◌, List, ℕ, ◌-◌, ◌≤◌, ◌<◌, Option, Some, None}
 use Rattle.layout.specs.Reading.{clients_in, handle_in}
 use Rattle.layout.specs.Sound.{LiveIn}
-use Rattle.client_record.specs.declared.ClientFound.{ClientFound}
-use Rattle.client_record.specs.declared.ClientFound.TheVariants.{At, Nobody}
 
 -- the client h is listed in the place i
 pub record ListedAt (b : List ℕ) (h i : ℕ) : Type 0 where
@@ -11,9 +9,9 @@ pub record ListedAt (b : List ℕ) (h i : ℕ) : Type 0 where
   pub handle : handle_in b i ≡ h
 
 -- where the search finds the client h, or that nobody listed has this handle
-abbrev pub Finds : List ℕ → ℕ → ClientFound → Type 0
-Finds b h (At i) = ListedAt b h i
-Finds b h Nobody = LiveIn b h → ⊥
+abbrev pub Finds : List ℕ → ℕ → Option ℕ → Type 0
+Finds b h (Some i) = ListedAt b h i
+Finds b h None = LiveIn b h → ⊥
 
 -- the client h is listed in the place h - 1
 pub record ByNumber (b : List ℕ) (h : ℕ) : Type 0 where

@@ -31,27 +31,18 @@ pub fn attributes_allowed(a: usize) -> bool
     }
 }
 
-// What a search for a client finds: the place in which it is listed.
-#[derive(Clone, Copy)]
-pub enum ClientFound {
-    At(usize),
-    Nobody,
-}
-
-// The client `h`, in whichever place it is listed.
-fn search(t: &[u8], h: Handle) -> ClientFound
+// The place in which the client `h` is listed, whichever it is.
+fn search(t: &[u8], h: Handle) -> Option<usize>
     requires { (length t.now ≡ table_size) × (clients_in t.now ≤ Table.most_clients) }
     ensures { Finds t.now h.0 result }
 {
     let clients = table_read::byte(t, CLIENTS_IN);
-    let wanted = h.0;
     for i in 0..clients {
-        let listed = table_read::handle(t, HANDLES_AT + i * HANDLE_SIZE);
-        if listed.0 == wanted {
-            return ClientFound::At(i);
+        if table_read::handle(t, HANDLES_AT + i * HANDLE_SIZE) == h {
+            return Some(i);
         }
     }
-    ClientFound::Nobody
+    None
 }
 
 // Whether the client `h` stands where the clients with the handles 1, 2, 3 and on stand as long as none of them is taken out.
@@ -59,7 +50,7 @@ fn stands_by_number(t: &[u8], h: Handle) -> bool
     requires { (length t.now ≡ table_size) × (clients_in t.now ≤ Table.most_clients) }
     ensures { Says result (ByNumber t.now h.0) }
 {
-    let number = h.0 as usize;
+    let number = usize::from(h.0);
     if number == 0 {
         return false;
     }
@@ -69,15 +60,14 @@ fn stands_by_number(t: &[u8], h: Handle) -> bool
     table_read::word(t, HANDLES_AT + (number - 1) * HANDLE_SIZE) == number
 }
 
-// The client `h`, looked for first where its number points: client 3 in the third place. Where client 1 has left, client 3 stands in the second, and is
+// The place of the client `h`, looked for first where its number points: client 3 in the third place. Where client 1 has left, client 3 stands in the second, and is
 // searched for.
-pub fn client_at(t: &[u8], h: Handle) -> ClientFound
+pub fn client_at(t: &[u8], h: Handle) -> Option<usize>
     requires { (length t.now ≡ table_size) × (clients_in t.now ≤ Table.most_clients) }
     ensures { Finds t.now h.0 result }
 {
     if stands_by_number(t, h) {
-        let number = h.0 as usize;
-        return ClientFound::At(number - 1);
+        return Some(usize::from(h.0) - 1);
     }
     search(t, h)
 }
@@ -103,7 +93,7 @@ fn listed(t: &[u8], h: Handle) -> bool
     let mut some: u16 = 0;
     for i in 0..all {
         let handle = table_read::word_u16(t, HANDLES_AT + i * HANDLE_SIZE);
-        some = some | same(handle, wanted);
+        some |= same(handle, wanted);
     }
     some != 0
 }

@@ -1,5 +1,6 @@
 -- Meeting and going together don't depend on the order of the two. Assumes nothing.
-use Rattle.facts.proofs.Words.{◌≡◌, sym, ◌∙◌, subst, ℕ, ◌%◌, ◌^◌, min_comm, Ports}
+use Rattle.facts.proofs.Words.{◌≡◌, sym, ◌∙◌, subst, ℕ, ◌%◌, ◌^◌, min_comm}
+use Rattle.facts.specs.declared.Ports.{Ports}
 use Rattle.facts.specs.{Manner, Meet, Together}
 
 pub meet_symmetric : (a b : Ports) → Meet a b → Meet b a

@@ -1,6 +1,7 @@
 -- A well-formed set with other cards, clients, levels, ranges or grants is well formed, if what is new fits. Assumes nothing.
 use Rattle.facts.proofs.Words.{◌≡◌, refl, ap, sym, ◌∙◌, subst, subst⁻¹, ⊎_elim, ◌≢◌, List, Bool, true, false≢true, Option, some}
-use Rattle.facts.proofs.Words.{none-ne-some, ℕ, ◌+◌, ◌≤◌, ◌<◌, arith, length, Ports, WellFormed}
+use Rattle.facts.proofs.Words.{none-ne-some, ℕ, ◌+◌, ◌≤◌, ◌<◌, arith, length, WellFormed}
+use Rattle.facts.specs.declared.Ports.{Ports}
 use Rattle.facts.specs.{Outcome, Check, Passed, Decided, Kept, Ruled, Leaves, Facts, Client, Level, Range, IoGrant, IrqGrant, fresh, ◌∈◌}
 use Rattle.facts.specs.{Within, Managed, AllManaged, Answers, AnswersManaged, ClientFits, IoFits, IrqFits, IoCompany, IrqCompany, Live, Rising}
 use Rattle.facts.specs.{Apart, with_card, with_level, with_ranges, with_irq, with_io, all_levels, all_ports, most_clients, most_issued, most_ranges}

@@ -1,6 +1,7 @@
 -- Laws of the definitions: of answers, of sets, of company, and of what is permitted; and those that specs/Laws states. Assumes nothing.
 pub mod Words
 pub mod Says
+pub mod Handing
 pub mod Sets
 pub mod Codes
 pub mod Bits
@@ -22,6 +23,7 @@ pub mod Stays
 pub mod Exactly
 pub mod Laws
 pub use Says.{says_true, says_false, says_lt, says_eq, says_eqb, says_as, says_yes, says_no, says_not, says_false_by, says_dec}
+pub use Handing.{handed, given, missing}
 pub use Sets.{put_same, put_other, put_is, in_left, in_right, in_either, in_map, map_in, length_map, by_number, without_in, in_without, rising_over}
 pub use Sets.{rising_more, rising_left_out, apart_port, apart_left_out}
 pub use Bits.{one_bit, one_only, shifted_bit, shifted_only, bit_below, one_named, named_one}

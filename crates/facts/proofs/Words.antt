@@ -1,4 +1,4 @@
--- The words of the libraries that proofs use, and three definitions that have the name of a file: this file only passes them on. Assumes nothing.
+-- The words of the libraries that proofs use, and two definitions that have the name of a file: this file only passes them on. Assumes nothing.
 pub use Prim.Native.Nat.{◌%◌, ◌*◌, ◌+◌, ◌-◌, ◌/◌, ◌<◌, ◌^◌, ◌≤◌, max, min, suc, zero, zero-le, ℕ}
 pub use borrow.Author.Rules.{rules}
 pub use borrow.Author.Tests.{eq-eqb, eqb-false, eqb-true, le-ltb, leb-false, leb-true, lt-ltb, ltb-false, ltb-true, ne_eqb, not-false, not-true}
@@ -29,5 +29,4 @@ pub use native.Mathlib.Nat.{two-pow-succ, zero-add, zero-div, zero-mul}
 pub use native.Mathlib.Numerals.{add-one}
 pub use native.Mathlib.Omega.{arith}
 pub use Rattle.facts.specs.Says.{Says}
-pub use Rattle.facts.specs.Table.{Ports}
 pub use Rattle.facts.specs.WellFormed.{WellFormed}

@@ -1,5 +1,5 @@
 -- How a call is ruled: its checks in their order, the first that applies is given; if none does, it is done. Assumes nothing.
-use Rattle.std.specs.Prelude.{◌≡◌, ◌⊎◌, List, [], ◌∷◌, ℕ}
+use Rattle.std.specs.Prelude.{◌≡◌, ◌⊎◌, List, [], ◌∷◌, ℕ, Result, Ok, Err}
 use Rattle.facts.specs.declared.Code.{Code}
 use Rattle.facts.specs.declared.Code.TheVariants.{Success}
 use Rattle.facts.specs.Table.{Facts}
@@ -30,6 +30,11 @@ DecidedThen cs code kept rest = (FirstGiven cs code × kept) ⊎ (Passed cs × r
 -- the same, where the rest is that it is done
 abbrev pub Decided : List Check → Code → Type 0 → Type 0 → Type 0
 Decided cs code kept done = DecidedThen cs code kept ((code ≡ Success) × done)
+
+-- what a check answers: that P is so, or, since it isn't, the code k
+abbrev pub Checked : {T : Type 0} → Type 0 → Code → Result T Code → Type 0
+Checked P k (Ok x) = P
+Checked P k (Err e) = (e ≡ k) × (P → ⊥)
 
 -- what a call of a service answers and leaves
 pub record Outcome : Type 0 where

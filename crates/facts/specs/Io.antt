@@ -4,7 +4,8 @@ use Rattle.std.proofs.Math.Option.{Option, none, some}
 use Rattle.facts.specs.declared.IoAsked.{IoAsked}
 use Rattle.facts.specs.declared.Code.TheVariants.{BadAttribute, BadBase, BadSize, InUse}
 use Rattle.facts.specs.Table
-use Rattle.facts.specs.Table.{Facts, Seat, seat_of, Ports, HeldPorts, IoGrant, Held}
+use Rattle.facts.specs.Table.{Facts, Seat, seat_of, HeldPorts, IoGrant, Held}
+use Rattle.facts.specs.declared.Ports.{Ports}
 use Rattle.facts.specs.Sets.{put}
 use Rattle.facts.specs.Choice.{Chosen}
 use Rattle.facts.specs.Ports.{Meet, AllManaged, AnswersManaged, WhollyUnreserved}

@@ -2,7 +2,8 @@
 use Rattle.std.specs.Prelude.{◌≡◌, false, ℕ, ◌+◌, ◌%◌, ◌^◌, ◌≤◌, ◌<◌, min}
 use Rattle.facts.specs.Sets.{◌∈◌}
 use Rattle.facts.specs.Table
-use Rattle.facts.specs.Table.{Facts, Seat, Range, Ports, HeldPorts, Held}
+use Rattle.facts.specs.Table.{Facts, Seat, Range, HeldPorts, Held}
+use Rattle.facts.specs.declared.Ports.{Ports}
 
 -- the port p is one of the count from base on
 pub record Within (p base count : ℕ) : Type 0 where

@@ -2,6 +2,7 @@
 use Rattle.std.specs.Prelude.{◌≡◌, List, [], Bool, false, ℕ, ◌^◌}
 use Rattle.std.proofs.Math.Option.{Option, none, some}
 use Rattle.facts.specs.declared.Manner.{Manner}
+use Rattle.facts.specs.declared.Ports.{Ports}
 
 -- the limits
 abbrev pub most_sockets : ℕ
@@ -65,12 +66,6 @@ pub record Range : Type 0 where
   pub base : ℕ
   pub count : ℕ
   pub reserved : Bool
-
--- ports as a card with so many decoded lines answers to them
-pub record Ports : Type 0 where
-  pub base : ℕ
-  pub count : ℕ
-  pub lines : ℕ
 
 -- a range of ports that is held: by this client, at these lines, shared or not
 pub record HeldPorts : Type 0 where

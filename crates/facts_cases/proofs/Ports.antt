@@ -1,5 +1,6 @@
 -- Ports that meet or don't, and the base that RequestIO gives where one range is managed: for N1 to N4, N8 and N9. Assumes nothing.
-use Rattle.facts.proofs.Words.{◌≡◌, refl, by_cases, sym, ◌∙◌, ◌≢◌, inl, inr, ⊎_elim, List, [], ◌∷◌, true≢false, Option, none, some, Ports}
+use Rattle.facts.proofs.Words.{◌≡◌, refl, by_cases, sym, ◌∙◌, ◌≢◌, inl, inr, ⊎_elim, List, [], ◌∷◌, true≢false, Option, none, some}
+use Rattle.facts.specs.declared.Ports.{Ports}
 use Rattle.facts.proofs.Words.{none-ne-some, some-injective, ℕ, ◌+◌, ◌-◌, ◌*◌, ◌^◌, ◌≤◌, ◌<◌, min, mod-eq_of_lt, dec_le, arith, pow_mono}
 use Rattle.facts.specs.{Code, BadBase, InUse, Passed, FirstGiven, with_word, BaseTaken, CandidateTaken, NoCandidate, NotAllManaged, InTheWay}
 use Rattle.facts.specs.{base_asked_lem, io_ahead_checks, base_checks, Facts, Range, IoGrant, Meet, Has, Managed, Answers, Candidate, SmallestPower, RequestIo}

@@ -5,7 +5,8 @@ use Rattle.facts.specs.declared.Code.{Code}
 use Rattle.facts.specs.declared.Code.TheVariants.{Success, BadBase, BadIrq}
 use Rattle.facts.specs.declared.Manner.{Manner}
 use Rattle.facts.specs.declared.Manner.TheVariants.{Exclusive, DynamicLevel, DynamicPulse}
-use Rattle.facts.specs.Table.{Facts, Range, Ports, fresh}
+use Rattle.facts.specs.Table.{Facts, Range, fresh}
+use Rattle.facts.specs.declared.Ports.{Ports}
 use Rattle.facts.specs.Ports.{Meet}
 use Rattle.facts.specs.Checks.{Outcome}
 use Rattle.facts.specs.Clients.{Register, Deregister, registered, with_clients}

@@ -1,7 +1,8 @@
 -- The rows of the gaps, filled in one after the other, are those of the table. Assumes nothing.
 use Rattle.facts.proofs.Words.{◌≡◌, refl, ap, sym, subst, subst⁻¹, ◌∙◌, ◌≢◌, List, ℕ, zero, suc, ◌+◌, ◌-◌, ◌%◌, ◌^◌, ◌≤◌, ◌<◌, min, max, mod-lt}
 use Rattle.facts.proofs.Words.{by_cases, dec_lt, ℕ_discrete, arith, length, set, length-set, replicate, length-replicate, get_or-replicate, get_or-set_same}
-use Rattle.facts.proofs.Words.{get_or-set_other, pow_pos, pow_mono, Ports, Says, Bool}
+use Rattle.facts.proofs.Words.{get_or-set_other, pow_pos, pow_mono, Says, Bool}
+use Rattle.facts.specs.declared.Ports.{Ports}
 use Rattle.facts.specs.{Meet, Within, all_ports, most_lines, most_ranges}
 use Rattle.layout.specs.{below, ranges_in, RangesSound, range_base, end_before_lem}
 use Rattle.layout.proofs.{below_in, below_past, range_end, end_next}

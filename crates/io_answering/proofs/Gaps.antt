@@ -1,6 +1,7 @@
 -- Every port is managed or lies in a gap, and not both; so all places where a card answers are managed exactly if its ports meet no gap. Assumes
 -- nothing.
-use Rattle.facts.proofs.Words.{◌≡◌, sym, subst, ◌⊎◌, inl, inr, List, Bool, ℕ, zero, suc, ◌+◌, ◌-◌, ◌≤◌, ◌<◌, eq-or-lt_of_le, dec_lt, arith, Ports}
+use Rattle.facts.proofs.Words.{◌≡◌, sym, subst, ◌⊎◌, inl, inr, List, Bool, ℕ, zero, suc, ◌+◌, ◌-◌, ◌≤◌, ◌<◌, eq-or-lt_of_le, dec_lt, arith}
+use Rattle.facts.specs.declared.Ports.{Ports}
 use Rattle.facts.proofs.Words.{Says}
 use Rattle.facts.specs.{Within, Answers, all_ports, most_lines}
 use Rattle.facts.proofs.{says_as, own_answers}

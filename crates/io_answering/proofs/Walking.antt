@@ -1,7 +1,8 @@
 -- Whether a card answers in a gap of the rows: how far it is ahead of each. Assumes nothing.
 use Rattle.facts.proofs.Words.{◌≡◌, refl, ap, sym, ◌∙◌, ◌≢◌, List, Bool, cond, ℕ, ◌+◌, ◌-◌, ◌*◌, ◌/◌, ◌%◌, ◌^◌, ◌≤◌, ◌<◌, min}
 use Rattle.facts.proofs.Words.{mod-lt, mod-add-mod, add-mul-mod_self_right, div-add-mod', one-mul, add-mul, dec_lt}
-use Rattle.facts.proofs.Words.{arith, bit_and, and_mask, ne_eqb, pow_pos, pow_mono, Ports, Says, eqb, ℕ_discrete}
+use Rattle.facts.proofs.Words.{arith, bit_and, and_mask, ne_eqb, pow_pos, pow_mono, Says, eqb, ℕ_discrete}
+use Rattle.facts.specs.declared.Ports.{Ports}
 use Rattle.facts.specs.{Meet, all_ports, most_lines}
 use Rattle.facts.proofs.{says_as, says_eq, told}
 use Rattle.io_ranges.proofs.{all_ports_mod, meet_near, near_meet}

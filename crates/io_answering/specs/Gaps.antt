@@ -1,7 +1,7 @@
 -- The gaps between the managed ranges, and whether all places where a card answers are managed, said of the bytes. Assumes nothing.
 use Rattle.std.specs.Prelude.{List, ℕ, ◌-◌, ◌≤◌}
 use Rattle.facts.specs.Table
-use Rattle.facts.specs.Table.{Ports}
+use Rattle.facts.specs.declared.Ports.{Ports}
 use Rattle.facts.specs.Ports.{Within, Meet, Answers}
 use Rattle.layout.specs.Reading.{ranges_in, below}
 use Rattle.layout.specs.Sound.{ManagedIn, range_base, end_before_lem}

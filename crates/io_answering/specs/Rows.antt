@@ -1,7 +1,7 @@
 -- The gaps between the managed ranges in rows. Assumes nothing.
 use Rattle.std.specs.Prelude.{◌≡◌, List, cond, ℕ, ◌+◌, ◌-◌, ◌%◌, ◌^◌, ◌≤◌, ◌<◌, eqb, length, get_or}
 use Rattle.facts.specs.Table
-use Rattle.facts.specs.Table.{Ports}
+use Rattle.facts.specs.declared.Ports.{Ports}
 use Rattle.facts.specs.Ports.{Meet}
 use Rattle.io_answering.specs.Gaps.{MeetsGap}
 

@@ -1,5 +1,6 @@
 -- The bases at which ports meet others are a stretch. Assumes nothing.
-use Rattle.facts.proofs.Words.{◌≡◌, ap, ◌∙◌, ℕ, ◌+◌, ◌-◌, ◌%◌, ◌^◌, ◌≤◌, ◌<◌, min, mod-lt, mod-eq_of_lt, pow_mono, dec_lt, arith, Ports}
+use Rattle.facts.proofs.Words.{◌≡◌, ap, ◌∙◌, ℕ, ◌+◌, ◌-◌, ◌%◌, ◌^◌, ◌≤◌, ◌<◌, min, mod-lt, mod-eq_of_lt, pow_mono, dec_lt, arith}
+use Rattle.facts.specs.declared.Ports.{Ports}
 use Rattle.facts.specs.{all_ports, most_lines}
 use Rattle.io_ranges.proofs.{meet_near, near_meet, all_ports_mod}
 use Rattle.io_answering.specs.{ports_from}

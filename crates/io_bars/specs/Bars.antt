@@ -1,7 +1,8 @@
 -- Which bases the live grants and the gaps of a table bar. Assumes nothing.
 use Rattle.std.specs.Prelude.{List, ℕ, ◌+◌, ◌-◌, ◌^◌, ◌≤◌, ◌<◌, set}
 use Rattle.facts.specs.Table
-use Rattle.facts.specs.Table.{Facts, Ports}
+use Rattle.facts.specs.Table.{Facts}
+use Rattle.facts.specs.declared.Ports.{Ports}
 use Rattle.facts.specs.Ports.{Meet, MeetsHeld}
 use Rattle.layout.specs.Sound.{Accepted}
 use Rattle.seats.specs.Seats.{range}

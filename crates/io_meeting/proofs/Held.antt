@@ -1,5 +1,6 @@
 -- Ports meet those that are held at a seat, or some that are held, as what is held says. Assumes nothing.
-use Rattle.facts.proofs.Words.{sym, ◌∙◌, subst, some-injective, Bool, ℕ, ◌≤◌, ◌<◌, arith, Ports, WellFormed, Says}
+use Rattle.facts.proofs.Words.{sym, ◌∙◌, subst, some-injective, Bool, ℕ, ◌≤◌, ◌<◌, arith, WellFormed, Says}
+use Rattle.facts.specs.declared.Ports.{Ports}
 use Rattle.facts.specs.{Facts, Seat, HeldPorts, Held, Meet, MeetsHeld, all_ports, most_lines, most_seats}
 use Rattle.facts.proofs.{says_as}
 use Rattle.io_meeting.specs.{MeetsAt}

@@ -1,5 +1,6 @@
 -- Whether ports meet those that are held at a seat. Assumes nothing.
-use Rattle.facts.specs.Table.{Facts, Seat, Ports, HeldPorts, Held}
+use Rattle.facts.specs.Table.{Facts, Seat, HeldPorts, Held}
+use Rattle.facts.specs.declared.Ports.{Ports}
 use Rattle.facts.specs.Ports.{Meet}
 
 -- the ports meet some that are held at the seat s

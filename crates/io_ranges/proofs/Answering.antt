@@ -1,6 +1,7 @@
 -- A card answers at a port of a stretch exactly if its ports meet the stretch, all of whose lines count; and one that decodes all lines answers at its
 -- own ports alone. Assumes nothing.
-use Rattle.facts.proofs.Words.{◌≡◌, sym, subst, ◌∙◌, ℕ, ◌+◌, ◌%◌, ◌^◌, ◌≤◌, ◌<◌, min, mod-eq_of_lt, arith, Ports}
+use Rattle.facts.proofs.Words.{◌≡◌, sym, subst, ◌∙◌, ℕ, ◌+◌, ◌%◌, ◌^◌, ◌≤◌, ◌<◌, min, mod-eq_of_lt, arith}
+use Rattle.facts.specs.declared.Ports.{Ports}
 use Rattle.facts.specs.{all_ports, most_lines, Within, Meet, Answers}
 
 module _ (a : Ports) (l : a.lines ≤ most_lines) (base count : ℕ) where

@@ -1,7 +1,8 @@
 -- A remainder by two to the smaller line count decides whether two ranges of ports meet; and where they do, they do again after a period. Assumes
 -- nothing.
 use Rattle.facts.proofs.Words.{◌≡◌, sym, ap, subst, ◌∙◌, ◌↔◌, ℕ, ◌+◌, ◌-◌, ◌*◌, ◌%◌, ◌^◌, ◌≤◌, ◌<◌, min, add-mul-mod_self_right, mul-mod_left, arith}
-use Rattle.facts.proofs.Words.{ltb, pow-add, pow_pos, mod-mod-pow, Says, Ports}
+use Rattle.facts.proofs.Words.{ltb, pow-add, pow_pos, mod-mod-pow, Says}
+use Rattle.facts.specs.declared.Ports.{Ports}
 use Rattle.facts.specs.{all_ports, most_lines, Meet}
 use Rattle.facts.proofs.{says_as, says_lt}
 use Rattle.io_ranges.proofs.Meeting.{Common, moved, common_look}

@@ -8,7 +8,7 @@ ghost use Rattle.layout.specs.Layout.{manner_byte_lem};
 ghost use Rattle.irq_levels.specs.Levels.{LevelIs};
 ghost use Rattle.irq_levels.specs.Apart.{MarksApart, MannersApart};
 
-use facts::Manner;
+use facts::{Code, Manner};
 use layout::ALL_LEVELS;
 
 // The types of a request's bits 0 to 1 (5.53).
@@ -90,20 +90,14 @@ pub fn apart(m: Manner) -> u64
     }
 }
 
-// Whether a level that is named is one of a table's levels.
-#[derive(Clone, Copy)]
-pub enum LevelNumber {
-    Below(usize),
-    Over,
-}
-
-pub fn below_levels(level: u32) -> LevelNumber
+// A level that is named, which is one of a table's levels.
+pub fn below_levels(level: u32) -> Result<usize, Code>
     ensures { LevelIs level result }
 {
     let number = level as usize;
     if number < ALL_LEVELS {
-        LevelNumber::Below(number)
+        Ok(number)
     } else {
-        LevelNumber::Over
+        Err(Code::BadIrq)
     }
 }

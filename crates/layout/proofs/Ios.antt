@@ -1,5 +1,6 @@
 -- What the record of an I/O grant says; and that a table with another record is the image of the facts with that grant. Assumes nothing.
-use Rattle.facts.proofs.Words.{◌≡◌, refl, subst, ⊎_elim, List, ◌∷◌, ◌++◌, [], Option, none, some, ℕ, ◌+◌, ◌<◌, arith, replicate, Ports}
+use Rattle.facts.proofs.Words.{◌≡◌, refl, subst, ⊎_elim, List, ◌∷◌, ◌++◌, [], Option, none, some, ℕ, ◌+◌, ◌<◌, arith, replicate}
+use Rattle.facts.specs.declared.Ports.{Ports}
 use Rattle.layout.proofs.Of
 use Rattle.facts.specs.{IoGrant, with_io, most_clients, most_seats}
 use Rattle.layout.specs.{image, two, io_bytes, mark, io_place_lem, ports_in, io_in, Accepted, io_entered, io_base_at, io_count_at, io_lines_at, io_shared_at}

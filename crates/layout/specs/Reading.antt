@@ -4,7 +4,8 @@ use Rattle.std.proofs.Math.Option.{Option, none, some}
 use Rattle.facts.specs.declared.Manner.{Manner}
 use Rattle.facts.specs.declared.Manner.TheVariants.{Exclusive, TimeMultiplexed, DynamicLevel, DynamicPulse}
 use Rattle.facts.specs.Table
-use Rattle.facts.specs.Table.{Facts, Seat, Client, Level, Range, Ports, IoGrant, IrqGrant}
+use Rattle.facts.specs.Table.{Facts, Seat, Client, Level, Range, IoGrant, IrqGrant}
+use Rattle.facts.specs.declared.Ports.{Ports}
 use Rattle.facts.specs.Packets.{byte, word, long}
 use Rattle.layout.specs.Layout
 

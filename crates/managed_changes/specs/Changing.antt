@@ -1,27 +1,19 @@
 -- A change of what is managed, and the bits of an Add and of a Remove. Assumes nothing.
-use Rattle.std.specs.Prelude.{◌≡◌, ◌≢◌, List, ℕ, eqb}
+use Rattle.std.specs.Prelude.{◌≡◌, List, ℕ, eqb, Result, Ok, Err}
+use Rattle.facts.specs.declared.Code.{Code}
+use Rattle.facts.specs.declared.Code.TheVariants.{BadAttribute}
 use Rattle.facts.specs.Table.{Facts}
 use Rattle.facts.specs.Checks.{Check, FirstGiven, Passed}
 use Rattle.facts.specs.Resources.{AddBits, reserve_bit}
 use Rattle.layout.specs.Layout.{mark}
 use Rattle.layout.specs.Served.{Served}
-use Rattle.managed_changes.specs.declared.Change.{Change}
-use Rattle.managed_changes.specs.declared.Change.TheVariants.{Made, Refused}
-use Rattle.managed_changes.specs.declared.Reserve.{Reserve}
-use Rattle.managed_changes.specs.declared.Reserve.TheVariants.{Mark, Other}
-use Rattle.managed_changes.specs.declared.Bits.{Bits}
-use Rattle.managed_changes.specs.declared.Bits.TheVariants.{Clear, Set}
 
 -- a change is made where none of its checks applies; or the first that does gives its code, and the facts stay
-abbrev pub Changes : (Facts → List Check) → (Facts → Facts) → List ℕ → List ℕ → Change → Type 0
-Changes checks after b b' Made = Served (λ (F G : Facts). Passed (checks F) × (G ≡ after F)) b b'
-Changes checks after b b' (Refused k) = Served (λ (F G : Facts). FirstGiven (checks F) k × (G ≡ F)) b b'
+abbrev pub Changes : {T : Type 0} → (Facts → List Check) → (Facts → Facts) → List ℕ → List ℕ → Result T Code → Type 0
+Changes checks after b b' (Ok x) = Served (λ (F G : Facts). Passed (checks F) × (G ≡ after F)) b b'
+Changes checks after b b' (Err k) = Served (λ (F G : Facts). FirstGiven (checks F) k × (G ≡ F)) b b'
 
--- the bits of an Add and of a Remove
-abbrev pub ReserveIs : ℕ → Reserve → Type 0
-ReserveIs a (Mark m) = AddBits a × (m ≡ mark (eqb a reserve_bit))
-ReserveIs a Other = AddBits a → ⊥
-
-abbrev pub BitsAre : ℕ → Bits → Type 0
-BitsAre a Clear = a ≡ 0
-BitsAre a Set = a ≢ 0
+-- the bits of an Add: the reserve mark that they ask for, or others
+abbrev pub ReserveIs : ℕ → Result ℕ Code → Type 0
+ReserveIs a (Ok m) = AddBits a × (m ≡ mark (eqb a reserve_bit))
+ReserveIs a (Err k) = (k ≡ BadAttribute) × (AddBits a → ⊥)

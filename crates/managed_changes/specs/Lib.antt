@@ -1,3 +1,3 @@
 -- What the contracts of `managed_changes` cite. Assumes nothing.
 pub mod Changing
-pub use Changing.{Changes, ReserveIs, BitsAre}
+pub use Changing.{Changes, ReserveIs}

@@ -1,6 +1,7 @@
 -- Each way in which an Add or a Remove of a range ends is the rule's; what its writes leave. Assumes nothing.
 use Rattle.facts.proofs.Words.{◌≡◌, refl, ap, sym, ◌∙◌, subst, subst₂, ◌⊎◌, inl, inr, ⊎_elim, ◌≢◌, List, [], ◌∷◌, ◌++◌, Bool, ℕ, ◌+◌, ◌≤◌, ◌<◌}
-use Rattle.facts.proofs.Words.{add-zero, dec_lt, arith, length, get_or, set, length-set, Ports}
+use Rattle.facts.proofs.Words.{add-zero, dec_lt, arith, length, get_or, set, length-set}
+use Rattle.facts.specs.declared.Ports.{Ports}
 use Rattle.layout.proofs.Of
 use Rattle.managed_ranges.specs.declared.PortsNamed.TheVariants as named
 use Rattle.facts.specs.{Code, BadAttribute, BadBase, InUse, OutOfResource, Facts, Range, byte, with_word, with_long, Within, Has, Managed}

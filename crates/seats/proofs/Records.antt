@@ -1,5 +1,6 @@
 -- Records that can be no grants are sound exactly if they are all zero; and what is held at a seat is what its record says. Assumes nothing.
-use Rattle.facts.proofs.Words.{◌≡◌, ap, ◌∙◌, ◌⊎◌, inl, ⊎_elim, ◌≢◌, List, ℕ, ◌+◌, ◌≤◌, ◌<◌, arith, Ports}
+use Rattle.facts.proofs.Words.{◌≡◌, ap, ◌∙◌, ◌⊎◌, inl, ⊎_elim, ◌≢◌, List, ℕ, ◌+◌, ◌≤◌, ◌<◌, arith}
+use Rattle.facts.specs.declared.Ports.{Ports}
 use Rattle.facts.specs.{most_seats, byte, word, Seat, most_lines, IoGrant, all_ports, most_asked, Within}
 use Rattle.layout.proofs.{ports_are, used_sound}
 use Rattle.layout.specs.{ports_in, Zero, IoPlaceSound, IoSound, io_place_lem, io_base_at, io_count_at, io_size, io_lines_at, io_in}

@@ -1,4 +1,4 @@
-// What a service answers, and the number that C gets for it.
+// The number that C gets for what a service answers: a handle, or the code of a refusal.
 #![tactic(auto)]
 
 ghost use Rattle.std.specs.Prelude.{◌≡◌};
@@ -7,22 +7,12 @@ ghost use Rattle.service_answers.specs.Answers.{code_of, handle_of};
 
 use facts::{Code, Handle};
 
-// What a service answers: a handle, or the code of a refusal.
-#[derive(Clone, Copy)]
-pub enum Answer {
-    Done(Handle),
-    Refused(Code),
-}
-
 // code + 65536 * handle.
-pub fn pack(a: Answer) -> u32
-    ensures { result ≡ packed (code_of a) (handle_of a) }
+pub fn pack(answer: Result<Handle, Code>) -> u32
+    ensures { result ≡ packed (code_of answer) (handle_of answer) }
 {
-    match a {
-        Answer::Done(h) => {
-            let handle = h.0;
-            65536 * (handle as u32)
-        }
-        Answer::Refused(code) => facts::number(code),
+    match answer {
+        Ok(h) => 65536 * u32::from(h.0),
+        Err(code) => u32::from(code),
     }
 }

@@ -1,13 +1,13 @@
 -- How a service on a socket begins. Assumes nothing.
-use Rattle.std.specs.Prelude.{◌≡◌, List, [], ℕ, length}
+use Rattle.std.specs.Prelude.{◌≡◌, List, [], ℕ, length, Result, Ok, Err}
+use Rattle.facts.specs.declared.Code.{Code}
+use Rattle.facts.specs.declared.Seat as seat
 use Rattle.facts.specs.Table.{Facts, Seat, seat_of, socket_at}
 use Rattle.facts.specs.Checks.{Check, FirstGiven}
 use Rattle.facts.specs.Sockets.{release_checks, request_checks}
 use Rattle.layout.specs.Sound.{Accepted}
 use Rattle.client_record.specs.Finding.{ListedAt}
 use Rattle.service_checks.specs.Checking.{NamesSocket, CardEnough}
-use Rattle.service_checks.specs.declared.Begun.{Begun}
-use Rattle.service_checks.specs.declared.Begun.TheVariants.{At, Refused}
 use Rattle.service_checks.specs.declared.CardNeed.{CardNeed}
 use Rattle.service_checks.specs.declared.CardNeed.TheVariants.{Needed, Ignored}
 
@@ -26,6 +26,6 @@ pub record BegunAt (b p : List ℕ) (n h : ℕ) (need : CardNeed) (i : ℕ) (s :
   pub card : CardEnough b (socket_at s) need
 
 -- so it is, or k is the code of the first that applies
-abbrev pub BegunIs : List ℕ → ℕ → List ℕ → ℕ → CardNeed → Begun → Type 0
-BegunIs b h p n need (At i s) = BegunAt b p n h need i s.0
-BegunIs b h p n need (Refused k) = (a : Accepted b) → FirstGiven (checks_ahead need n a.facts h p) k
+abbrev pub BegunIs : List ℕ → ℕ → List ℕ → ℕ → CardNeed → Result (ℕ × seat.Seat) Code → Type 0
+BegunIs b h p n need (Ok x) = BegunAt b p n h need x.0 x.1.0
+BegunIs b h p n need (Err k) = (a : Accepted b) → FirstGiven (checks_ahead need n a.facts h p) k

@@ -1,6 +1,7 @@
 -- The blocks of ports: where the ports of a grant stand, and that grants which meet answer in a block in common. Assumes nothing.
 use Rattle.facts.proofs.Words.{◌≡◌, refl, sym, ap, ◌∙◌, subst, List, ℕ, ◌+◌, ◌-◌, ◌*◌, ◌/◌, ◌%◌, ◌^◌, ◌≤◌, ◌<◌, min-eq_left}
-use Rattle.facts.proofs.Words.{min-eq_right, dec_lt, arith, bit_and, bit_or, field, Ports, eq-eqb}
+use Rattle.facts.proofs.Words.{min-eq_right, dec_lt, arith, bit_and, bit_or, field, eq-eqb}
+use Rattle.facts.specs.declared.Ports.{Ports}
 use Rattle.facts.specs.{bit, Within, Meet}
 use Rattle.layout.specs.{IoPairSound}
 use Rattle.io_ranges.proofs.{mod_fewer}

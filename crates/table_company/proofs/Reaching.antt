@@ -1,7 +1,8 @@
 -- What a grant reaches of another, by the numbers in the rows, is 0 exactly if the two keep company. Assumes nothing.
 use Rattle.facts.proofs.Words.{◌≡◌, refl, sym, ap, ap₂, ◌∙◌, subst, Bool, true, false, false≢true, cond, List, ℕ, ◌+◌, ◌-◌, ◌%◌, ◌^◌}
 use Rattle.facts.proofs.Words.{min-eq_left, min-eq_right, mod-eq_of_lt, mod-lt, mod-mod-pow, pow_pos, pow_mono, dec_le, ℕ_discrete, arith, bit_and, and_mask}
-use Rattle.facts.proofs.Words.{◌≤◌, ◌<◌, min, by_cases, eqb, eq-eqb, ne_eqb, get_or, Ports, Says}
+use Rattle.facts.proofs.Words.{◌≤◌, ◌<◌, min, by_cases, eqb, eq-eqb, ne_eqb, get_or, Says}
+use Rattle.facts.specs.declared.Ports.{Ports}
 use Rattle.facts.specs.{all_ports, most_lines, word, Meet, IoGrant}
 use Rattle.facts.proofs.{told, says_as, says_eq}
 use Rattle.layout.specs.{io_in, io_place_lem, io_size, IoUsed, IoPlaceSound, IoPairSound}

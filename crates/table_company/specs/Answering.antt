@@ -1,6 +1,7 @@
 -- What keeps two I/O grants from company is a block of ports in which both answer. A set of blocks has a bit for each. Assumes nothing.
 use Rattle.std.specs.Prelude.{◌≡◌, ℕ, ◌/◌, ◌%◌, ◌^◌, ◌<◌, true, List}
-use Rattle.facts.specs.Table.{Seat, Ports}
+use Rattle.facts.specs.Table.{Seat}
+use Rattle.facts.specs.declared.Ports.{Ports}
 use Rattle.facts.specs.Packets.{bit}
 use Rattle.facts.specs.Ports.{Within}
 use Rattle.layout.specs.Reading.{io_in}

@@ -1,7 +1,8 @@
 -- What is tested of an I/O grant: its ports, the managed range that has them, and the lines that its card decodes. Assumes nothing.
 use Rattle.std.specs.Prelude.{◌≡◌, List, ℕ, ◌+◌, ◌^◌, ◌≤◌, ◌<◌}
 use Rattle.facts.specs.Table
-use Rattle.facts.specs.Table.{Seat, socket_at, Ports}
+use Rattle.facts.specs.Table.{Seat, socket_at}
+use Rattle.facts.specs.declared.Ports.{Ports}
 use Rattle.facts.specs.Packets.{byte}
 use Rattle.layout.specs.Layout
 use Rattle.layout.specs.Reading.{sockets_in, ranges_in, io_place_lem, io_in}

@@ -1,6 +1,7 @@
 -- `io_answering::managed` meets its contract: with all lines decoded its own ports decide; with fewer, the gaps do.
 -- Assumes nothing.
-use Rattle.facts.proofs.Words.{◌<◌, arith, Ports}
+use Rattle.facts.proofs.Words.{◌<◌, arith}
+use Rattle.facts.specs.declared.Ports.{Ports}
 use Rattle.facts.specs.{most_lines}
 use Rattle.io_answering.proofs.{clear_says, gaps_say}
 use Rattle.io_answering.proofs.managed.Goals as goal

@@ -1,6 +1,7 @@
 -- `io_bars::bar_of` meets its contract: the bases from which the last port is no port before those, up to their last.
 -- Assumes nothing.
-use Rattle.facts.proofs.Words.{◌≡◌, refl, ◌∙◌, ap, min, ◌+◌, ◌^◌, ℕ, arith, Ports}
+use Rattle.facts.proofs.Words.{◌≡◌, refl, ◌∙◌, ap, min, ◌+◌, ◌^◌, ℕ, arith}
+use Rattle.facts.specs.declared.Ports.{Ports}
 use Rattle.io_bars.specs.{PortsFit}
 use Rattle.io_bars.proofs.{bar_none, bar_is}
 use Rattle.io_bars.proofs.bar_of.Goals as goal

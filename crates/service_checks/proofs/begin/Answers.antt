@@ -1,10 +1,13 @@
 -- `service_checks::begin` meets its contract: each check's answer says which of the first checks it is, or that none applies.
 -- Assumes nothing.
 use Rattle.facts.proofs.Words.{arith}
+use Rattle.facts.proofs.{handed, given, missing}
 use Rattle.facts.specs.{Live}
 use Rattle.layout.specs.{Accepted}
 use Rattle.layout.proofs.{size_in, sockets_in_lem, clients_in_lem}
 use Rattle.layout.proofs.Of.{live_listed}
+use Rattle.client_record.specs.{ListedAt, Finds}
+use Rattle.service_checks.specs.{BegunIs}
 use Rattle.service_checks.proofs.{by_handle, by_socket, by_card}
 use Rattle.service_checks.proofs.begin.Goals as goal
 
@@ -13,28 +16,31 @@ client_at-requires c =
     let a = c.requires.0 in
     (size_in c.args.t.now a, omega (arith, clients_in_lem c.args.t.now a, a.formed.clients_most))
 
-pub returns-in_default-client_at : goal.returns-in_default-client_at
-returns-in_default-client_at c a =
-    by_handle a c.args.p.now c.args.n c.args.h.0 c.in-Right.ensures c.args.need
-    c.in_default-client_at.ensures
+pub returns-in_err-i : goal.returns-in_err-i
+returns-in_err-i c =
+    let x = missing (Finds c.args.t.now c.args.h.0) _ _ c.ok_or.ensures.value c.in_err-i.was c.client_at.ensures in
+    handed (BegunIs _ _ _ _ _) _ c.from_residual-in_err-i.ensures x.0
+    (λ a. by_handle a c.args.p.now c.args.n c.args.h.0 c.in_ok-sized.ensures c.args.need x.1)
 
 pub socket_named-requires : goal.socket_named-requires
 socket_named-requires c =
-    (size_in c.args.t.now c.requires.0, omega (arith, c.in-Right.ensures, c.requires.1))
+    (size_in c.args.t.now c.requires.0, omega (arith, c.in_ok-sized.ensures, c.requires.1))
 
-pub returns-in_default-socket_named : goal.returns-in_default-socket_named
-returns-in_default-socket_named c a =
-    let client_live : (a : Accepted c.args.t.now) → Live a.facts c.args.h.0 = λ a. live_listed c.args.t.now a _ _ c.in-At.ensures.listed c.in-At.ensures.handle in
-    by_socket a c.args.p.now c.args.n c.args.h.0 c.in-Right.ensures (client_live a) c.args.need
-    c.in_default-socket_named.ensures
+pub returns-in_err-socket : goal.returns-in_err-socket
+returns-in_err-socket c =
+    let found : ListedAt c.args.t.now c.args.h.0 c.in_ok-i.i = given (Finds _ _) _ _ c.ok_or.ensures.value c.in_ok-i.was c.client_at.ensures in
+    handed (BegunIs _ _ _ _ _) _ c.from_residual-in_err-socket.ensures c.in_err-socket.ensures.0
+    (λ a. by_socket a c.args.p.now c.args.n c.args.h.0 c.in_ok-sized.ensures (live_listed c.args.t.now a _ _ found.listed found.handle) c.args.need
+      c.in_err-socket.ensures.1)
 
 pub card_asked-requires : goal.card_asked-requires
 card_asked-requires c =
     let a = c.requires.0 in
-    (size_in c.args.t.now a, omega (arith, c.in-At-socket_named.ensures.number, c.in-At-socket_named.ensures.counted, sockets_in_lem c.args.t.now a, a.formed.sockets_most))
+    (size_in c.args.t.now a, omega (arith, c.in_ok-socket.ensures.number, c.in_ok-socket.ensures.counted, sockets_in_lem c.args.t.now a, a.formed.sockets_most))
 
-pub returns-in_default-card_asked : goal.returns-in_default-card_asked
-returns-in_default-card_asked c a =
-    let client_live : (a : Accepted c.args.t.now) → Live a.facts c.args.h.0 = λ a. live_listed c.args.t.now a _ _ c.in-At.ensures.listed c.in-At.ensures.handle in
-    by_card a c.args.p.now c.args.n c.args.h.0 c.in-Right.ensures (client_live a) c.in-At-socket_named.ensures
-    c.args.need c.in_default-card_asked.ensures
+pub returns-in_err-card_asked : goal.returns-in_err-card_asked
+returns-in_err-card_asked c =
+    let found : ListedAt c.args.t.now c.args.h.0 c.in_ok-i.i = given (Finds _ _) _ _ c.ok_or.ensures.value c.in_ok-i.was c.client_at.ensures in
+    handed (BegunIs _ _ _ _ _) _ c.from_residual-in_err-card_asked.ensures c.in_err-card_asked.ensures.0
+    (λ a. by_card a c.args.p.now c.args.n c.args.h.0 c.in_ok-sized.ensures (live_listed c.args.t.now a _ _ found.listed found.handle) c.in_ok-socket.ensures
+      c.args.need c.in_err-card_asked.ensures.1)

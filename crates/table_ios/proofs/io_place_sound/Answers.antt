@@ -1,6 +1,7 @@
 -- `table_ios::io_place_sound` meets its contract: a record without a client is zero, and one with a client is a grant if each test passes.
 -- Assumes nothing.
-use Rattle.facts.proofs.Words.{sym, ap, ◌∙◌, subst, List, ℕ, ◌+◌, ◌≤◌, arith, rules, Ports, Says}
+use Rattle.facts.proofs.Words.{sym, ap, ◌∙◌, subst, List, ℕ, ◌+◌, ◌≤◌, arith, rules, Says}
+use Rattle.facts.specs.declared.Ports.{Ports}
 use Rattle.facts.specs.{byte, long, IoGrant}
 use Rattle.facts.proofs.{says_yes, says_no}
 use Rattle.layout.specs.{io_size, io_place_lem, io_shared_at, io_spare_at, IoUsed, Zero, LiveIn}
