@@ -1,41 +1,43 @@
 -- What is held at a seat. Assumes nothing.
-use Rattle.std.specs.Prelude.{◌≡◌, List, ℕ}
+use Rattle.std.specs.Prelude.{◌≡◌, ◌≢◌, List, ℕ, Some, None}
+use Rattle.std.specs.Prelude as std
 use Rattle.std.proofs.Math.Option.{Option, none, some}
+use Rattle.facts.specs.Packets.{word}
 use Rattle.facts.specs.Table
 use Rattle.facts.specs.Table.{Seat, IrqGrant}
 use Rattle.layout.specs.Reading.{io_in, irq_in, facts_in}
 use Rattle.layout.specs.Sound.{IoUsed, IrqUsed}
 use Rattle.seats.specs.declared.HeldPorts.{HeldPorts}
 use Rattle.seats.specs.declared.HeldLevel.{HeldLevel}
-use Rattle.seats.specs.declared.IoSeat.{IoSeat}
-use Rattle.seats.specs.declared.IoSeat.TheVariants as io
-use Rattle.seats.specs.declared.IrqSeat.{IrqSeat}
-use Rattle.seats.specs.declared.IrqSeat.TheVariants as irq
 
 -- a range of ports that is held, and a level, as the facts have them
 abbrev pub range : HeldPorts → Table.HeldPorts
-range x = record { client = x.client.0; ports = record { base = x.base; count = x.count; lines = x.lines }; shared = x.shared }
+range x = record { client = x.client.0; ports = x.ports; shared = x.shared }
 
 abbrev pub grant : HeldLevel → IrqGrant
 grant x = record { client = x.client.0; level = x.level; manner = x.manner }
 
 -- what the bytes say is held at the seat, or nothing is
-abbrev pub HeldIs : List ℕ → Seat → IoSeat → Type 0
-HeldIs b s (io.Held x) = IoUsed b s × (range x ≡ io_in b s)
-HeldIs b s io.Free = IoUsed b s → ⊥
+abbrev pub HeldIs : List ℕ → Seat → std.Option HeldPorts → Type 0
+HeldIs b s (Some x) = IoUsed b s × (range x ≡ io_in b s)
+HeldIs b s None = IoUsed b s → ⊥
 
-abbrev pub LevelHeldIs : List ℕ → Seat → IrqSeat → Type 0
-LevelHeldIs b s (irq.Held x) = IrqUsed b s × (grant x ≡ irq_in b s)
-LevelHeldIs b s irq.Free = IrqUsed b s → ⊥
+abbrev pub LevelHeldIs : List ℕ → Seat → std.Option HeldLevel → Type 0
+LevelHeldIs b s (Some x) = IrqUsed b s × (grant x ≡ irq_in b s)
+LevelHeldIs b s None = IrqUsed b s → ⊥
 
 -- the grant that an answer says
-abbrev pub io_at : IoSeat → Option Table.IoGrant
-io_at (io.Held x) = some (range x)
-io_at io.Free = none
+abbrev pub io_at : std.Option HeldPorts → Option Table.IoGrant
+io_at (Some x) = some (range x)
+io_at None = none
 
-abbrev pub irq_at : IrqSeat → Option IrqGrant
-irq_at (irq.Held x) = some (grant x)
-irq_at irq.Free = none
+abbrev pub irq_at : std.Option HeldLevel → Option IrqGrant
+irq_at (Some x) = some (grant x)
+irq_at None = none
+
+-- the record at a place says the client h, who is not nobody
+abbrev pub Recorded : List ℕ → ℕ → ℕ → Type 0
+Recorded b at h = (h ≢ 0) × (word b at ≡ h)
 
 -- there is a grant, and its client is h
 abbrev pub HeldBy : {G : Type 0} → (G → ℕ) → ℕ → Option G → Type 0

@@ -6,9 +6,9 @@ ghost use Rattle.facts.specs.Table;
 ghost use Rattle.facts.specs.Says.{Says};
 ghost use Rattle.layout.specs.Layout.{table_size, io_size, irq_size};
 ghost use Rattle.layout.specs.Reading.{io_place_lem, irq_place_lem};
-ghost use Rattle.seats.specs.Seats.{HeldIs, LevelHeldIs, IoHeldBy, IrqHeldBy};
+ghost use Rattle.seats.specs.Seats.{Recorded, HeldIs, LevelHeldIs, IoHeldBy, IrqHeldBy};
 
-use facts::{Handle, Manner, Seat};
+use facts::{Handle, Manner, Ports, Seat};
 use layout::{
     IO_BASE_AT, IO_COUNT_AT, IO_LINES_AT, IO_SHARED_AT, IO_SIZE, IOS_AT, IRQ_LEVEL_AT,
     IRQ_MANNER_AT, IRQ_SIZE, IRQS_AT, MARKED,
@@ -19,99 +19,85 @@ pub fn io_place(s: Seat) -> usize
     requires { s.0 < Table.most_seats }
     ensures { (result ≡ io_place_lem s.0) × (result + io_size ≤ table_size) }
 {
-    let number = s.0;
-    IOS_AT + number * IO_SIZE
+    IOS_AT + s.0 * IO_SIZE
 }
 
 pub fn irq_place(s: Seat) -> usize
     requires { s.0 < Table.most_seats }
     ensures { (result ≡ irq_place_lem s.0) × (result + irq_size ≤ table_size) }
 {
-    let number = s.0;
-    IRQS_AT + number * IRQ_SIZE
+    IRQS_AT + s.0 * IRQ_SIZE
 }
 
 // The handle that is never live: the record of no grant says it.
-pub const NOBODY: u16 = 0;
+pub const NOBODY: Handle = Handle(0);
+
+// Whether the record at a place is that of a grant of this client. Nobody's handle has none.
+fn recorded(t: &[u8], at: usize, client: Handle) -> bool
+    requires { at + 1 < length t.now }
+    ensures { Says result (Recorded t.now at client.0) }
+{
+    client != NOBODY && table_read::handle(t, at) == client
+}
 
 // A range of ports that is held: by this client, at these lines, shared or not.
-#[derive(Clone, Copy)]
+#[derive(Clone, Copy, Debug, PartialEq, Eq)]
 pub struct HeldPorts {
     pub client: Handle,
-    pub base: usize,
-    pub count: usize,
-    pub lines: usize,
+    pub ports: Ports,
     pub shared: bool,
 }
 
-// What a seat's I/O grant holds, or there is none.
-#[derive(Clone, Copy)]
-pub enum IoSeat {
-    Held(HeldPorts),
-    Free,
-}
-
-pub fn held(t: &[u8], s: Seat) -> IoSeat
+// What a seat's I/O grant holds, if there is one.
+pub fn held(t: &[u8], s: Seat) -> Option<HeldPorts>
     requires { (length t.now ≡ table_size) × (s.0 < Table.most_seats) }
     ensures { HeldIs t.now s.0 result }
 {
     let at = io_place(s);
     let client = table_read::handle(t, at);
-    if client.0 == NOBODY {
-        return IoSeat::Free;
+    if client == NOBODY {
+        return None;
     }
     let base = table_read::word(t, at + IO_BASE_AT);
     let count = table_read::byte(t, at + IO_COUNT_AT);
     let lines = table_read::byte(t, at + IO_LINES_AT);
     let shared = table_read::byte(t, at + IO_SHARED_AT) == MARKED;
-    IoSeat::Held(HeldPorts {
+    Some(HeldPorts {
         client,
-        base,
-        count,
-        lines,
+        ports: Ports { base, count, lines },
         shared,
     })
 }
 
-// Whether the client holds the seat's I/O grant. Nobody's handle holds none.
+// Whether the client holds the seat's I/O grant.
 pub fn io_held_by(t: &[u8], s: Seat, client: Handle) -> bool
     requires { (length t.now ≡ table_size) × (s.0 < Table.most_seats) }
     ensures { Says result (IoHeldBy t.now client.0 s.0) }
 {
-    if client.0 == NOBODY {
-        return false;
-    }
-    let holder = table_read::handle(t, io_place(s));
-    holder.0 == client.0
+    recorded(t, io_place(s), client)
 }
 
 // A level that is held: by this client, in this manner.
-#[derive(Clone, Copy)]
+#[derive(Clone, Copy, Debug, PartialEq, Eq)]
 pub struct HeldLevel {
     pub client: Handle,
     pub level: usize,
     pub manner: Manner,
 }
 
-// What a seat's IRQ grant holds, or there is none.
-#[derive(Clone, Copy)]
-pub enum IrqSeat {
-    Held(HeldLevel),
-    Free,
-}
-
-pub fn level_held(t: &[u8], s: Seat) -> IrqSeat
+// What a seat's IRQ grant holds, if there is one.
+pub fn level_held(t: &[u8], s: Seat) -> Option<HeldLevel>
     requires { (length t.now ≡ table_size) × (s.0 < Table.most_seats) }
     ensures { LevelHeldIs t.now s.0 result }
 {
     let at = irq_place(s);
     let client = table_read::handle(t, at);
-    if client.0 == NOBODY {
-        return IrqSeat::Free;
+    if client == NOBODY {
+        return None;
     }
     let level = table_read::byte(t, at + IRQ_LEVEL_AT);
     let manner = table_read::manner_of(table_read::byte(t, at + IRQ_MANNER_AT));
-    IrqSeat::Held(HeldLevel {
+    Some(HeldLevel {
         client,
         level,
         manner,
@@ -123,9 +109,5 @@ pub fn irq_held_by(t: &[u8], s: Seat, client: Handle) -> bool
     requires { (length t.now ≡ table_size) × (s.0 < Table.most_seats) }
     ensures { Says result (IrqHeldBy t.now client.0 s.0) }
 {
-    if client.0 == NOBODY {
-        return false;
-    }
-    let holder = table_read::handle(t, irq_place(s));
-    holder.0 == client.0
+    recorded(t, irq_place(s), client)
 }

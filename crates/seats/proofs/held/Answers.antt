@@ -1,6 +1,6 @@
 -- `seats::held` meets its contract: there is no grant, or its record is read field by field.
 -- Assumes nothing.
-use Rattle.facts.proofs.Words.{◌≡◌, ap, ◌∙◌, refl}
+use Rattle.facts.proofs.Words.{◌≡◌, ap, ◌∙◌, refl, arith}
 use Rattle.facts.specs.{word}
 use Rattle.layout.specs.{io_place_lem, io_in}
 use Rattle.seats.proofs.held.Goals as goal
@@ -10,6 +10,6 @@ unfolding io_in
 returns c =
     let client : let a = c.args in c.handle-client.result.0 ≡ word (a.t.now) (io_place_lem a.s.0) =
     c.handle-client.ensures ∙ ap (word c.args.t.now) c.io_place-at.ensures.0 in (
-      λ e. c.if-client-eq-NOBODY.false (client ∙ e),
+      λ e. grind (arith, client, e),
       rw (client, c.word-base.ensures.0, c.byte-count.ensures.0, c.byte-lines.ensures.0, c.byte-shared.ensures.0, c.io_place-at.ensures.0) refl,
     )
