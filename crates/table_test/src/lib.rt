@@ -6,10 +6,13 @@ mod sockets;
 ghost use Rattle.std.specs.Prelude.{◌≡◌, length};
 ghost use Rattle.facts.specs.Says.{Says};
 ghost use Rattle.layout.specs.Layout.{table_size};
-ghost use Rattle.layout.specs.Sound.{CountsSound, Sound};
-ghost use Rattle.table_test.specs.Loading.{ListsSound, RestSound, LoadedIs};
+ghost use Rattle.facts.specs.declared.Code.TheVariants.{GeneralFailure};
+ghost use Rattle.facts.specs.Checks.{Checked};
+ghost use Rattle.layout.specs.Sound.{Accepted, CountsSound, Sound};
+ghost use Rattle.table_test.specs.Loading.{ListsSound, RestSound};
 
 use crate::sockets::sockets_sound;
+use facts::Code;
 use layout::TABLE_SIZE;
 use table_clients::clients_sound;
 use table_lists::counts::{counts_sound, ranges_end, seats_end};
@@ -41,19 +44,13 @@ fn sound(t: &[u8]) -> bool
     t.len() == TABLE_SIZE && lists_sound(t) && sockets_sound(t) && rest_sound(t)
 }
 
-// What looking at a table says of it.
-#[derive(Clone, Copy)]
-pub enum Loaded {
-    Formed,
-    Unformed,
-}
-
-pub fn load(t: &[u8]) -> Loaded
-    ensures { LoadedIs t.now result }
+// What every entry begins with, but the one that makes a table.
+pub fn load(t: &[u8]) -> Result<(), Code>
+    ensures { Checked (Accepted t.now) GeneralFailure result }
 {
     if sound(t) {
-        Loaded::Formed
+        Ok(())
     } else {
-        Loaded::Unformed
+        Err(Code::GeneralFailure)
     }
 }
