@@ -40,10 +40,7 @@ fn follows(t: &[u8], j: usize, end: usize, most: usize) -> bool
         return false;
     }
     let at = RANGES_AT + j * RANGE_SIZE;
-    if table_read::word(t, at) != end {
-        return false;
-    }
-    table_read::byte(t, at + RANGE_RESERVED_AT) <= most
+    table_read::word(t, at) == end && table_read::byte(t, at + RANGE_RESERVED_AT) <= most
 }
 
 // How far the ports that count go on from the base of the range `i`, over the ranges that follow without a gap: no further than is wanted.
@@ -188,7 +185,7 @@ pub fn choose(t: &[u8], asked: IoAsked) -> Option<usize>
         count,
         step: align(count),
         limit,
-        few: io_obstacles::shortest(grants.periods(), limit),
+        few: grants.shortest(limit),
         gaps: io_obstacles::gaps_count(lines),
     };
     past_bars(t, asked, &grants, wanted)
