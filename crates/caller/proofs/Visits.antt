@@ -4,12 +4,12 @@ use Rattle.facts.specs.{Code, Success, number_of}
 use Rattle.facts.proofs.{code_injective}
 use Rattle.history.specs.{make_fresh, Ours, FromFresh, FreshCame, CallCame, CardInCame, CardOutCame, BootCame, SharersCame}
 use Rattle.caller.specs.declared.VisitAnswers.{VisitAnswers}
-use Rattle.caller.specs.declared.Ending.TheVariants.{Refused}
+use Rattle.std.specs.Prelude.{Err}
 use Rattle.caller.specs.{Plan, Told, log, Visited, EndingIs}
 use Rattle.caller.proofs.Relied.{relied}
 
 -- cs_fresh is refused: no byte changes
-pub refused : (g : Plan) (b b' : List ℕ) (r : ℕ) → FreshCame g.sockets b b' r → r ≢ number_of Success → EndingIs g b b' g.packet (Refused r)
+pub refused : (g : Plan) (b b' : List ℕ) (r : ℕ) → FreshCame g.sockets b b' r → r ≢ number_of Success → EndingIs g b b' g.packet (Err r)
 refused g b b' r (k, came) d =
     let other : k ≢ Success = λ s. d (came.0 ∙ ap number_of s) in
     (k, came.0, other, (relied.of_call (make_fresh g.sockets k) b b' came.1).keeps other, refl)

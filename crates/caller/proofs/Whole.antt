@@ -6,7 +6,7 @@ use Rattle.facts.proofs.{code_injective}
 use Rattle.history.specs.{Event, code_in, number_in, Ours, FromFresh, Demand3, EntryLaws, fifteen}
 use Rattle.history.proofs.{entry_laws}
 use Rattle.caller.specs.declared.VisitAnswers.{VisitAnswers}
-use Rattle.caller.specs.declared.Ending.TheVariants.{Refused, Done}
+use Rattle.std.specs.Prelude.{Ok, Err}
 use Rattle.caller.specs.Relied.{Relied}
 use Rattle.caller.specs.{AfterRun, Plan, log, EndingIs}
 
@@ -66,11 +66,11 @@ module _ (r : Relied) where
   one_table n es b b' from from' = (r.after_run n es b from).alone b' (r.after_run n es b' from').exact
 
 -- a visit that was done is a run, and the numbers answered are those of its events
-pub logged : (g : Plan) (b b' q : List ℕ) (r : VisitAnswers) (x : EndingIs g b b' q (Done r))
+pub logged : (g : Plan) (b b' q : List ℕ) (r : VisitAnswers) (x : EndingIs g b b' q (Ok r))
     → FromFresh Ours g.sockets (log g q x.told) b' × AfterRun g.sockets (log g q x.told) b'
     × (map number_in (log g q x.told) ≡ r.booted ∷ r.inserted ∷ r.called ∷ r.shared ∷ r.removed ∷ [])
 logged g b b' q r x = (x.run, x.after, x.numbers)
 
 -- one that was refused: the number isn't SUCCESS's, and neither table nor packet is changed
-pub refused_back : (g : Plan) (b b' q : List ℕ) (r : ℕ) → EndingIs g b b' q (Refused r) → (r ≢ number_of Success) × (b' ≡ b) × (q ≡ g.packet)
+pub refused_back : (g : Plan) (b b' q : List ℕ) (r : ℕ) → EndingIs g b b' q (Err r) → (r ≢ number_of Success) × (b' ≡ b) × (q ≡ g.packet)
 refused_back g b b' q r (k, is, other, table, packet) = ((λ e. other (code_injective k Success (sym is ∙ e))), table, packet)

@@ -1,12 +1,10 @@
 -- A visit: a table is made, and each of the other entries is called once. What comes about is a run. Assumes nothing.
-use Rattle.std.specs.Prelude.{◌≡◌, ◌≢◌, List, [], ◌∷◌, map, ℕ}
+use Rattle.std.specs.Prelude.{◌≡◌, ◌≢◌, List, [], ◌∷◌, map, ℕ, Result, Ok, Err}
 use Rattle.facts.specs.declared.Code.{Code}
 use Rattle.facts.specs.declared.Code.TheVariants.{Success}
 use Rattle.history.specs.Events.{Event, number_in, make_fresh, call, card_in, card_out, boot, sharers, Ours, FromFresh}
 use Rattle.caller.specs.Relied.{AfterRun}
 use Rattle.caller.specs.declared.VisitAnswers.{VisitAnswers}
-use Rattle.caller.specs.declared.Ending.{Ending}
-use Rattle.caller.specs.declared.Ending.TheVariants.{Refused, Done}
 
 -- what a caller gives
 pub record Plan : Type 0 where
@@ -52,6 +50,6 @@ pub record Visited (g : Plan) (q : List ℕ) (r : VisitAnswers) (b : List ℕ) :
   pub after : AfterRun g.sockets (log g q told) b
 
 -- cs_fresh was refused, and nothing is changed; or what came about is a run from a fresh table
-abbrev pub EndingIs : Plan → List ℕ → List ℕ → List ℕ → Ending → Type 0
-EndingIs g b b' q (Refused r) = (k : Code) × (r ≡ number_in (make_fresh g.sockets k)) × (k ≢ Success) × (b' ≡ b) × (q ≡ g.packet)
-EndingIs g b b' q (Done r) = Visited g q r b'
+abbrev pub EndingIs : Plan → List ℕ → List ℕ → List ℕ → Result VisitAnswers ℕ → Type 0
+EndingIs g b b' q (Err r) = (k : Code) × (r ≡ number_in (make_fresh g.sockets k)) × (k ≢ Success) × (b' ≡ b) × (q ≡ g.packet)
+EndingIs g b b' q (Ok r) = Visited g q r b'

@@ -45,7 +45,7 @@ fn card_out(table: &mut [u8], socket: u32) -> u32
 const SUCCESS: u32 = 0;
 
 // What the entries answered.
-#[derive(Clone, Copy)]
+#[derive(Clone, Copy, Debug, PartialEq, Eq)]
 pub struct VisitAnswers {
     pub booted: u64,
     pub inserted: u32,
@@ -54,14 +54,7 @@ pub struct VisitAnswers {
     pub removed: u32,
 }
 
-// The code of a cs_fresh that was refused; or all answers.
-#[derive(Clone, Copy)]
-pub enum Ending {
-    Refused(u32),
-    Done(VisitAnswers),
-}
-
-// A visit at the console: a table is made, and each of the other entries is called once.
+// A visit at the console: a table is made, and each of the other entries is called once. All answers; or the code of a cs_fresh that was refused.
 pub fn visit(
     table: &mut [u8],
     sockets: u32,
@@ -71,19 +64,19 @@ pub fn visit(
     handle: u16,
     packet: &mut [u8],
     level: u32,
-) -> Ending
+) -> Result<VisitAnswers, u32>
     ensures { EndingIs (planned sockets records.now socket service handle packet.old level) table.old table.new packet.new result }
 {
     let made = fresh(table, sockets);
     if made != SUCCESS {
-        return Ending::Refused(made);
+        return Err(made);
     }
     let booted = boot(table, records);
     let inserted = card_in(table, socket);
     let called = call(table, service, handle, packet);
     let shared = sharers(table, level);
     let removed = card_out(table, socket);
-    Ending::Done(VisitAnswers {
+    Ok(VisitAnswers {
         booted,
         inserted,
         called,

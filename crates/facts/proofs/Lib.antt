@@ -22,7 +22,7 @@ pub mod GrantsStay
 pub mod Stays
 pub mod Exactly
 pub mod Laws
-pub use Says.{says_true, says_false, says_lt, says_eq, says_eqb, says_as, says_yes, says_no, says_not, says_false_by, says_dec}
+pub use Says.{says_true, says_false, says_lt, says_eq, says_eqb, says_as, says_yes, says_no, says_not, says_false_by, says_both, says_dec}
 pub use Handing.{handed, given, missing}
 pub use Sets.{put_same, put_other, put_is, in_left, in_right, in_either, in_map, map_in, length_map, by_number, without_in, in_without, rising_over}
 pub use Sets.{rising_more, rising_left_out, apart_port, apart_left_out}

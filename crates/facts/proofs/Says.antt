@@ -1,4 +1,5 @@
 -- What an answer decides: one that is written out, a comparison, an answer said of something else, and one that a test turned round. Assumes nothing.
+use Rattle.std.specs.Prelude.{◌&&◌}
 use Rattle.facts.proofs.Words.{◌≡◌, refl, sym, Bool, true, false, not, true≢false, false≢true, ℕ, ◌<◌, arith, ltb-true, ltb-false, eqb-true}
 use Rattle.facts.proofs.Words.{eqb-false, eq-eqb, ne_eqb, not-true, not-false, ltb, eqb, Says}
 
@@ -34,6 +35,11 @@ module _ {r : Bool} {P : Type 0} where
 
   pub says_false_by : {Q : Type 0} → Says r P → r ≡ false → (Q → P) → Says false Q
   says_false_by s e f = says_false (λ q. says_no s e (f q))
+
+-- both of two
+pub says_both : {p q : Bool} {P Q : Type 0} → Says p P → Says q Q → Says (p && q) (P × Q)
+says_both {p = true} s t = says_as t (λ y. (s.holds refl, y)) (λ x. x.1)
+says_both {p = false} s t = says_false (λ x. s.fails refl x.0)
 
 -- what an answer decides is so or not
 pub says_dec : (r : Bool) {P : Type 0} → Says r P → Dec P

@@ -36,6 +36,11 @@ abbrev pub Checked : {T : Type 0} → Type 0 → Code → Result T Code → Type
 Checked P k (Ok x) = P
 Checked P k (Err e) = (e ≡ k) × (P → ⊥)
 
+-- or the code k, since P is so
+abbrev pub RefusedIf : {T : Type 0} → Type 0 → Code → Result T Code → Type 0
+RefusedIf P k (Ok x) = P → ⊥
+RefusedIf P k (Err e) = (e ≡ k) × P
+
 -- what a call of a service answers and leaves
 pub record Outcome : Type 0 where
   pub code : Code

@@ -1,19 +1,12 @@
 -- Whether a seat's grant is a client's. Assumes nothing.
-use Rattle.std.specs.Prelude.{ℕ}
+use Rattle.std.specs.Prelude.{◌≡◌, ℕ, Result, Ok, Err}
+use Rattle.facts.specs.declared.Code.{Code}
+use Rattle.facts.specs.declared.Code.TheVariants.{BadIrq}
+use Rattle.facts.specs.declared.Manner.{Manner}
 use Rattle.facts.specs.Table.{Facts, Seat, IrqGrant}
-use Rattle.facts.specs.Io.{IoHeld}
 use Rattle.facts.specs.Irq.{IrqHeld}
-use Rattle.grants.specs.declared.Ports.{Ports}
-use Rattle.grants.specs.declared.Ports.TheVariants as ports
-use Rattle.grants.specs.declared.Level.{Level}
-use Rattle.grants.specs.declared.Level.TheVariants as level
-
--- the client h holds that base and count at the seat, or it doesn't
-abbrev pub PortsOf : Facts → ℕ → Seat → ℕ → ℕ → Ports → Type 0
-PortsOf F h s base count ports.Held = IoHeld F h s base count
-PortsOf F h s base count ports.Other = IoHeld F h s base count → ⊥
 
 -- the client h holds the level l at the seat, in this manner; or it doesn't
-abbrev pub LevelOf : Facts → ℕ → Seat → ℕ → Level → Type 0
-LevelOf F h s l (level.Held m) = IrqHeld F h s l (record { client = h; level = l; manner = m })
-LevelOf F h s l level.Other = (g : IrqGrant) → IrqHeld F h s l g → ⊥
+abbrev pub LevelOf : Facts → ℕ → Seat → ℕ → Result Manner Code → Type 0
+LevelOf F h s l (Ok m) = IrqHeld F h s l (record { client = h; level = l; manner = m })
+LevelOf F h s l (Err k) = (k ≡ BadIrq) × ((g : IrqGrant) → IrqHeld F h s l g → ⊥)

@@ -1,3 +1,3 @@
 -- What the contracts of `grants` cite. Assumes nothing.
 pub mod Grants
-pub use Grants.{PortsOf, LevelOf}
+pub use Grants.{LevelOf}

@@ -1,11 +1,11 @@
--- The bases at which ports meet others are a stretch. Assumes nothing.
-use Rattle.facts.proofs.Words.{◌≡◌, ap, ◌∙◌, ℕ, ◌+◌, ◌-◌, ◌%◌, ◌^◌, ◌≤◌, ◌<◌, min, mod-lt, mod-eq_of_lt, pow_mono, dec_lt, arith}
+-- The bases at which ports meet others are a bar. Assumes nothing.
+use Rattle.facts.proofs.Words.{◌≡◌, ap, ◌∙◌, ℕ, ◌+◌, ◌-◌, ◌%◌, ◌^◌, ◌≤◌, ◌<◌, min, mod-eq_of_lt, pow_mono, dec_lt, arith}
 use Rattle.facts.specs.declared.Ports.{Ports}
 use Rattle.facts.specs.{all_ports, most_lines}
 use Rattle.io_ranges.proofs.{meet_near, near_meet, all_ports_mod}
 use Rattle.io_answering.specs.{ports_from}
-use Rattle.io_obstacles.specs.{Stretch, around}
-use Rattle.io_bars.specs.{StretchIs, PortsFit}
+use Rattle.io_obstacles.specs.{Bar, around}
+use Rattle.io_bars.specs.{BarIs, PortsFit}
 
 -- the start is taken modulo all ports, which changes nothing modulo a period
 start_mod : (s x k : ℕ) → k ≤ most_lines → s ≤ around → (x + around - s % all_ports) % 2 ^ k ≡ (x + around - s) % 2 ^ k
@@ -22,7 +22,7 @@ start_mod s x k h l = below_or_not (dec_lt s all_ports) (dec_lt s around)
         let twice : x + around - s % all_ports ≡ x + around - s + all_ports + all_ports = omega (arith, rest) in
         ap (λ (n : ℕ). n % 2 ^ k) twice ∙ all_ports_mod k h (x + around - s + all_ports) ∙ all_ports_mod k h (x + around - s)
 
-module _ (g : Ports) (fit : PortsFit g) (count lines : ℕ) (some : 1 ≤ count) (few : count < 256) (lined : lines ≤ most_lines) (r : Stretch)
+module _ (g : Ports) (fit : PortsFit g) (count lines : ℕ) (some : 1 ≤ count) (few : count < 256) (lined : lines ≤ most_lines) (r : Bar)
     (start : r.start ≡ (g.base + all_ports + 1 - count) % all_ports) (ones : r.ones + 1 ≡ 2 ^ min lines g.lines)
   where
     abbrev k : ℕ
@@ -40,31 +40,18 @@ module _ (g : Ports) (fit : PortsFit g) (count lines : ℕ) (some : 1 ≤ count)
         ∙ start_mod (g.base + all_ports + 1 - count) x k within (omega (arith, fit.base))
         ∙ ap (λ (n : ℕ). n % 2 ^ k) reach
 
-    low : r.start < all_ports
-    low = let positive : 0 < all_ports = omega arith in omega (arith, start, mod-lt (g.base + all_ports + 1 - count) positive)
-
-    short : r.ones ≤ 2 ^ lines - 1
-    short = let no_more : 2 ^ k ≤ 2 ^ lines = pow_mono (omega arith) in omega (arith, ones)
-
     -- without a port there is none to meet
-    pub bar_none : g.count ≡ 0 → r.width ≡ 0 → StretchIs g count lines r
-    bar_none z w =
+    pub bar_is : (1 ≤ r.width → 1 ≤ g.count) → (1 ≤ g.count → r.width ≡ g.count + count - 1) → BarIs g count lines r
+    bar_is held w =
         record {
-          fits = record { start = omega (arith, low); period = record { lines = k; most = within; is = ones }; width = omega arith };
-          short = short;
-          has = λ x m. absurd (omega (arith, m.other_in.from, m.other_in.below));
-          only = λ x l. absurd (omega (arith, l));
-        }
-
-    pub bar_is : 1 ≤ g.count → r.width ≡ g.count + count - 1 → StretchIs g count lines r
-    bar_is port w =
-        record {
-          fits = record { start = omega (arith, low); period = record { lines = k; most = within; is = ones }; width = omega (arith, fit.ports) };
-          short = short;
+          power = record { lines = k; most = within; is = ones };
+          short = let no_more : 2 ^ k ≤ 2 ^ lines = pow_mono (omega arith) in omega (arith, ones, no_more);
           has = λ x m.
+              let port : 1 ≤ g.count = omega (arith, m.other_in.from, m.other_in.below) in
               let l = meet_near (ports_from count lines x) g k (omega arith) within some port fit.base m in
-              rw (behind x) (omega (arith, w, l));
+              rw (behind x) (omega (arith, w port, l));
           only = λ x l.
+              let port : 1 ≤ g.count = held (omega (arith, l)) in
               let l' = rw (behind x) at l in
-              near_meet (ports_from count lines x) g k (omega arith) within some port fit.base (omega (arith, w, l'));
+              near_meet (ports_from count lines x) g k (omega arith) within some port fit.base (omega (arith, w port, l'));
         }

@@ -10,7 +10,6 @@ ghost use Rattle.io_bases.specs.Bases.{AskedFits, StandsAt, PortsAre, WayIs, Bas
 
 use facts::{Code, IoAsked, Seat};
 use io_answering::ROWS;
-use io_candidates::TakenBase;
 use layout::{ALL_PORTS, MOST_SEATS};
 use seats::IoSeat;
 
@@ -111,7 +110,7 @@ pub fn chosen(t: &[u8], asked: IoAsked) -> Base
     requires { Accepted t.now × AskedFits asked × (asked.base ≡ 0) }
     ensures { BaseIs t.now asked result }
 {
-    let TakenBase::Base(base) = io_candidates::choose(t, asked) else {
+    let Some(base) = io_candidates::choose(t, asked) else {
         return Base::Refused(Code::InUse);
     };
     Base::At(base)

@@ -5,8 +5,9 @@ pub mod Said
 pub mod Searching
 pub mod Steps
 pub mod Wanting
+pub use Choosing.{none_found}
 pub use Runs.{Run, run_start, run_more, reach_stopped, reach_wanted}
 pub use Said.{BarsOnly, BarsAll, first_by, none_marked}
 pub use Searching.{open_found, open_none, NoneIn, lowest_in, lowest_of, none_of}
 pub use Steps.{smallest_power, smallest_power_lines}
-pub use Wanting.{search_fits, barred_taken, found_taken}
+pub use Wanting.{barred_taken, found_taken}

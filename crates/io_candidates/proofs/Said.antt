@@ -1,9 +1,9 @@
 -- The bytes say which bases are candidates, and which of these lie wholly in unreserved ranges; so the two searches give the candidate that is
 -- taken. Assumes nothing.
-use Rattle.facts.proofs.Words.{◌≡◌, refl, ap, sym, ◌∙◌, subst, ◌⊎◌, inl, inr, ⊎_elim, List, false, ℕ, zero, suc, ◌+◌, ◌-◌, ◌*◌, ◌≤◌, ◌<◌, dec_lt, arith, eqb-false}
+use Rattle.facts.proofs.Words.{◌≡◌, refl, ap, sym, ◌∙◌, subst, ◌⊎◌, inl, inr, ⊎_elim, List, false, false≢true, ℕ, zero, suc, ◌+◌, ◌-◌, ◌*◌, ◌≤◌, ◌<◌, dec_lt, arith, eqb-false}
 use Rattle.facts.proofs.Words.{ne_eqb}
 use Rattle.layout.proofs.Of
-use Rattle.facts.specs.{MeetsHeld, IoAsked, Range, Lowest, Has, Managed, Answers, WhollyUnreserved, ports_at, SmallestPower, Candidate, CandidateTaken}
+use Rattle.facts.specs.{MeetsHeld, IoAsked, Range, Has, Managed, Answers, WhollyUnreserved, ports_at, SmallestPower, Candidate, CandidateTaken}
 use Rattle.facts.specs.{most_lines, Facts}
 use Rattle.facts.proofs.{Unreserved, wholly_unreserved_told, chosen_first, chosen_then, smallest_power_unique}
 use Rattle.layout.specs.{ranges_in, range_in, marked, Accepted, RangesSound}
@@ -11,9 +11,9 @@ use Rattle.layout.proofs.{HasPort}
 use Rattle.table_read.proofs.{All}
 use Rattle.io_ranges.proofs.{answers_own}
 use Rattle.io_answering.proofs.{clear_answers, answers_clear}
-use Rattle.io_candidates.specs.declared.TakenBase.TheVariants.{Base}
+use Rattle.std.specs.Prelude.{Option, Some, None, IsSome}
 use Rattle.io_answering.specs.{MeetsGap}
-use Rattle.io_candidates.specs.{reserve_mark, Counts, SomeMarked, Free, CandidateIn, FirstIs}
+use Rattle.io_candidates.specs.{reserve_mark, Counts, SomeMarked, Free, CandidateIn, LowestIs, FirstIs}
 use Rattle.io_candidates.proofs.Choosing.{lowest_as}
 use Rattle.io_candidates.proofs.Runs.{counts_below}
 
@@ -139,21 +139,23 @@ module _ (b : List ℕ) (a : Accepted b) where
         found_early x c = (found_candidate 0 x c, λ p w. counts_unreserved p (c.counted p w))
 
         -- the lowest of these is taken, or else the lowest of all
-        pub first_taken : (x : ℕ) → FirstIs b Bar q.count step (Base x) → CandidateTaken a.facts q x
+        pub first_taken : (x : ℕ) → FirstIs b Bar q.count step (Some x) → CandidateTaken a.facts q x
         first_taken x (inl low) =
-            chosen_first (λ y _. wholly_unreserved_told a.facts y q.count) (lowest_as found_early early_found (Base x) low)
+            chosen_first (λ y _. wholly_unreserved_told a.facts y q.count) (lowest_as found_early early_found (Some x) low)
         first_taken x (inr late) =
-            chosen_then (λ y c e. late.0 y (early_found y (c, e))) (lowest_as (found_candidate 1) candidate_found (Base x) late.1)
+            chosen_then (λ y c e. late.0 y (early_found y (c, e))) (lowest_as (found_candidate 1) candidate_found (Some x) late.1)
 
 -- the two searches, one after the other
 module _ (b : List ℕ) (Bar : ℕ → Type 0) (count step : ℕ) where
   abbrev Found : ℕ → ℕ → Type 0
   Found most = CandidateIn b Bar most count step
 
-  pub first_by : (most : ℕ) → most < 2 → All most (λ m. (x : ℕ) → Found m x → ⊥) → (x : ℕ) → Lowest (Found most) x → FirstIs b Bar count step (Base x)
-  first_by zero l none x low = inl low
-  first_by (suc zero) l none x low = inr (none 0 (omega arith), low)
-  first_by (suc (suc most)) l none x low = absurd (omega arith)
+  pub first_by : (most : ℕ) → most < 2 → All most (λ m. (x : ℕ) → Found m x → ⊥) → (r : Option ℕ) → IsSome r → LowestIs (Found most) r
+      → FirstIs b Bar count step r
+  first_by most l none None found low = absurd (false≢true found)
+  first_by zero l none (Some x) found low = inl low
+  first_by (suc zero) l none (Some x) found low = inr (none 0 (omega arith), low)
+  first_by (suc (suc most)) l none (Some x) found low = absurd (omega arith)
 
   -- where no range has a mark, or a higher one, those with lower marks are all
   pub none_marked : (most : ℕ) → (SomeMarked b most → ⊥) → All most (λ m. (x : ℕ) → Found m x → ⊥) → 1 ≤ count → (x : ℕ) → Found 1 x → ⊥

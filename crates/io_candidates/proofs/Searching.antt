@@ -1,12 +1,10 @@
 -- The lowest candidate: past what live grants and gaps bar, in one range, and over the ranges in order. Assumes nothing.
-use Rattle.facts.proofs.Words.{◌≡◌, subst, List, ℕ, ◌+◌, ◌-◌, ◌≤◌, ◌<◌, max, dec_lt, dec_le, arith}
-use Rattle.facts.specs.{Lowest}
+use Rattle.facts.proofs.Words.{◌≡◌, subst, false≢true, List, ℕ, ◌+◌, ◌-◌, ◌≤◌, ◌<◌, max, dec_lt, dec_le, arith}
 use Rattle.layout.specs.{ranges_in, RangesSound, range_base}
 use Rattle.layout.proofs.{range_end, ends_before}
 use Rattle.table_read.proofs.{All}
 use Rattle.io_obstacles.specs.{FirstMultiple, Opened}
-use Rattle.io_candidates.specs.declared.TakenBase.{TakenBase}
-use Rattle.io_candidates.specs.declared.TakenBase.TheVariants.{Base, Nothing}
+use Rattle.std.specs.Prelude.{Option, Some, None, IsSome}
 use Rattle.io_candidates.specs.{ReachIs, FreeBetween, CandidateIn, StartsIn, LowestIs, Counts}
 use Rattle.io_candidates.proofs.Choosing.{lowest_as}
 use Rattle.io_candidates.proofs.Runs.{counts_alike}
@@ -23,14 +21,14 @@ module _ (Bar : ℕ → Type 0) (count step from end x : ℕ) (o : Opened Bar st
       below_or_not (yes l) = absurd (f.free.unbarred (o.barred y f.free.multiple f.past l))
       below_or_not (no l) = omega arith
 
-  pub open_found : x + count ≤ end → LowestIs Fit (Base x)
+  pub open_found : x + count ≤ end → LowestIs Fit (Some x)
   open_found h =
       record {
         fits = record { free = record { multiple = o.multiple; unbarred = o.free h }; past = o.past; before = h };
         least = not_before;
       }
 
-  pub open_none : end < x + count → LowestIs Fit Nothing
+  pub open_none : end < x + count → LowestIs Fit None
   open_none h y f = omega (arith, not_before y f, f.before)
 
 -- no candidate starts in the range k
@@ -75,7 +73,7 @@ module _ (b : List ℕ) (s : RangesSound b) (Bar : ℕ → Type 0) (most count s
               (r.ends (omega (arith, y.has.below))
               (counts_alike b s most i x end l y.has (record { from = r.from; below = omega (arith, y.has.below) }) here))
 
-      pub lowest_in : (x : TakenBase) → LowestIs (FreeBetween Bar count step from end) x → LowestIs (StartsIn b Bar i most count step) x
+      pub lowest_in : (x : Option ℕ) → LowestIs (FreeBetween Bar count step from end) x → LowestIs (StartsIn b Bar i most count step) x
       lowest_in = lowest_as between_starts starts_between
 
   abbrev Fits : ℕ → Type 0
@@ -88,8 +86,10 @@ module _ (b : List ℕ) (s : RangesSound b) (Bar : ℕ → Type 0) (most count s
       (p.range, p.listed, record { candidate = c; has = p.has })
 
   -- where none starts in an earlier range, the lowest in the range i is the lowest of all
-  pub lowest_of : (i x : ℕ) → i < ranges_in b → All i (NoneIn b Bar most count step) → Lowest (StartsIn b Bar i most count step) x → Lowest Fits x
-  lowest_of i x l none low = record { fits = low.fits.candidate; least = least }
+  pub lowest_of : (i : ℕ) (r : Option ℕ) → i < ranges_in b → All i (NoneIn b Bar most count step) → IsSome r → LowestIs (StartsIn b Bar i most count step) r
+      → LowestIs Fits r
+  lowest_of i None l none found low = absurd (false≢true found)
+  lowest_of i (Some x) l none found low = record { fits = low.fits.candidate; least = least }
     where
       least : (y : ℕ) → Fits y → x ≤ y
       least y c = let k = starts y c in below_or_not k (dec_lt k.0 i) (dec_lt i k.0)

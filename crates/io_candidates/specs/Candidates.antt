@@ -1,5 +1,5 @@
 -- The candidates for a request without a base, said of the bytes, and what the choice among them answers. Assumes nothing.
-use Rattle.std.specs.Prelude.{◌≡◌, ◌⊎◌, List, ℕ, ◌+◌, ◌^◌, ◌≤◌, ◌<◌}
+use Rattle.std.specs.Prelude.{◌≡◌, ◌⊎◌, List, ℕ, ◌+◌, ◌^◌, ◌≤◌, ◌<◌, Option, Some, None}
 use Rattle.facts.specs.declared.IoAsked.{IoAsked}
 use Rattle.facts.specs.Table
 use Rattle.facts.specs.Choice.{Lowest}
@@ -9,12 +9,9 @@ use Rattle.facts.specs.Io.{SmallestPower, CandidateTaken, NoCandidate}
 use Rattle.layout.specs.Reading.{ranges_in, range_place}
 use Rattle.layout.specs.Sound.{Accepted, range_base, range_count}
 use Rattle.layout.specs.Layout.{range_reserved_at}
-use Rattle.io_obstacles.specs.declared.Wanted.{Wanted}
-use Rattle.io_obstacles.specs.Bars.{Multiple, Barring}
-use Rattle.io_obstacles.specs.Search.{GapsFor, WantedFits}
+use Rattle.facts.specs.Says.{Says}
+use Rattle.io_obstacles.specs.{Wanted, Bars, Multiple, Barring, grant_places}
 use Rattle.io_bars.specs.Bars.{GrantBarsOf}
-use Rattle.io_candidates.specs.declared.TakenBase.{TakenBase}
-use Rattle.io_candidates.specs.declared.TakenBase.TheVariants.{Base, Nothing}
 use Rattle.io_candidates.specs.declared.Found.{Found}
 
 -- the reserve mark of the range i
@@ -71,9 +68,9 @@ pub record StartsIn (b : List ℕ) (Bar : ℕ → Type 0) (i most count step x :
   pub has : Within x (range_base b i) (range_count b i)
 
 -- the lowest of those that fit, or none does
-abbrev pub LowestIs : (ℕ → Type 0) → TakenBase → Type 0
-LowestIs Fit (Base x) = Lowest Fit x
-LowestIs Fit Nothing = (x : ℕ) → Fit x → ⊥
+abbrev pub LowestIs : (ℕ → Type 0) → Option ℕ → Type 0
+LowestIs Fit (Some x) = Lowest Fit x
+LowestIs Fit None = (x : ℕ) → Fit x → ⊥
 
 -- a search found the lowest of those that fit, and what it knows is barred
 pub record Searched (Bar : ℕ → Type 0) (step : ℕ) (Fit : ℕ → Type 0) (r : Found) : Type 0 where
@@ -81,23 +78,22 @@ pub record Searched (Bar : ℕ → Type 0) (step : ℕ) (Fit : ℕ → Type 0) (
   pub bars : Barring Bar step r.known
 
 -- the lowest where unreserved ranges alone count, or else where all do; or there is none
-abbrev pub FirstIs : List ℕ → (ℕ → Type 0) → ℕ → ℕ → TakenBase → Type 0
-FirstIs b Bar count step (Base x) =
+abbrev pub FirstIs : List ℕ → (ℕ → Type 0) → ℕ → ℕ → Option ℕ → Type 0
+FirstIs b Bar count step (Some x) =
     Lowest (CandidateIn b Bar 0 count step) x
     ⊎ (((y : ℕ) → CandidateIn b Bar 0 count step y → ⊥) × Lowest (CandidateIn b Bar 1 count step) x)
-FirstIs b Bar count step Nothing = (y : ℕ) → CandidateIn b Bar 1 count step y → ⊥
+FirstIs b Bar count step None = (y : ℕ) → CandidateIn b Bar 1 count step y → ⊥
 
 -- a search for what is asked, by the bars of the live grants
-pub record Wants (b : List ℕ) (q : IoAsked) (grants : List ℕ) (w : Wanted) : Type 0 where
+pub record Wants (b : List ℕ) (q : IoAsked) (grants : Bars grant_places) (w : Wanted) : Type 0 where
   pub count_is : w.count ≡ q.count
   pub limit_is : w.limit + 1 ≡ 2 ^ q.lines
   pub align : SmallestPower q.count w.step
-  pub gaps_count : GapsFor q.lines w.gaps
+  pub gaps_count : Says w.gaps (q.lines < Table.most_lines)
   pub grant_bars : GrantBarsOf b q.count q.lines grants
   pub lines : q.lines ≤ Table.most_lines
-  pub numbers : WantedFits w
 
 -- the candidate that is taken, or there is none
-abbrev pub TakenIs : List ℕ → IoAsked → TakenBase → Type 0
-TakenIs b q (Base x) = (a : Accepted b) → CandidateTaken a.facts q x
-TakenIs b q Nothing = (a : Accepted b) → NoCandidate a.facts q
+abbrev pub TakenIs : List ℕ → IoAsked → Option ℕ → Type 0
+TakenIs b q (Some x) = (a : Accepted b) → CandidateTaken a.facts q x
+TakenIs b q None = (a : Accepted b) → NoCandidate a.facts q

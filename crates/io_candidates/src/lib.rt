@@ -7,13 +7,13 @@ ghost use Rattle.facts.specs.Says.{Says};
 ghost use Rattle.facts.specs.Io.{SmallestPower};
 ghost use Rattle.layout.specs.Reading.{ranges_in};
 ghost use Rattle.layout.specs.Sound.{Accepted, range_base};
-ghost use Rattle.io_obstacles.specs.Bars.{Barring};
-ghost use Rattle.io_obstacles.specs.Search.{BarredFor, SearchFits};
+ghost use Rattle.io_obstacles.specs.Stretches.{Barring};
+ghost use Rattle.io_obstacles.specs.Searches.{Barred};
 ghost use Rattle.io_candidates.specs.Candidates.{FollowsOn, ReachIs, SomeMarked, CandidateIn, StartsIn, Searched, FirstIs, Wants, TakenIs};
 
 use facts::IoAsked;
-use io_obstacles::{GAP_ROWS, GRANT_ROWS, Stretch, Wanted};
-use layout::{MARKED, MOST_LINES, RANGE_RESERVED_AT, RANGE_SIZE, RANGES_AT, RANGES_IN};
+use io_obstacles::{Bars, GRANT_PLACES, Reached, Search, Stretch, Wanted};
+use layout::{MARKED, RANGE_RESERVED_AT, RANGE_SIZE, RANGES_AT, RANGES_IN};
 
 // "candidates are the positive multiples".
 const LEAST: usize = 1;
@@ -28,13 +28,7 @@ fn align(count: usize) -> usize
     requires { count ≤ Table.all_ports }
     ensures { SmallestPower count result }
 {
-    for k in 0..MOST_LINES {
-        let step = io_ranges::power(k);
-        if count <= step {
-            return step;
-        }
-    }
-    io_ranges::power(MOST_LINES)
+    count.next_power_of_two()
 }
 
 // Whether the range `j` starts where others end, and its ports count.
@@ -69,88 +63,59 @@ fn reach(t: &[u8], i: usize, most: usize, want: usize) -> usize
     want
 }
 
-// What a search among the candidates finds.
-#[derive(Clone, Copy)]
-pub enum TakenBase {
-    Base(usize),
-    Nothing,
-}
-
-// What it found, and the stretch of bases that it knows to be barred.
+// The candidate that a search found, if there is one, and the stretch of bases that it knows to be barred.
 #[derive(Clone, Copy)]
 pub struct Found {
-    pub taken: TakenBase,
+    pub taken: Option<usize>,
     pub known: Stretch,
 }
 
 // The lowest candidate whose first port the range `i` has: the lowest multiple that nothing bars, of those whose ports end where the ports that count do.
-fn first_in(
-    t: &[u8],
-    i: usize,
-    most: usize,
-    grants: &[u16],
-    gaps: &[u16],
-    wanted: Wanted,
-    known: Stretch,
-) -> Found
-    requires accepted { Accepted t.now × (i < ranges_in t.now) × SearchFits grants.now gaps.now wanted }
-    requires barring { Barring (BarredFor grants.now gaps.now wanted) wanted.step known }
-    ensures { Searched (BarredFor grants.now gaps.now wanted) wanted.step
-        (StartsIn t.now (BarredFor grants.now gaps.now wanted) i most wanted.count wanted.step) result }
+fn first_in(t: &[u8], i: usize, most: usize, search: &Search, known: Stretch) -> Found
+    requires accepted { Accepted t.now × (i < ranges_in t.now) }
+    requires barring { Barring (Barred search.now) search.now.wanted.step known }
+    ensures { Searched (Barred search.now) search.now.wanted.step
+        (StartsIn t.now (Barred search.now) i most search.now.wanted.count search.now.wanted.step) result }
 {
-    let count = wanted.count;
-    let step = wanted.step;
-    let limit = wanted.limit;
+    let Wanted {
+        count,
+        step,
+        limit,
+        ..
+    } = search.wanted;
     let base = table_read::word(t, RANGES_AT + i * RANGE_SIZE);
-    let from = io_obstacles::up(io_ranges::larger(base, LEAST), step);
+    let from = io_obstacles::up(base.max(LEAST), step);
     let end = reach(t, i, most, managed_search::range_end(t, i) + count - 1);
-    let search = io_obstacles::lowest(grants, gaps, wanted, known, from, end);
-    let open = search.base;
-    let barred = search.known;
+    let Reached { base: open, known } = search.lowest(known, from, end);
     if open + count <= end {
         return Found {
-            taken: TakenBase::Base(open),
-            known: barred,
+            taken: Some(open),
+            known,
         };
     }
     let long = io_obstacles::period(limit, step);
     Found {
-        taken: TakenBase::Nothing,
-        known: io_obstacles::learnt(barred, from, open, long),
+        taken: None,
+        known: known.learnt(from, open, long),
     }
 }
 
 // The lowest candidate of all: the first one in the first range that has one. What is learnt in one range serves in the next.
-fn first_of(
-    t: &[u8],
-    most: usize,
-    grants: &[u16],
-    gaps: &[u16],
-    wanted: Wanted,
-    known: Stretch,
-) -> Found
-    requires accepted { Accepted t.now × SearchFits grants.now gaps.now wanted }
-    requires barring { Barring (BarredFor grants.now gaps.now wanted) wanted.step known }
-    ensures { Searched (BarredFor grants.now gaps.now wanted) wanted.step
-        (CandidateIn t.now (BarredFor grants.now gaps.now wanted) most wanted.count wanted.step) result }
+fn first_of(t: &[u8], most: usize, search: &Search, mut known: Stretch) -> Found
+    requires accepted { Accepted t.now }
+    requires barring { Barring (Barred search.now) search.now.wanted.step known }
+    ensures { Searched (Barred search.now) search.now.wanted.step
+        (CandidateIn t.now (Barred search.now) most search.now.wanted.count search.now.wanted.step) result }
 {
     let ranges = table_read::byte(t, RANGES_IN);
-    let mut learnt = known;
     for i in 0..ranges {
-        let found = first_in(t, i, most, grants, gaps, wanted, learnt);
-        learnt = found.known;
-        let taken = found.taken;
-        if let TakenBase::Base(base) = taken {
-            return Found {
-                taken: TakenBase::Base(base),
-                known: learnt,
-            };
+        let found = first_in(t, i, most, search, known);
+        if found.taken.is_some() {
+            return found;
         }
+        known = found.known;
     }
-    Found {
-        taken: TakenBase::Nothing,
-        known: learnt,
-    }
+    Found { taken: None, known }
 }
 
 // Whether some range has this reserve mark, or a higher one.
@@ -169,63 +134,62 @@ fn some_marked(t: &[u8], mark: usize) -> bool
 
 // "Candidates wholly in unreserved ranges come first, then the lowest": what the search in them finds, or else, where some range is reserved, what the
 // search in all ranges does.
-fn first(t: &[u8], grants: &[u16], gaps: &[u16], wanted: Wanted, known: Stretch) -> TakenBase
-    requires accepted { Accepted t.now × SearchFits grants.now gaps.now wanted }
-    requires barring { Barring (BarredFor grants.now gaps.now wanted) wanted.step known }
-    ensures { FirstIs t.now (BarredFor grants.now gaps.now wanted) wanted.count wanted.step result }
+fn first(t: &[u8], search: &Search, mut known: Stretch) -> Option<usize>
+    requires accepted { Accepted t.now }
+    requires barring { Barring (Barred search.now) search.now.wanted.step known }
+    ensures { FirstIs t.now (Barred search.now) search.now.wanted.count search.now.wanted.step result }
 {
-    let mut learnt = known;
     for most in UNRESERVED..ALL + 1 {
         if !some_marked(t, most) {
-            return TakenBase::Nothing;
+            return None;
         }
-        let found = first_of(t, most, grants, gaps, wanted, learnt);
-        learnt = found.known;
-        let taken = found.taken;
-        if let TakenBase::Base(base) = taken {
-            return TakenBase::Base(base);
+        let found = first_of(t, most, search, known);
+        if found.taken.is_some() {
+            return found.taken;
         }
+        known = found.known;
     }
-    TakenBase::Nothing
+    None
 }
 
 // The base that is taken past the grants' bars, and past the gaps', which are looked at only where the grants don't bar every base. Where both do,
 // there is none.
-fn past_bars(t: &[u8], asked: IoAsked, grants: &[u16], wanted: Wanted) -> TakenBase
+fn past_bars(t: &[u8], asked: IoAsked, grants: &Bars<GRANT_PLACES>, wanted: Wanted) -> Option<usize>
     requires { Accepted t.now × Wants t.now asked grants.now wanted }
     ensures { TakenIs t.now asked result }
 {
-    let known = io_obstacles::passed(grants, wanted);
-    if io_obstacles::everywhere(known) {
-        return TakenBase::Nothing;
+    let known = wanted.passed(grants);
+    if known.everywhere() {
+        return None;
     }
-    let mut gaps: [u16; GAP_ROWS] = [0; GAP_ROWS];
-    io_bars::gap_bars(t, wanted.count, asked.lines, &mut gaps);
-    let swept = io_obstacles::swept(grants, &gaps, wanted, known);
-    if io_obstacles::everywhere(swept) {
-        return TakenBase::Nothing;
+    let gaps = io_bars::gap_bars(t, asked.count, asked.lines);
+    let search = Search {
+        grants,
+        gaps: &gaps,
+        wanted,
+    };
+    let swept = search.swept(known);
+    if swept.everywhere() {
+        return None;
     }
-    first(t, grants, &gaps, wanted, swept)
+    first(t, &search, swept)
 }
 
 // The base that is taken, of those that a request without a base can have.
-pub fn choose(t: &[u8], asked: IoAsked) -> TakenBase
+pub fn choose(t: &[u8], asked: IoAsked) -> Option<usize>
     requires { Accepted t.now × (1 ≤ asked.count) × (asked.count < 256) × (asked.lines ≤ Table.most_lines) }
     ensures { TakenIs t.now asked result }
 {
     let count = asked.count;
     let lines = asked.lines;
-    let step = align(count);
+    let grants = io_bars::grant_bars(t, count, lines);
     let limit = io_obstacles::limit_of(lines);
-    let mut grants: [u16; GRANT_ROWS] = [0; GRANT_ROWS];
-    io_bars::grant_bars(t, count, lines, &mut grants);
-    let few = io_obstacles::shortest(io_obstacles::periods(&grants), limit);
     let wanted = Wanted {
         count,
-        step,
+        step: align(count),
         limit,
-        few,
-        gaps: io_obstacles::gaps_for(lines),
+        few: io_obstacles::shortest(grants.periods(), limit),
+        gaps: io_obstacles::gaps_count(lines),
     };
     past_bars(t, asked, &grants, wanted)
 }

@@ -1,10 +1,15 @@
 -- What the contracts of `io_obstacles` cite. Assumes nothing.
-pub mod Bars
-pub mod Search
-pub use declared.Stretch.{Stretch}
+pub mod Powers
+pub mod Alone
+pub mod Rows
+pub mod Stretches
+pub mod Searches
+pub use declared.rows.Bar.{Bar}
+pub use declared.rows.Bars.{Bars}
+pub use declared.stretches.Stretch.{Stretch}
 pub use declared.Wanted.{Wanted}
-pub use Bars.{around, Power, Multiple, FirstMultiple, Lies, StretchFits, bar_at, RowsFit, LiesInFirst, LiesInRows, Leaps, LiesShort, Opened, Barring}
-pub use Bars.{Repeats, Period, StretchBetween, LearntIs, Everywhere}
-pub use declared.Gaps.{Gaps}
-pub use declared.Gaps.TheVariants.{Counted, Ignored}
-pub use Search.{grant_places, gap_places, grant_rows, gap_rows_lem, GapsFor, BarredByGap, BarredBy, BarredFor, WantedFits, SearchFits, OpenedIs}
+pub use declared.Search.{Search}
+pub use Powers.{around, Power, Multiple, FirstMultiple, Period, LiesFrom, Leaps}
+pub use Rows.{LiesInBar, LiesShort, bar_at, LiesInFirst, LiesInBars}
+pub use Stretches.{Lies, Barring, Repeats, StretchBetween, LearntIs, Everywhere}
+pub use Searches.{grant_places, gap_places, BarredBy, Barred, Opened, OpenedIs}

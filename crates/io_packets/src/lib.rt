@@ -6,9 +6,11 @@ ghost use Rattle.facts.specs.Table;
 ghost use Rattle.facts.specs.Says.{Says};
 ghost use Rattle.facts.specs.Packets.{bit};
 ghost use Rattle.facts.specs.Io.{request_io_length, base_asked_lem, count_asked_lem, io_attributes, lines_asked_lem, io_asked, IoShared, IoFirstShared};
-ghost use Rattle.io_packets.specs.Asking.{AttributesAre, SizesAre, SecondIs};
+ghost use Rattle.facts.specs.Io.{IoAttributesBad, IoSizeBad, second_count};
+ghost use Rattle.facts.specs.declared.Code.TheVariants.{BadAttribute, BadSize};
+ghost use Rattle.facts.specs.Checks.{Checked, RefusedIf};
 
-use facts::IoAsked;
+use facts::{Code, IoAsked};
 use layout::MOST_LINES;
 
 // RequestIO's packet (5.52) and ReleaseIO's (5.44): their length, and where the fields stand. What isn't here is ignored.
@@ -79,80 +81,47 @@ fn first_alone(p: &[u8]) -> bool
     requires { length p.now ≡ request_io_length }
     ensures { Says result (IoFirstShared p.now × (IoShared p.now → ⊥)) }
 {
-    if !first_shared(p) {
-        return false;
-    }
-    !shared(p)
+    first_shared(p) && !shared(p)
 }
 
-// Whether attributes and lines are ones that a request may have: "attribute bits outside section 5.52's list, First Shared without Shared, or lines
+// Attributes and lines are ones that a request may have: "attribute bits outside section 5.52's list, First Shared without Shared, or lines
 // outside 1 to 16, BAD_ATTRIBUTE".
-#[derive(Clone, Copy)]
-pub enum Attributes {
-    Good,
-    Bad,
-}
-
-pub fn attributes_asked(p: &[u8]) -> Attributes
+pub fn attributes_asked(p: &[u8]) -> Result<(), Code>
     requires { length p.now ≡ request_io_length }
-    ensures { AttributesAre p.now result }
+    ensures { RefusedIf (IoAttributesBad p.now) BadAttribute result }
 {
-    if ALL_ATTRIBUTES <= table_read::byte(p, ATTRIBUTES_AT) {
-        return Attributes::Bad;
-    }
-    if first_alone(p) {
-        return Attributes::Bad;
+    if ALL_ATTRIBUTES <= table_read::byte(p, ATTRIBUTES_AT) || first_alone(p) {
+        return Err(Code::BadAttribute);
     }
     let lines = lines_asked(p);
-    if lines == 0 {
-        return Attributes::Bad;
+    if lines == 0 || MOST_LINES < lines {
+        return Err(Code::BadAttribute);
     }
-    if MOST_LINES < lines {
-        return Attributes::Bad;
-    }
-    Attributes::Good
+    Ok(())
 }
 
-// "NumPorts2 not 0": whether a second range is asked for.
-#[derive(Clone, Copy)]
-pub enum Second {
-    Absent,
-    Asked,
-}
-
-pub fn second_asked(p: &[u8]) -> Second
+// No second range is asked for: "NumPorts2 not 0, BAD_SIZE".
+pub fn second_asked(p: &[u8]) -> Result<(), Code>
     requires { length p.now ≡ request_io_length }
-    ensures { SecondIs p.now result }
+    ensures { Checked (second_count p.now ≡ 0) BadSize result }
 {
     if table_read::byte(p, SECOND_COUNT_AT) == 0 {
-        Second::Absent
+        Ok(())
     } else {
-        Second::Asked
+        Err(Code::BadSize)
     }
 }
 
 // "NumPorts1 0 or over two to the lines, or NumPorts2 not 0, BAD_SIZE"
-#[derive(Clone, Copy)]
-pub enum Sizes {
-    Good,
-    Bad,
-}
-
-pub fn sizes_asked(p: &[u8]) -> Sizes
+pub fn sizes_asked(p: &[u8]) -> Result<(), Code>
     requires { (length p.now ≡ request_io_length) × (lines_asked_lem p.now ≤ Table.most_lines) }
-    ensures { SizesAre p.now result }
+    ensures { RefusedIf (IoSizeBad p.now) BadSize result }
 {
     let count = count_asked(p);
-    if count == 0 {
-        return Sizes::Bad;
+    if count == 0 || io_ranges::power(lines_asked(p)) < count {
+        return Err(Code::BadSize);
     }
-    if io_ranges::power(lines_asked(p)) < count {
-        return Sizes::Bad;
-    }
-    let Second::Absent = second_asked(p) else {
-        return Sizes::Bad;
-    };
-    Sizes::Good
+    second_asked(p)
 }
 
 // What a packet of RequestIO asks for.

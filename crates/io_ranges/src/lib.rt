@@ -6,6 +6,7 @@ ghost use Rattle.facts.specs.Says.{Says};
 ghost use Rattle.facts.specs.Table.{all_ports, most_lines};
 ghost use Rattle.facts.specs.Ports.{Meet, Overlap};
 
+use facts::Ports;
 use layout::ALL_PORTS;
 
 // Two to the power of `k`.
@@ -70,21 +71,14 @@ pub fn overlaps(base: usize, count: usize, base2: usize, count2: usize) -> bool
 }
 
 // "Two ranges meet when some port of one equals some port of the other modulo two to the smaller of their decoded line counts."
-pub fn meets(
-    base: usize,
-    count: usize,
-    lines: usize,
-    base2: usize,
-    count2: usize,
-    lines2: usize,
-) -> bool
-    requires { (base < all_ports) × (count ≤ all_ports) × (lines ≤ most_lines) × (base2 < all_ports) × (lines2 ≤ most_lines) × (count2 ≤ all_ports) }
-    ensures { Says result (Meet (record { base = base; count = count; lines = lines }) (record { base = base2; count = count2; lines = lines2 })) }
+pub fn meets(a: Ports, b: Ports) -> bool
+    requires { (a.base < all_ports) × (a.count ≤ all_ports) × (a.lines ≤ most_lines) × (b.base < all_ports) × (b.lines ≤ most_lines) × (b.count ≤ all_ports) }
+    ensures { Says result (Meet a b) }
 {
-    if smaller(count, count2) == 0 {
+    if a.count == 0 || b.count == 0 {
         return false;
     }
-    let modulus = power(smaller(lines, lines2));
-    let behind = (base + count - 1 + ALL_PORTS - base2) % modulus;
-    behind < count + count2 - 1
+    let modulus = power(a.lines.min(b.lines));
+    let behind = (a.base + a.count - 1 + ALL_PORTS - b.base) % modulus;
+    behind < a.count + b.count - 1
 }

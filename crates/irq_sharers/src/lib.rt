@@ -36,10 +36,8 @@ fn count(t: &[u8], level: usize) -> usize
 {
     let sockets = table_read::byte(t, SOCKETS_IN);
     let mut n = 0;
-    let mut s = 0;
-    while s < sockets {
+    for s in 0..sockets {
         n += sharer(t, level, Seat(s));
-        s += 1;
     }
     n
 }

@@ -48,7 +48,7 @@ fn rise_flaw(h: u16, next: u16) -> u16
     if next == 0 {
         return 0;
     }
-    table_read::excess(h, next - 1)
+    h.saturating_sub(next - 1)
 }
 
 // What is wrong with the numbers in one place, 0 if nothing is: of no client, whose handle is 0, all are 0, and there is no next one.
@@ -69,7 +69,7 @@ fn place_flaw(t: &[u8], i: usize) -> u16
     let h = table_read::word_u16(t, HANDLES_AT + i * HANDLE_SIZE);
     let next = table_read::word_u16(t, HANDLES_AT + (i + 1) * HANDLE_SIZE);
     let events = table_read::word_u16(t, EVENTS_AT + i * EVENTS_SIZE);
-    let attributes = table_read::byte_u16(t, ATTRIBUTES_AT + i * ATTRIBUTES_SIZE);
+    let attributes = u16::from(t[ATTRIBUTES_AT + i * ATTRIBUTES_SIZE]);
     client_flaw(h, next, events, attributes)
 }
 
@@ -79,9 +79,9 @@ fn places_sound(t: &[u8]) -> bool
     requires { length t.now ≡ table_size }
     ensures { Says result (PlacesSound t.now) }
 {
-    let mut flaws: u16 = 0;
+    let mut flaws = 0;
     for i in 0..MOST_CLIENTS {
-        flaws = flaws | place_flaw(t, i);
+        flaws |= place_flaw(t, i);
     }
     flaws == 0
 }
@@ -100,10 +100,7 @@ fn counted(t: &[u8]) -> bool
         return true;
     }
     let last = table_read::word(t, HANDLES_AT + (clients - 1) * HANDLE_SIZE);
-    if last == 0 {
-        return false;
-    }
-    last <= table_read::word(t, ISSUED_IN)
+    last != 0 && last <= table_read::word(t, ISSUED_IN)
 }
 
 // Whether the places that no client can have are zero: handles from 302 up to 400, which are twelve eights and one more that overlaps the last of them,
@@ -112,16 +109,10 @@ fn places_end(t: &[u8]) -> bool
     requires { length t.now ≡ table_size }
     ensures { Says result (PlacesEnd t.now) }
 {
-    if !table_read::eights_zero(t, ATTRIBUTES_AT - EIGHT, 1) {
-        return false;
-    }
-    if !table_read::eights_zero(t, HANDLES_AT + MOST_CLIENTS * HANDLE_SIZE, 12) {
-        return false;
-    }
-    if !table_read::eights_zero(t, ATTRIBUTES_AT + MOST_CLIENTS * ATTRIBUTES_SIZE, 6) {
-        return false;
-    }
-    table_read::eights_zero(t, EVENTS_AT + MOST_CLIENTS * EVENTS_SIZE, 12)
+    table_read::eights_zero(t, ATTRIBUTES_AT - EIGHT, 1)
+        && table_read::eights_zero(t, HANDLES_AT + MOST_CLIENTS * HANDLE_SIZE, 12)
+        && table_read::eights_zero(t, ATTRIBUTES_AT + MOST_CLIENTS * ATTRIBUTES_SIZE, 6)
+        && table_read::eights_zero(t, EVENTS_AT + MOST_CLIENTS * EVENTS_SIZE, 12)
 }
 
 // "live handles differ, aren't 0 and aren't over the number issued": the clients' numbers, and what no client uses of their places.
@@ -129,11 +120,5 @@ pub fn clients_sound(t: &[u8]) -> bool
     requires { (length t.now ≡ table_size) × (clients_in t.now ≤ Table.most_clients) }
     ensures { Says result (ClientsListed t.now) }
 {
-    if !places_sound(t) {
-        return false;
-    }
-    if !counted(t) {
-        return false;
-    }
-    places_end(t)
+    places_sound(t) && counted(t) && places_end(t)
 }

@@ -100,8 +100,8 @@ fn enter(t: &[u8], s: Seat, held: &mut [u16])
 fn over(base: u16, ones: u16, count: u16, last: u16, own: u16, more: u16) -> u16
     ensures { result ≡ over_of base ones count last own more }
 {
-    let past = std::num::wrapping_sub_u16(last, base) & own & ones;
-    table_read::excess(count, table_read::excess(past, more))
+    let past = last.wrapping_sub(base) & own & ones;
+    count.saturating_sub(past.saturating_sub(more))
 }
 
 // The row of the port counts that a grant may not reach: those of all grants, or, for one that is shared, those of the others that aren't.
@@ -125,12 +125,12 @@ fn apart(held: &[u16; HELD], s: Seat) -> bool
         return true;
     }
     let more = count - 1;
-    let last = std::num::wrapping_add_u16(held[number], more);
+    let last = held[number].wrapping_add(more);
     let own = held[ONES + number];
     let row = row_against(held[UNSHARED + number]);
     let mut some: u16 = 0;
     for u in 0..number {
-        some = some | over(held[u], held[ONES + u], held[row + u], last, own, more);
+        some |= over(held[u], held[ONES + u], held[row + u], last, own, more);
     }
     some == 0
 }

@@ -31,10 +31,7 @@ fn irq_holder_live(t: &[u8], client: Handle, s: Seat) -> bool
     requires { (length t.now ≡ table_size) × (clients_in t.now ≤ Table.most_clients) × (s.0 < Table.most_seats) × IoPlaceSound t.now s.0 }
     ensures { Says result (LiveIn t.now client.0) }
 {
-    if seats::io_held_by(t, s, client) {
-        return true;
-    }
-    client_record::live(t, client)
+    seats::io_held_by(t, s, client) || client_record::live(t, client)
 }
 
 // "every grant .. has a live client and a socket below the count": the IRQ grant at a seat of such a socket, or a record that is all zero.
@@ -48,16 +45,10 @@ fn irq_place_sound(t: &[u8], s: Seat) -> bool
         return true;
     }
     let level = table_read::byte(t, at + IRQ_LEVEL_AT);
-    if ALL_LEVELS <= level {
-        return false;
-    }
-    if table_read::byte(t, LEVELS_AT + level * LEVEL_SIZE) != MARKED {
-        return false;
-    }
-    if LAST_MANNER < table_read::byte(t, at + IRQ_MANNER_AT) {
-        return false;
-    }
-    irq_holder_live(t, table_read::handle(t, at), s)
+    level < ALL_LEVELS
+        && table_read::byte(t, LEVELS_AT + level * LEVEL_SIZE) == MARKED
+        && table_read::byte(t, at + IRQ_MANNER_AT) <= LAST_MANNER
+        && irq_holder_live(t, table_read::handle(t, at), s)
 }
 
 // The level that a grant holds: in its own manner, and in each manner that doesn't go with it. For level 5 held as dynamic level, whose number is 2, these
@@ -97,7 +88,7 @@ pub fn irqs_sound(t: &[u8]) -> bool
     if !table_read::zero(t, IRQS_AT + sockets * IRQ_SIZE, IRQS_END) {
         return false;
     }
-    let mut held: u64 = 0;
+    let mut held = 0;
     for s in 0..sockets {
         if !irq_place_sound(t, Seat(s)) {
             return false;
@@ -106,7 +97,7 @@ pub fn irqs_sound(t: &[u8]) -> bool
         if held & holding.against != 0 {
             return false;
         }
-        held = held | holding.own;
+        held |= holding.own;
     }
     true
 }

@@ -21,20 +21,12 @@ pub fn counts_sound(t: &[u8]) -> bool
     requires { length t.now ≡ table_size }
     ensures { Says result (CountsSound t.now) }
 {
-    if t[MARK_IN] != LAYOUT_MARK {
-        return false;
-    }
     let sockets = table_read::byte(t, SOCKETS_IN);
-    if sockets == 0 {
-        return false;
-    }
-    if MOST_SOCKETS < sockets {
-        return false;
-    }
-    if MOST_CLIENTS < table_read::byte(t, CLIENTS_IN) {
-        return false;
-    }
-    table_read::byte(t, RANGES_IN) <= MOST_RANGES
+    t[MARK_IN] == LAYOUT_MARK
+        && sockets != 0
+        && sockets <= MOST_SOCKETS
+        && table_read::byte(t, CLIENTS_IN) <= MOST_CLIENTS
+        && table_read::byte(t, RANGES_IN) <= MOST_RANGES
 }
 
 // Whether what no range uses of their places is zero.

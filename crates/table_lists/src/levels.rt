@@ -18,7 +18,7 @@ fn level_flaw(marks: u16) -> u16
 {
     let managed = marks % ALL_BYTES;
     let reserved = marks / ALL_BYTES;
-    managed / MARKS | table_read::excess(reserved, managed)
+    managed / MARKS | reserved.saturating_sub(managed)
 }
 
 // What is wrong with any of the levels or-ed together, with no early exit.
@@ -26,9 +26,9 @@ pub fn levels_sound(t: &[u8]) -> bool
     requires { length t.now ≡ table_size }
     ensures { Says result (LevelsSound t.now) }
 {
-    let mut flaws: u16 = 0;
+    let mut flaws = 0;
     for l in 0..ALL_LEVELS {
-        flaws = flaws | level_flaw(table_read::word_u16(t, LEVELS_AT + l * LEVEL_SIZE));
+        flaws |= level_flaw(table_read::word_u16(t, LEVELS_AT + l * LEVEL_SIZE));
     }
     flaws == 0
 }

@@ -19,10 +19,7 @@ fn range_follows(t: &[u8], i: usize, low: usize) -> bool
     let at = RANGES_AT + i * RANGE_SIZE;
     let base = table_read::word(t, at);
     let count = table_read::long(t, at + RANGE_COUNT_AT);
-    if base < low {
-        return false;
-    }
-    count != 0
+    low <= base && count != 0
 }
 
 // What is wrong with the mark of the range `i`: 0 if nothing is.
@@ -41,16 +38,13 @@ pub fn ranges_sound(t: &[u8]) -> bool
 {
     let ranges = table_read::byte(t, RANGES_IN);
     let mut low = 0;
-    let mut flaws: u8 = 0;
+    let mut flaws = 0;
     for i in 0..ranges {
         if !range_follows(t, i, low) {
             return false;
         }
-        flaws = flaws | mark_flaw(t, i);
+        flaws |= mark_flaw(t, i);
         low = managed_search::range_end(t, i);
     }
-    if ALL_PORTS < low {
-        return false;
-    }
-    flaws == 0
+    flaws == 0 && low <= ALL_PORTS
 }

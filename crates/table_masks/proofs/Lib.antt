@@ -1,3 +1,3 @@
 -- Laws of the rows of masks. Assumes nothing.
 pub mod Rows
-pub use Rows.{under_sound, sound_under, Filling, filling_none, filling_more, filling_done, no_steps, over_more, over_most}
+pub use Rows.{under_sound, sound_under, steps_are}

@@ -1,3 +1,3 @@
 -- What the contracts of `table_masks` cite. Assumes nothing.
 pub mod Masks
-pub use Masks.{NoSteps, StepsAre, RowUnder, RowsUnder}
+pub use Masks.{StepsAre, RowUnder, RowsUnder}

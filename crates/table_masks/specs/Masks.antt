@@ -5,11 +5,6 @@ use Rattle.facts.specs.Packets.{word}
 use Rattle.layout.specs.Layout
 use Rattle.layout.specs.Reading.{clients_in, masks_place}
 
--- room for the limits, and nothing there yet
-pub record NoSteps (steps : List ℕ) : Type 0 where
-  pub room : length steps ≡ Table.most_sockets + Layout.seat_room
-  pub empty : (k : ℕ) → k < length steps → get_or steps k 0 ≡ 0
-
 -- the limits: 4,096 for as many seats as there can be sockets, then 0
 pub record StepsAre (steps : List ℕ) : Type 0 where
   pub room : length steps ≡ Table.most_sockets + Layout.seat_room

@@ -1,5 +1,5 @@
 -- Four stretches of one size, each or-ed together by itself: what a loop over all four knows. Assumes nothing.
-use Rattle.facts.proofs.Words.{◌≡◌, List, ℕ, ◌+◌, ◌*◌, ◌≤◌, by_cases, dec_lt, arith, bit_or, eqb, Says}
+use Rattle.facts.proofs.Words.{◌≡◌, refl, List, ℕ, ◌+◌, ◌*◌, ◌≤◌, by_cases, dec_lt, arith, bit_or, eqb, Says}
 use Rattle.facts.specs.{byte}
 use Rattle.facts.proofs.{says_as}
 use Rattle.layout.specs.{Zero}
@@ -27,7 +27,7 @@ module _ (b : List ℕ) (from second third fourth : ℕ) where
     quarters_more = record { one = more from x q.one; two = more second y q.two; three = more third z q.three; four = more fourth w q.four }
       where
         more : (p all : ℕ) → Gathered b p (p + i) all → Gathered b p (p + (i + 1)) (bit_or all (byte b (p + i)))
-        more p all = gathered_more b p (p + i) (p + (i + 1)) all (omega arith) (omega arith)
+        more p all = gathered_more b p (p + i) (p + (i + 1)) all _ (omega arith) (omega arith) refl
 
     pub quarters_says : (size : ℕ) → i ≡ size → Says (eqb (bit_or (bit_or (bit_or x y) z) w) 0) (FourZero b from second third fourth size)
     quarters_says size e =

@@ -1,5 +1,5 @@
 -- Numbers or-ed together are zero exactly if each of them is, and so are bytes; and a record of a grant is used or zero. Assumes nothing.
-use Rattle.facts.proofs.Words.{◌≡◌, ◌∙◌, ap, ◌⊎◌, inr, ⊎_elim, ◌≢◌, List, Bool, false, ℕ, ◌+◌, ◌-◌, ◌≤◌, ℕ_discrete, dec_lt, arith, add-zero, eq-eqb}
+use Rattle.facts.proofs.Words.{◌≡◌, ◌∙◌, ap, sym, ◌⊎◌, inr, ⊎_elim, ◌≢◌, List, Bool, false, ℕ, ◌+◌, ◌-◌, ◌≤◌, ℕ_discrete, dec_lt, arith, add-zero, eq-eqb}
 use Rattle.facts.proofs.Words.{ne_eqb, bit_or, or_add_and, and_le_l, and_le_r, eqb, Says, by_cases}
 use Rattle.facts.specs.{byte, long}
 use Rattle.facts.proofs.{told, says_true, says_false, says_as, says_eq}
@@ -32,12 +32,12 @@ gathered_joined b from mid to x y f l g g' =
           (λ z. (λ i h m. z i h (omega arith), λ i h m. z i (omega arith) m));
     }
 
-pub gathered_more : (b : List ℕ) (from i next all : ℕ) → from ≤ i → next ≡ i + 1 → Gathered b from i all
-    → Gathered b from next (bit_or all (byte b i))
-gathered_more b from i next all h e g = gathered_joined b from i next all (byte b i) h (omega arith) g here
+pub gathered_more : (b : List ℕ) (from i next all x : ℕ) → from ≤ i → next ≡ i + 1 → x ≡ byte b i → Gathered b from i all
+    → Gathered b from next (bit_or all x)
+gathered_more b from i next all x h e v g = gathered_joined b from i next all x h (omega arith) g here
   where
-    here : Gathered b i next (byte b i)
-    here = record { says = says_as (says_eq (byte b i) 0) (λ z k f l. ap (byte b) (omega arith) ∙ z) (λ z. z i (omega arith) (omega arith)) }
+    here : Gathered b i next x
+    here = record { says = says_as (says_eq x 0) (λ z k f l. ap (byte b) (omega arith) ∙ sym v ∙ z) (λ z. v ∙ z i (omega arith) (omega arith)) }
 
 -- so is the number of eight bytes
 pub gathered_eight : (b : List ℕ) (at to : ℕ) → to ≡ at + 8 → Gathered b at to (eight b at)

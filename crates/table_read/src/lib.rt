@@ -11,15 +11,6 @@ ghost use Rattle.table_read.specs.Zeros.{FourZero};
 
 use facts::{Handle, Manner};
 
-// How many numbers one byte and two bytes hold.
-const ALL_BYTES: usize = 256;
-
-const ALL_BYTES_U16: u16 = 256;
-
-pub const ALL_WORDS: usize = 65536;
-
-const WORD_SIZE: usize = 2;
-
 // The stretches that are looked at side by side are multiples of this many bytes.
 const STEP: usize = 32;
 
@@ -28,52 +19,29 @@ pub fn byte(t: &[u8], at: usize) -> usize
     requires { at < length t.now }
     ensures { (result ≡ Packets.byte t.now at) × (result < 256) }
 {
-    t[at] as usize
+    usize::from(t[at])
 }
 
 pub fn word(t: &[u8], at: usize) -> usize
     requires { at + 1 < length t.now }
     ensures { (result ≡ Packets.word t.now at) × (result < 65536) }
 {
-    let low = byte(t, at);
-    let high = byte(t, at + 1);
-    low + ALL_BYTES * high
+    usize::from(word_u16(t, at))
 }
 
 pub fn long(t: &[u8], at: usize) -> usize
     requires { at + 3 < length t.now }
     ensures { (result ≡ Packets.long t.now at) × (result < 4294967296) }
 {
-    let low = word(t, at);
-    let high = word(t, at + WORD_SIZE);
-    low + ALL_WORDS * high
+    u32::from_le_bytes([t[at], t[at + 1], t[at + 2], t[at + 3]]) as usize
 }
 
-// Numbers of one byte and of two, for rows that the compiler looks at side by side.
-pub fn byte_u16(t: &[u8], at: usize) -> u16
-    requires { at < length t.now }
-    ensures { result ≡ Packets.byte t.now at }
-{
-    t[at] as u16
-}
-
+// A number of two bytes, for rows that the compiler looks at side by side.
 pub fn word_u16(t: &[u8], at: usize) -> u16
     requires { at + 1 < length t.now }
     ensures { result ≡ Packets.word t.now at }
 {
-    let low = t[at] as u16;
-    let high = t[at + 1] as u16;
-    low + ALL_BYTES_U16 * high
-}
-
-// How far one number is over another; 0 where it isn't.
-pub fn excess(a: u16, b: u16) -> u16
-    ensures { result ≡ a - b }
-{
-    if a <= b {
-        return 0;
-    }
-    a - b
+    u16::from_le_bytes([t[at], t[at + 1]])
 }
 
 // The handle that two bytes say.
@@ -81,29 +49,24 @@ pub fn handle(t: &[u8], at: usize) -> Handle
     requires { at + 1 < length t.now }
     ensures { result.0 ≡ Packets.word t.now at }
 {
-    Handle(word(t, at) as u16)
+    Handle(word_u16(t, at))
 }
 
-// The number of eight bytes, little-endian, as one sum: the compiler makes one load of it.
-fn byte_u64(t: &[u8], at: usize) -> u64
-    requires { at < length t.now }
-    ensures { (result ≡ Packets.byte t.now at) × (result < 256) }
-{
-    t[at] as u64
-}
-
+// The number of eight bytes, little-endian, in one load.
 pub fn eight(t: &[u8], at: usize) -> u64
     requires { at + 7 < length t.now }
     ensures { result ≡ Zeros.eight t.now at }
 {
-    byte_u64(t, at)
-        + 256 * byte_u64(t, at + 1)
-        + 65536 * byte_u64(t, at + 2)
-        + 16777216 * byte_u64(t, at + 3)
-        + 4294967296 * byte_u64(t, at + 4)
-        + 1099511627776 * byte_u64(t, at + 5)
-        + 281474976710656 * byte_u64(t, at + 6)
-        + 72057594037927936 * byte_u64(t, at + 7)
+    u64::from_le_bytes([
+        t[at],
+        t[at + 1],
+        t[at + 2],
+        t[at + 3],
+        t[at + 4],
+        t[at + 5],
+        t[at + 6],
+        t[at + 7],
+    ])
 }
 
 // Whether the bit in a place is set.
@@ -119,11 +82,9 @@ pub fn zero(t: &[u8], from: usize, to: usize) -> bool
     requires { (from ≤ to) × (to ≤ length t.now) }
     ensures { Says result (Zero t.now from to) }
 {
-    let mut all: u8 = 0;
-    let mut i = from;
-    while i < to {
-        all = all | t[i];
-        i += 1;
+    let mut all = 0;
+    for b in &t[from..to] {
+        all |= b;
     }
     all == 0
 }
@@ -140,17 +101,15 @@ pub fn four_zero(
     requires { (first + size ≤ length t.now) × (second + size ≤ length t.now) × (third + size ≤ length t.now) × (fourth + size ≤ length t.now) }
     ensures { Says result (FourZero t.now first second third fourth size) }
 {
-    let mut all: u8 = 0;
-    let mut all2: u8 = 0;
-    let mut all3: u8 = 0;
-    let mut all4: u8 = 0;
-    let mut i = 0;
-    while i < size {
-        all = all | t[first + i];
-        all2 = all2 | t[second + i];
-        all3 = all3 | t[third + i];
-        all4 = all4 | t[fourth + i];
-        i += 1;
+    let mut all = 0;
+    let mut all2 = 0;
+    let mut all3 = 0;
+    let mut all4 = 0;
+    for i in 0..size {
+        all |= t[first + i];
+        all2 |= t[second + i];
+        all3 |= t[third + i];
+        all4 |= t[fourth + i];
     }
     all | all2 | all3 | all4 == 0
 }
@@ -186,9 +145,9 @@ pub fn eights_zero(t: &[u8], from: usize, eights: usize) -> bool
     requires { from + 8 * eights ≤ length t.now }
     ensures { Says result (Zero t.now from (from + 8 * eights)) }
 {
-    let mut all: u64 = 0;
+    let mut all = 0;
     for i in 0..eights {
-        all = all | eight(t, from + 8 * i);
+        all |= eight(t, from + 8 * i);
     }
     all == 0
 }

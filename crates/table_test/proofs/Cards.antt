@@ -22,5 +22,5 @@ module _ (b : List ℕ) where
   abbrev pub Marked : ℕ → Type 0
   Marked s = byte b (cards_at + s) ≤ 1
 
-  pub mark_says : (s : ℕ) → Says (eqb (byte b (cards_at + s) / 2) 0) (Marked s)
-  mark_says s = says_as (says_eq (byte b (cards_at + s) / 2) 0) (λ e. omega arith) (λ l. omega arith)
+  pub mark_says : {mark : ℕ} (s : ℕ) → mark ≡ byte b (cards_at + s) → Says (eqb (mark / 2) 0) (Marked s)
+  mark_says {mark} s same = says_as (says_eq (mark / 2) 0) (λ e. omega arith) (λ l. omega arith)

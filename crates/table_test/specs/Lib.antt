@@ -1,5 +1,5 @@
 -- What the contracts of `table_test` cite. Assumes nothing.
 pub mod Loading
 pub mod Sockets
-pub use Loading.{ListsSound, RestSound, LoadedIs}
+pub use Loading.{ListsSound, RestSound}
 pub use Sockets.{CardsMarked, CardsEnd, CardsSound, SocketsSound}

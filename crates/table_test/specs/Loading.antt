@@ -1,12 +1,10 @@
--- What loading a table's bytes says of them. Assumes nothing.
+-- What the parts of the test of a table's bytes say of them. Assumes nothing.
 use Rattle.std.specs.Prelude.{List, ℕ}
 use Rattle.layout.specs.Layout.{handles_at, table_size}
 use Rattle.layout.specs.Reading.{clients_in, ranges_in, masks_place, range_place}
-use Rattle.layout.specs.Sound.{Accepted, Zero, CountsSound, RangesSound, MasksSound}
+use Rattle.layout.specs.Sound.{Zero, CountsSound, RangesSound, MasksSound}
 use Rattle.table_clients.specs.{ClientsListed}
 use Rattle.table_lists.specs.{LevelsSound, SeatsEnd}
-use Rattle.table_test.specs.declared.Loaded.{Loaded}
-use Rattle.table_test.specs.declared.Loaded.TheVariants.{Formed, Unformed}
 
 -- the head, the levels, the clients' numbers and the ranges
 pub record ListsSound (b : List ℕ) : Type 0 where
@@ -21,8 +19,3 @@ pub record RestSound (b : List ℕ) : Type 0 where
   pub seats_end : SeatsEnd b
   pub masks : MasksSound b
   pub masks_end : Zero b (masks_place (clients_in b)) table_size
-
--- they are the image of a well-formed set, or of none
-abbrev pub LoadedIs : List ℕ → Loaded → Type 0
-LoadedIs b Formed = Accepted b
-LoadedIs b Unformed = Accepted b → ⊥

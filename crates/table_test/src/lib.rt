@@ -6,10 +6,13 @@ mod sockets;
 ghost use Rattle.std.specs.Prelude.{◌≡◌, length};
 ghost use Rattle.facts.specs.Says.{Says};
 ghost use Rattle.layout.specs.Layout.{table_size};
-ghost use Rattle.layout.specs.Sound.{CountsSound, Sound};
-ghost use Rattle.table_test.specs.Loading.{ListsSound, RestSound, LoadedIs};
+ghost use Rattle.facts.specs.declared.Code.TheVariants.{GeneralFailure};
+ghost use Rattle.facts.specs.Checks.{Checked};
+ghost use Rattle.layout.specs.Sound.{Accepted, CountsSound, Sound};
+ghost use Rattle.table_test.specs.Loading.{ListsSound, RestSound};
 
 use crate::sockets::sockets_sound;
+use facts::Code;
 use layout::TABLE_SIZE;
 use table_clients::clients_sound;
 use table_lists::counts::{counts_sound, ranges_end, seats_end};
@@ -22,16 +25,7 @@ fn rest_sound(t: &[u8]) -> bool
     requires { (length t.now ≡ table_size) × CountsSound t.now }
     ensures { Says result (RestSound t.now) }
 {
-    if !ranges_end(t) {
-        return false;
-    }
-    if !seats_end(t) {
-        return false;
-    }
-    if !masks_sound(t) {
-        return false;
-    }
-    masks_end(t)
+    ranges_end(t) && seats_end(t) && masks_sound(t) && masks_end(t)
 }
 
 // The head, the levels, the clients' numbers and the ranges.
@@ -39,16 +33,7 @@ fn lists_sound(t: &[u8]) -> bool
     requires { length t.now ≡ table_size }
     ensures { Says result (ListsSound t.now) }
 {
-    if !counts_sound(t) {
-        return false;
-    }
-    if !levels_sound(t) {
-        return false;
-    }
-    if !clients_sound(t) {
-        return false;
-    }
-    ranges_sound(t)
+    counts_sound(t) && levels_sound(t) && clients_sound(t) && ranges_sound(t)
 }
 
 // "Any other bytes, or another length, are refused with GENERAL_FAILURE": whether the bytes are the image of a well-formed set. In three parts: the compiler
@@ -56,31 +41,16 @@ fn lists_sound(t: &[u8]) -> bool
 fn sound(t: &[u8]) -> bool
     ensures { Says result (Sound t.now) }
 {
-    if t.len() != TABLE_SIZE {
-        return false;
-    }
-    if !lists_sound(t) {
-        return false;
-    }
-    if !sockets_sound(t) {
-        return false;
-    }
-    rest_sound(t)
+    t.len() == TABLE_SIZE && lists_sound(t) && sockets_sound(t) && rest_sound(t)
 }
 
-// What looking at a table says of it.
-#[derive(Clone, Copy)]
-pub enum Loaded {
-    Formed,
-    Unformed,
-}
-
-pub fn load(t: &[u8]) -> Loaded
-    ensures { LoadedIs t.now result }
+// What every entry begins with, but the one that makes a table.
+pub fn load(t: &[u8]) -> Result<(), Code>
+    ensures { Checked (Accepted t.now) GeneralFailure result }
 {
     if sound(t) {
-        Loaded::Formed
+        Ok(())
     } else {
-        Loaded::Unformed
+        Err(Code::GeneralFailure)
     }
 }

@@ -14,9 +14,9 @@ fn cards_marked(t: &[u8]) -> bool
     requires { length t.now ≡ table_size }
     ensures { Says result (CardsMarked t.now) }
 {
-    let mut flaws: u8 = 0;
-    for s in 0..MOST_SOCKETS {
-        flaws = flaws | t[CARDS_AT + s] / MARKS;
+    let mut flaws = 0;
+    for mark in &t[CARDS_AT..CARDS_AT + MOST_SOCKETS] {
+        flaws |= mark / MARKS;
     }
     flaws == 0
 }
@@ -35,10 +35,7 @@ fn cards_sound(t: &[u8]) -> bool
     requires { (length t.now ≡ table_size) × CountsSound t.now }
     ensures { Says result (CardsSound t.now) }
 {
-    if !cards_marked(t) {
-        return false;
-    }
-    cards_end(t)
+    cards_marked(t) && cards_end(t)
 }
 
 // The cards and the grants of all sockets.
@@ -46,11 +43,5 @@ pub fn sockets_sound(t: &[u8]) -> bool
     requires { (length t.now ≡ table_size) × CountsSound t.now × ClientsSound t.now × RangesSound t.now }
     ensures { Says result (SocketsSound t.now) }
 {
-    if !cards_sound(t) {
-        return false;
-    }
-    if !ios_sound(t) {
-        return false;
-    }
-    irqs_sound(t)
+    cards_sound(t) && ios_sound(t) && irqs_sound(t)
 }

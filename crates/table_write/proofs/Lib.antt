@@ -1,2 +1,2 @@
 pub mod Writing
-pub use Writing.{filled_none, filled_more, filled_less, closes, takes, makes, fresh_image}
+pub use Writing.{fresh_image}

@@ -1,2 +1,2 @@
 pub mod Writing
-pub use Writing.{Filled, Moved, MovedUp, RoomMade, Cleared}
+pub use Writing.{RoomMade}

@@ -1,4 +1,4 @@
-// Writes a table's bytes: numbers, a run of zeros, a record taken out, room for another, a fresh table.
+// Writes a table's bytes: numbers, a record taken out, room for another, a fresh table.
 #![tactic(auto)]
 
 ghost use Rattle.std.specs.Prelude.{◌≡◌, ◌+◌, ◌<◌, ◌≤◌, length};
@@ -6,9 +6,9 @@ ghost use Rattle.facts.specs.Table;
 ghost use Rattle.facts.specs.Packets.{byte, with_word, with_long};
 ghost use Rattle.layout.specs.Layout.{image, table_size};
 ghost use Rattle.layout.specs.Changed.{ClosedUp, TakenOut};
-ghost use Rattle.table_write.specs.Writing.{Moved, MovedUp, RoomMade, Cleared};
+ghost use Rattle.table_write.specs.Writing.{RoomMade};
 
-use layout::{LAYOUT_MARK, MARK_IN, SOCKETS_IN, TABLE_SIZE};
+use layout::{LAYOUT_MARK, MARK_IN, SOCKETS_IN};
 
 // A number of two bytes at a place.
 pub fn put_word(t: &mut [u8], at: usize, n: usize)
@@ -28,50 +28,13 @@ pub fn put_long(t: &mut [u8], at: usize, n: usize)
     put_word(t, at + 2, n / 65536 % 65536);
 }
 
-// Zero from one place up to another.
-fn clear(t: &mut [u8], from: usize, to: usize)
-    requires { (from ≤ to) × (to ≤ length t.old) }
-    ensures { Cleared t.old t.new from to }
-{
-    let mut i = from;
-    while i < to {
-        t[i] = 0;
-        i += 1;
-    }
-}
-
-// What stands so far above moves down, from one place up to another.
-fn move_down(t: &mut [u8], from: usize, to: usize, far: usize)
-    requires { (from ≤ to) × (to + far ≤ length t.old) × (1 ≤ far) }
-    ensures { Moved t.old t.new from to far }
-{
-    let mut i = from;
-    while i < to {
-        t[i] = t[i + far];
-        i += 1;
-    }
-}
-
-// What stands from one place up to another moves up so far, the last byte first.
-fn move_up(t: &mut [u8], from: usize, to: usize, far: usize)
-    requires { (from ≤ to) × (to + far ≤ length t.old) }
-    ensures { MovedUp t.old t.new from to far }
-{
-    let mut i = to;
-    while from < i {
-        i -= 1;
-        t[i + far] = t[i];
-    }
-}
-
 // The record of so many bytes at a place is taken out of those up to `end`: those after it move down, and the last one is cleared.
 pub fn close_up(t: &mut [u8], at: usize, bytes: usize, end: usize)
     requires { (at + bytes ≤ end) × (end ≤ length t.old) × (1 ≤ bytes) }
     ensures { ClosedUp t.old t.new at bytes end }
 {
-    let last = end - bytes;
-    move_down(t, at, last, bytes);
-    clear(t, last, end);
+    t.copy_within(at + bytes..end, at);
+    t[end - bytes..end].fill(0);
 }
 
 // The record of so many bytes at a place is taken out, in a part that ends at `end` and whose number of records stands at `count`.
@@ -79,9 +42,8 @@ pub fn take_out(t: &mut [u8], count: usize, at: usize, bytes: usize, end: usize)
     requires { (count < at) × (at + bytes ≤ end) × (end ≤ length t.old) × (1 ≤ bytes) × (1 ≤ byte t.old count) }
     ensures { TakenOut t.old t.new count at bytes end }
 {
-    let n = t[count];
     close_up(t, at, bytes, end);
-    t[count] = n - 1;
+    t[count] -= 1;
 }
 
 // Room for a record of so many bytes at a place: those from there on move up, the last of them into bytes that no record uses.
@@ -89,9 +51,8 @@ pub fn make_room(t: &mut [u8], count: usize, at: usize, bytes: usize, end: usize
     requires { (count < at) × (at + bytes ≤ end) × (end ≤ length t.old) × (byte t.old count < 255) }
     ensures { RoomMade t.old t.new count at bytes end }
 {
-    let n = t[count];
-    move_up(t, at, end - bytes, bytes);
-    t[count] = n + 1;
+    t.copy_within(at..end - bytes, at + bytes);
+    t[count] += 1;
 }
 
 // A fresh table.
@@ -99,7 +60,7 @@ pub fn make_fresh(t: &mut [u8], sockets: u8)
     requires { length t.old ≡ table_size }
     ensures { t.new ≡ image (Table.fresh sockets) }
 {
-    clear(t, 0, TABLE_SIZE);
+    t.fill(0);
     t[MARK_IN] = LAYOUT_MARK;
     t[SOCKETS_IN] = sockets;
 }

@@ -1,17 +1,15 @@
 -- `io_bars::grant_bars` meets its contract: the seats passed have their bars, and the other places none.
 -- Assumes nothing.
-use Rattle.facts.proofs.Words.{◌≡◌, arith}
-use Rattle.facts.specs.{most_seats}
+use Rattle.facts.proofs.Words.{arith}
 use Rattle.layout.proofs.{size_in}
 use Rattle.io_bars.proofs.{seat_fits, grants_are}
 use Rattle.io_bars.proofs.grant_bars.Goals as goal
 
 pub held-requires : goal.held-requires
-held-requires c =
-    (size_in c.args.t.now c.requires.0, omega (arith, c.loop-s-test.true))
+held-requires c = (size_in c.args.t.now c.requires.0, omega (arith, c.loop-s-test.true))
 
-pub seat_bar-bar-requires : goal.seat_bar-bar-requires
-seat_bar-bar-requires c =
+pub seat_bar-requires : goal.seat_bar-requires
+seat_bar-requires c =
     let pre = c.requires in (
       seat_fits c.args.t.now c.loop-s.s (omega (arith, c.loop-s-test.true)) pre.0 c.held.result c.held.ensures,
       pre.1,
@@ -20,6 +18,4 @@ seat_bar-bar-requires c =
     )
 
 pub returns : goal.returns
-returns c =
-    let end : c.loop-s.s ≡ most_seats = omega (arith, c.loop-s-test.false, c.loop-s.invariant.1) in
-    grants_are c.args.t.now _ _ _ (rw end at c.loop-s.invariant.0)
+returns c = grants_are c.args.t.now _ _ c.loop-s.bars (λ s l. c.loop-s.invariant s (omega (arith, c.loop-s-test.false)))

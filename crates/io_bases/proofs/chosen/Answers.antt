@@ -8,6 +8,6 @@ returns-in_default c = λ a. none a.facts _ c.requires.2 (c.in_default.ensures a
 
 pub returns : goal.returns
 returns c =
-    let taken = c.in-Base.ensures in
-    let x = c.in-Base.base in
+    let taken = c.in-Some.ensures in
+    let x = c.in-Some.base in
     (low c.requires.0.facts _ c.requires.2 x c.requires.1.port (taken c.requires.0), λ a. first a.facts _ c.requires.2 x (taken a))

@@ -1,16 +1,9 @@
--- `io_candidates::align` meets its contract: every power that was passed is below the count.
+-- `io_candidates::align` meets its contract: half of the power is below the count.
 -- Assumes nothing.
-use Rattle.facts.proofs.Words.{arith}
-use Rattle.facts.specs.{most_lines}
 use Rattle.io_candidates.proofs.{smallest_power}
 use Rattle.io_candidates.proofs.align.Goals as goal
 
-pub returns-then-count-step : goal.returns-then-count-step
-returns-then-count-step c =
-    let k = c.loop-k in
-    smallest_power _ k.k _ c.power-step.ensures c.if-count-step.true (λ j l. k.invariant.each j l)
-
 pub returns : goal.returns
 returns c =
-    let k = c.loop-k in
-    smallest_power _ most_lines _ c.power.ensures (omega (arith, c.power.ensures)) (λ j l. k.invariant.each j (omega arith))
+    let p = c.next_power_of_two.ensures in
+    smallest_power c.args.count p.power.0 _ p.power.1 p.lower_bound p.upper_bound

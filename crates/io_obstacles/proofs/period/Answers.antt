@@ -4,5 +4,4 @@ use Rattle.io_obstacles.proofs.{period_is}
 use Rattle.io_obstacles.proofs.period.Goals as goal
 
 pub returns : goal.returns
-returns c =
-    period_is c.args.limit c.args.step c.larger.result c.requires.0 c.requires.1 c.larger.ensures
+returns c = period_is c.args.limit c.args.step c.max.result c.requires.0 c.requires.1 c.max.ensures

@@ -9,6 +9,6 @@ pub loop-k-preserved : goal.loop-k-preserved
 loop-k-preserved c = (
   omega arith,
   flawless_more _ c.loop-k.invariant.1
-      (says_as (says_eq c.excess-flaws.result 0) (λ e. omega (arith, e, c.excess-flaws.ensures, c.word_u16-word.ensures))
-      (λ l. omega (arith, l, c.excess-flaws.ensures, c.word_u16-word.ensures))),
+      (says_as (says_eq _ 0) (λ e. omega (arith, e, c.word_u16-word.ensures))
+      (λ l. omega (arith, l, c.word_u16-word.ensures))),
 )

@@ -1,13 +1,11 @@
 -- `table_read::four_zero` meets its contract. The loop's invariant: of each stretch, what is or-ed together is zero exactly if the bytes passed are.
--- The measure is what is left of one. Assumes nothing.
+-- Assumes nothing.
 use Rattle.facts.proofs.Words.{arith}
 use Rattle.table_read.proofs.{quarters_more, quarters_says}
 use Rattle.table_read.proofs.four_zero.Goals as goal
 
--- where two of the four bytes of a turn were read, and where the turn began
-
 pub loop-i-preserved : goal.loop-i-preserved
-loop-i-preserved c = (omega arith, quarters_more _ _ _ _ _ _ _ _ _ _ c.loop-i.invariant.1)
+loop-i-preserved c = quarters_more _ _ _ _ _ _ _ _ _ _ c.loop-i.invariant
 
 pub returns : goal.returns
-returns c = quarters_says _ _ _ _ _ _ _ _ _ _ c.loop-i.invariant.1 _ (omega arith)
+returns c = quarters_says _ _ _ _ _ _ _ _ _ _ c.loop-i.invariant _ (omega arith)

@@ -1,3 +1,0 @@
--- The clauses of the checks. Assumes nothing.
-pub mod Clauses
-pub use Clauses.{attributes_good, sizes_good}
