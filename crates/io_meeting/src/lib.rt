@@ -9,32 +9,26 @@ ghost use Rattle.layout.specs.Reading.{facts_in};
 ghost use Rattle.layout.specs.Sound.{Accepted};
 ghost use Rattle.io_meeting.specs.Meeting.{MeetsAt};
 
-use facts::Seat;
+use facts::{Ports, Seat};
 use layout::MOST_SEATS;
-use seats::IoSeat;
 
 // Whether the ports meet those that are held at the seat.
-fn at(t: &[u8], base: usize, count: usize, lines: usize, s: Seat) -> bool
+fn at(t: &[u8], ports: Ports, s: Seat) -> bool
     requires accepted { Accepted t.now × (s.0 < Table.most_seats) }
-    requires ports { (base < Table.all_ports) × (count ≤ Table.all_ports) × (lines ≤ Table.most_lines) }
-    ensures { Says result (MeetsAt (facts_in t.now) (record { base = base; count = count; lines = lines }) s.0) }
+    requires few { (ports.base < Table.all_ports) × (ports.count ≤ Table.all_ports) × (ports.lines ≤ Table.most_lines) }
+    ensures { Says result (MeetsAt (facts_in t.now) ports s.0) }
 {
-    let IoSeat::Held(held) = seats::held(t, s) else {
-        return false;
-    };
-    io_ranges::meets(base, count, lines, held.base, held.count, held.lines)
+    match seats::held(t, s) {
+        Some(held) => io_ranges::meets(ports, held.ports),
+        None => false,
+    }
 }
 
 // Whether the ports meet some that are held.
-pub fn some(t: &[u8], base: usize, count: usize, lines: usize) -> bool
+pub fn some(t: &[u8], ports: Ports) -> bool
     requires accepted { Accepted t.now }
-    requires ports { (base < Table.all_ports) × (count ≤ Table.all_ports) × (lines ≤ Table.most_lines) }
-    ensures { Says result (MeetsHeld (facts_in t.now) (record { base = base; count = count; lines = lines })) }
+    requires few { (ports.base < Table.all_ports) × (ports.count ≤ Table.all_ports) × (ports.lines ≤ Table.most_lines) }
+    ensures { Says result (MeetsHeld (facts_in t.now) ports) }
 {
-    for s in 0..MOST_SEATS {
-        if at(t, base, count, lines, Seat(s)) {
-            return true;
-        }
-    }
-    false
+    (0..MOST_SEATS).any(|s| at(t, ports, Seat(s)))
 }

@@ -3,7 +3,7 @@ use Rattle.facts.proofs.Words.{◌≡◌, subst, ◌⊎◌, inl, inr, ⊎_elim, 
 use Rattle.facts.specs.{Lowest}
 use Rattle.table_read.specs.{SomeBelow}
 use Rattle.managed_holders.specs.declared.Holders.{Holders}
-use Rattle.managed_holders.specs.declared.Holders.TheVariants as holders
+use Rattle.std.specs.Prelude.{Option, Some, None}
 use Rattle.managed_holders.specs.{HereIs, AreBelow, together}
 
 module _ (n : ℕ) (Q : ℕ → ℕ → Type 0) where
@@ -34,7 +34,7 @@ module _ (n : ℕ) (Q : ℕ → ℕ → Type 0) where
         }
 
 -- the holders at the seats below n, and at n
-pub holders_more : (n : ℕ) (P : ℕ → ℕ → ℕ → Type 0) (some more : Holders) → AreBelow n P some → HereIs (P n) more → AreBelow (n + 1) P (together some more)
+pub holders_more : (n : ℕ) (P : ℕ → ℕ → ℕ → Type 0) (some more : Option Holders) → AreBelow n P some → HereIs (P n) more → AreBelow (n + 1) P (together some more)
 holders_more n P some more = in_each_case some more
   where
     Handles : ℕ → ℕ → Type 0
@@ -43,18 +43,18 @@ holders_more n P some more = in_each_case some more
     Shown : ℕ → ℕ → Type 0
     Shown s y = (x : ℕ) × P s x y
 
-    in_each_case : (some more : Holders) → AreBelow n P some → HereIs (P n) more → AreBelow (n + 1) P (together some more)
-    in_each_case holders.Nobody holders.Nobody none here = λ s l x y p.
+    in_each_case : (some more : Option Holders) → AreBelow n P some → HereIs (P n) more → AreBelow (n + 1) P (together some more)
+    in_each_case None None none here = λ s l x y p.
         ⊎_elim (λ q. none q.0 q.1 x q.2.0 q.2.1) (λ q. here x q.0 q.1) (below_or_here n Handles x (s, l, (y, p)))
-    in_each_case holders.Nobody (holders.Lowest k c) none here = (
-      lowest_first n Handles (c, here.0) (λ x q. (here.1 x q.0 q.1).0) (λ x q. none q.0 q.1 x q.2.0 q.2.1),
-      lowest_first n Shown (k.0, here.0) (λ y q. (here.1 q.0 y q.1).1) (λ y q. none q.0 q.1 q.2.0 y q.2.1),
+    in_each_case None (Some y) none here = (
+      lowest_first n Handles (y.shown, here.0) (λ x q. (here.1 x q.0 q.1).0) (λ x q. none q.0 q.1 x q.2.0 q.2.1),
+      lowest_first n Shown (y.lowest.0, here.0) (λ y q. (here.1 q.0 y q.1).1) (λ y q. none q.0 q.1 q.2.0 y q.2.1),
     )
-    in_each_case (holders.Lowest h a) holders.Nobody low here = (
+    in_each_case (Some x) None low here = (
       lowest_kept n Handles low.0 (λ x q. here x q.0 q.1),
       lowest_kept n Shown low.1 (λ y q. here q.0 y q.1),
     )
-    in_each_case (holders.Lowest h a) (holders.Lowest k c) low here = (
-      lowest_more n Handles (c, here.0) (λ x q. (here.1 x q.0 q.1).0) low.0,
-      lowest_more n Shown (k.0, here.0) (λ y q. (here.1 q.0 y q.1).1) low.1,
+    in_each_case (Some x) (Some y) low here = (
+      lowest_more n Handles (y.shown, here.0) (λ x q. (here.1 x q.0 q.1).0) low.0,
+      lowest_more n Shown (y.lowest.0, here.0) (λ y q. (here.1 q.0 y q.1).1) low.1,
     )

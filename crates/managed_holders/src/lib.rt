@@ -10,13 +10,12 @@ ghost use Rattle.managed_holders.specs.Holders.{HereIs, LevelHolds, PortsHold, t
 
 use facts::{Handle, Seat};
 use layout::MOST_SEATS;
-use seats::{IoSeat, IrqSeat};
 
 // The lowest handle of the holders, and the attributes that First and Next show of them.
-#[derive(Clone, Copy)]
-pub enum Holders {
-    Lowest(Handle, u8),
-    Nobody,
+#[derive(Clone, Copy, Debug, PartialEq, Eq)]
+pub struct Holders {
+    pub lowest: Handle,
+    pub shown: u8,
 }
 
 // "Bit 7 is set exactly if a live grant holds the level or a port of the range"; "For I/O, bit 0 is set if there are holders and all of them share."
@@ -25,83 +24,69 @@ const HELD: u8 = 0x80;
 const HELD_SHARED: u8 = HELD + 0x01;
 
 // Who holds the level at the seat, shown with the type of its grant.
-fn level_at(t: &[u8], l: usize, s: Seat) -> Holders
+fn level_at(t: &[u8], l: usize, s: Seat) -> Option<Holders>
     requires { (length t.now ≡ table_size) × (s.0 < Table.most_seats) }
     ensures { HereIs (LevelHolds (facts_in t.now) l s.0) result }
 {
-    let IrqSeat::Held(held) = seats::level_held(t, s) else {
-        return Holders::Nobody;
-    };
-    if held.level != l {
-        return Holders::Nobody;
+    let held = seats::level_held(t, s)?;
+    if held.level == l {
+        Some(Holders {
+            lowest: held.client,
+            shown: HELD + irq_levels::type_of(held.manner),
+        })
+    } else {
+        None
     }
-    let client = held.client;
-    let manner = held.manner;
-    Holders::Lowest(client, HELD + irq_levels::type_of(manner))
 }
 
 // Who holds one of the ports at the seat, shown as sharing or not.
-fn ports_at(t: &[u8], base: usize, count: usize, s: Seat) -> Holders
+fn ports_at(t: &[u8], base: usize, count: usize, s: Seat) -> Option<Holders>
     requires { (length t.now ≡ table_size) × (s.0 < Table.most_seats) }
     ensures { HereIs (PortsHold (facts_in t.now) base count s.0) result }
 {
-    let IoSeat::Held(held) = seats::held(t, s) else {
-        return Holders::Nobody;
-    };
-    if !io_ranges::overlaps(held.base, held.count, base, count) {
-        return Holders::Nobody;
+    let held = seats::held(t, s)?;
+    if io_ranges::overlaps(held.ports.base, held.ports.count, base, count) {
+        Some(Holders {
+            lowest: held.client,
+            shown: if held.shared { HELD_SHARED } else { HELD },
+        })
+    } else {
+        None
     }
-    let client = held.client;
-    if held.shared {
-        return Holders::Lowest(client, HELD_SHARED);
-    }
-    Holders::Lowest(client, HELD)
-}
-
-// The lower of two handles, and of two bytes.
-fn lower(a: Handle, b: Handle) -> Handle
-    ensures { result.0 ≡ min a.0 b.0 }
-{
-    if b.0 < a.0 { b } else { a }
-}
-
-fn lower_byte(a: u8, b: u8) -> u8
-    ensures { result ≡ min a b }
-{
-    if b < a { b } else { a }
 }
 
 // The holders at some seats and those at another: the lower of their handles, and of what is shown of them. All holders of a level have one type, and
 // HELD, of one that doesn't share, is below HELD_SHARED.
-fn joined(some: Holders, more: Holders) -> Holders
+fn joined(some: Option<Holders>, more: Option<Holders>) -> Option<Holders>
     ensures { result ≡ together some more }
 {
-    let Holders::Lowest(client, shown) = some else {
-        return more;
-    };
-    let Holders::Lowest(client2, shown2) = more else {
-        return some;
-    };
-    Holders::Lowest(lower(client, client2), lower_byte(shown, shown2))
+    match (some, more) {
+        (Some(x), Some(y)) => Some(Holders {
+            lowest: x.lowest.min(y.lowest),
+            shown: x.shown.min(y.shown),
+        }),
+        (x, None) => x,
+        (None, y) => y,
+    }
 }
 
 // "the handle answered is then the lowest of the holders' handles"; "For IRQ, bits 0 to 1 are the holders' type"
-pub fn of_level(t: &[u8], l: usize) -> Holders
+pub fn of_level(t: &[u8], l: usize) -> Option<Holders>
     requires { Accepted t.now }
     ensures { LevelHoldersAre t.now l result }
 {
-    let mut holders = Holders::Nobody;
+    let mut holders = None;
     for s in 0..MOST_SEATS {
         holders = joined(holders, level_at(t, l, Seat(s)));
     }
     holders
 }
 
-pub fn of_range(t: &[u8], base: usize, count: usize) -> Holders
+pub fn of_range(t: &[u8], base: usize, count: usize) -> Option<Holders>
     requires { Accepted t.now }
     ensures { RangeHoldersAre t.now base count result }
 {
-    let mut holders = Holders::Nobody;
+    let mut holders = None;
     for s in 0..MOST_SEATS {
         holders = joined(holders, ports_at(t, base, count, Seat(s)));
     }

@@ -1,3 +1,3 @@
--- The ways in which changes of levels end. Assumes nothing.
+-- A level is managed as its mark says, and held as its holders say; which level comes next. Assumes nothing.
 pub mod Ends
-pub use Ends.{marked_managed, managed_marked, unmarked_unmanaged, NoneFrom, none_more, next_found, next_none}
+pub use Ends.{managed_said, held_said, next_is}

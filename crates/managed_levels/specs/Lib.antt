@@ -1,3 +1,3 @@
 -- What is asked of managed levels. Assumes nothing.
 pub mod Asked
-pub use Asked.{AddsLevel, RemovesLevel, ManagingIs, NextLevelIs}
+pub use Asked.{AddsLevel, RemovesLevel, NextLevelIs}

@@ -2,34 +2,23 @@
 #![tactic(auto)]
 
 ghost use Rattle.std.specs.Prelude.{◌≡◌, ◌+◌, ◌<◌, length, set};
+ghost use Rattle.facts.specs.Says.{Says};
+ghost use Rattle.facts.specs.Packets.{byte};
 ghost use Rattle.facts.specs.Table;
 ghost use Rattle.layout.specs.Layout.{table_size};
 ghost use Rattle.layout.specs.Reading.{level_place};
 ghost use Rattle.layout.specs.Sound.{Accepted};
-ghost use Rattle.managed_levels.specs.Asked.{ManagingIs, NextLevelIs, AddsLevel, RemovesLevel};
+ghost use Rattle.managed_levels.specs.Asked.{NextLevelIs, AddsLevel, RemovesLevel};
 
 use facts::Code;
-use irq_levels::LevelNumber;
 use layout::{ALL_LEVELS, LEVEL_RESERVED_AT, LEVEL_SIZE, LEVELS_AT, MARKED};
-use managed_changes::{Bits, Change, Reserve};
-use managed_holders::Holders;
 
 // Whether a level is managed.
-#[derive(Clone, Copy)]
-pub enum Managing {
-    Managed,
-    Free,
-}
-
-fn whether_managed(t: &[u8], l: usize) -> Managing
+fn is_managed(t: &[u8], l: usize) -> bool
     requires { (length t.now ≡ table_size) × (l < Table.all_levels) }
-    ensures { ManagingIs t.now l result }
+    ensures { Says result (byte t.now (level_place l) ≡ 1) }
 {
-    if table_read::byte(t, LEVELS_AT + l * LEVEL_SIZE) == MARKED {
-        Managing::Managed
-    } else {
-        Managing::Free
-    }
+    table_read::byte(t, LEVELS_AT + l * LEVEL_SIZE) == MARKED
 }
 
 // A level's two marks.
@@ -42,64 +31,39 @@ fn mark(t: &mut [u8], l: usize, managed: u8, reserved: u8)
     t[at + LEVEL_RESERVED_AT] = reserved;
 }
 
-pub fn add(t: &mut [u8], level: u32, attributes: u8) -> Change
+pub fn add(t: &mut [u8], level: u32, attributes: u8) -> Result<(), Code>
     requires { Accepted t.old }
     ensures { AddsLevel level attributes t.old t.new result }
 {
-    let Reserve::Mark(reserved) = managed_changes::reserve_asked(attributes) else {
-        return Change::Refused(Code::BadAttribute);
-    };
-    let LevelNumber::Below(l) = irq_levels::below_levels(level) else {
-        return Change::Refused(Code::BadIrq);
-    };
-    let Managing::Free = whether_managed(t, l) else {
-        return Change::Refused(Code::InUse);
-    };
+    let reserved = managed_changes::reserve_asked(attributes)?;
+    let l = irq_levels::below_levels(level)?;
+    if is_managed(t, l) {
+        return Err(Code::InUse);
+    }
     mark(t, l, 1, reserved);
-    Change::Made
+    Ok(())
 }
 
-pub fn remove(t: &mut [u8], level: u32, attributes: u8) -> Change
+pub fn remove(t: &mut [u8], level: u32, attributes: u8) -> Result<(), Code>
     requires { Accepted t.old }
     ensures { RemovesLevel level attributes t.old t.new result }
 {
-    let Bits::Clear = managed_changes::no_bit(attributes) else {
-        return Change::Refused(Code::BadAttribute);
-    };
-    let LevelNumber::Below(l) = irq_levels::below_levels(level) else {
-        return Change::Refused(Code::BadIrq);
-    };
-    let Managing::Managed = whether_managed(t, l) else {
-        return Change::Refused(Code::BadIrq);
-    };
-    let Holders::Nobody = managed_holders::of_level(t, l) else {
-        return Change::Refused(Code::InUse);
-    };
+    managed_changes::no_bit(attributes)?;
+    let l = irq_levels::below_levels(level)?;
+    if !is_managed(t, l) {
+        return Err(Code::BadIrq);
+    }
+    if managed_holders::of_level(t, l).is_some() {
+        return Err(Code::InUse);
+    }
     mark(t, l, 0, 0);
-    Change::Made
+    Ok(())
 }
 
 // The lowest managed level that isn't below a number.
-#[derive(Clone, Copy)]
-pub enum NextLevel {
-    At(usize),
-    End,
-}
-
-pub fn next(t: &[u8], from: usize) -> NextLevel
+pub fn next(t: &[u8], from: usize) -> Option<usize>
     requires { Accepted t.now }
     ensures { NextLevelIs t.now from result }
 {
-    let mut l = from;
-    while l < ALL_LEVELS {
-        let found = whether_managed(t, l);
-        match found {
-            Managing::Managed => {
-                return NextLevel::At(l);
-            }
-            Managing::Free => {}
-        }
-        l += 1;
-    }
-    NextLevel::End
+    (from..ALL_LEVELS).find(|l| is_managed(t, *l))
 }

@@ -3,31 +3,27 @@ use Rattle.facts.proofs.Words.{◌≡◌, refl, ap, sym, ◌∙◌, subst, subst
 use Rattle.facts.proofs.Words.{add-zero, dec_lt, arith, length, get_or, set, length-set}
 use Rattle.facts.specs.declared.Ports.{Ports}
 use Rattle.layout.proofs.Of
-use Rattle.managed_ranges.specs.declared.PortsNamed.TheVariants as named
+use Rattle.std.specs.Prelude.{Result, Ok, Err}
 use Rattle.facts.specs.{Code, BadAttribute, BadBase, InUse, OutOfResource, Facts, Range, byte, with_word, with_long, Within, Has, Managed}
 use Rattle.facts.specs.{Check, ◌gives◌, FirstGiven, range_checks, range_removed, with_ranges, inserted, JustThat, RangeAnswered, put_checks, take_checks}
 use Rattle.facts.specs.{all_ports, most_lines, most_ranges, MeetsHeld}
 use Rattle.facts.proofs.{told, meet_symmetric}
 use Rattle.layout.specs.{image, mark, two, four, ranges_in, range_place, range_in, Accepted, range_base, TakenOut, PutIn, range_count_at}
-use Rattle.layout.specs.{range_reserved_at, range_size, handles_at, head_ranges, table_size, facts_in}
+use Rattle.layout.specs.{range_reserved_at, range_size, handles_at, head_ranges, table_size, facts_in, ManagedIn}
 use Rattle.layout.proofs.{below_at, byte_same, byte_other, word_length, word_low, word_high, word_other, long_length, long_bytes, long_other}
 use Rattle.layout.proofs.{range_put_in, range_taken_out, becomes}
 use Rattle.table_write.specs.{RoomMade}
 use Rattle.io_ranges.proofs.{answers_meet, meet_answers}
-use Rattle.managed_changes.specs.declared.Change.{Change}
-use Rattle.managed_changes.specs.declared.Change.TheVariants.{Made, Refused}
 use Rattle.managed_changes.specs.{Changes}
 use Rattle.managed_changes.proofs.{served_as}
-use Rattle.managed_ranges.specs.declared.NewPorts.TheVariants.{Taken}
-use Rattle.managed_ranges.specs.declared.RangeFound.TheVariants.{Nowhere}
-use Rattle.managed_ranges.specs.{NamesPorts, PortsNamedIs, FreeAt, FreeIs, FoundAt, FoundIs, Entered, TakesRange}
+use Rattle.managed_ranges.specs.{NamesPorts, PortsNamedIs, FreeAt, FoundAt, Entered, TakesRange}
 
 -- the checks that Add and Remove share, around those of their own; Bits says that the bits are right
 abbrev shared : Type 0 → ℕ → ℕ → ℕ → List Check → List Check
 shared Bits base n lines own = (((Bits → ⊥) ⊎ (lines ≢ most_lines)) gives BadAttribute) ∷ range_checks base n own
 
 -- ports that are named wrongly give the first code
-pub ports_wrong : {Bits : Type 0} {n lines : ℕ} {k : Code} (base : ℕ) (own : List Check) → Bits → PortsNamedIs base n lines (named.Wrong k)
+pub ports_wrong : {Bits : Type 0} {n lines : ℕ} {k : Code} (base : ℕ) (own : List Check) → Bits → PortsNamedIs base n lines (Err k)
     → FirstGiven (shared Bits base n lines own) k
 ports_wrong base own bits (inl x) = inl (inr x.0, x.1)
 ports_wrong base own bits (inr (l, inl x)) = inr (⊎_elim (λ n. n bits) l, inl x)
@@ -43,14 +39,14 @@ module _ {Bits : Type 0} {base n lines x y : ℕ} (own : ℕ → ℕ → Facts �
   counted : (n ≡ 0) ⊎ (all_ports < n) → ⊥
   counted = ⊎_elim (λ e. omega (arith, e, ports.least)) (λ l. omega (arith, ports.most))
 
-  pub own_change : (c : Change) → Changes (own x y) (after x y) b b' c
+  pub own_change : {T : Type 0} (c : Result T Code) → Changes (own x y) (after x y) b b' c
       → Changes (λ (F : Facts). shared Bits base n lines (own base n F)) (after base n) b b' c
   own_change c s = in_each_case c (subst₂ (λ (x y : ℕ). Changes (own x y) (after x y) b b' c) ports.base_is ports.count_is s)
     where
-      in_each_case : (c : Change) → Changes (own base n) (after base n) b b' c
+      in_each_case : {T : Type 0} (c : Result T Code) → Changes (own base n) (after base n) b b' c
           → Changes (λ (F : Facts). shared Bits base n lines (own base n F)) (after base n) b b' c
-      in_each_case Made = served_as (λ F G r. ((good, (counted, ((λ l. omega (arith, ports.within)), r.0))), r.1))
-      in_each_case (Refused k) = served_as (λ F G r. (inr (good, inr (counted, inr ((λ l. omega (arith, ports.within)), r.0))), r.1))
+      in_each_case (Ok x) = served_as (λ F G r. ((good, (counted, ((λ l. omega (arith, ports.within)), r.0))), r.1))
+      in_each_case (Err k) = served_as (λ F G r. (inr (good, inr (counted, inr ((λ l. omega (arith, ports.within)), r.0))), r.1))
 
 -- the ports of a range, all of whose lines count
 abbrev whole : ℕ → ℕ → Ports
@@ -58,7 +54,7 @@ whole base n = record { base = base; count = n; lines = most_lines }
 
 module _ {b : List ℕ} (a : Accepted b) {base n : ℕ} where
   -- ports put in
-  pub put_taken : FreeIs b base n Taken → FirstGiven (put_checks base n a.facts) InUse
+  pub put_taken : (p : ℕ) × Within p base n × ManagedIn b p → FirstGiven (put_checks base n a.facts) InUse
   put_taken x = inl ((x.0, x.1, Of.managed_said b a x.0 x.2), refl)
 
   module _ {i : ℕ} (f : FreeAt b base n i) where
@@ -71,7 +67,7 @@ module _ {b : List ℕ} (a : Accepted b) {base n : ℕ} where
 
     pub put_made : {b' : List ℕ} {m : ℕ} {t : Bool} → 1 ≤ n → ranges_in b < most_ranges → m ≡ mark t → Entered b b' i base n m
         → let new : Range = record { base = base; count = n; reserved = t } in
-        Changes (put_checks base n) (λ (F : Facts). with_ranges F (inserted new F.ranges)) b b' Made
+        Changes (put_checks base n) (λ (F : Facts). with_ranges F (inserted new F.ranges)) b b' (Ok (tt {0}))
     put_made {b'} port room e entered =
         becomes _ _ _ a _ ((unmanaged, ((λ h. omega (arith, Of.ranges_in_lem b a)), tt)), refl)
         (range_put_in b b' a _ i f.place.within (λ j l. omega (arith, f.place.ahead j l)) over (rw e at entered))
@@ -83,7 +79,7 @@ module _ {b : List ℕ} (a : Accepted b) {base n : ℕ} where
             told (dec_lt base (range_base b j)) (λ n. f.free base (omega arith) (j, h, omega (arith, ((Of.sound_in b a).ranges j h).port)))
 
   -- ports taken out
-  pub take_nowhere : FoundIs b base n Nowhere → FirstGiven (take_checks base n a.facts) BadBase
+  pub take_nowhere : ((i : ℕ) → FoundAt b base n i → ⊥) → FirstGiven (take_checks base n a.facts) BadBase
   take_nowhere none = inl (nobody, refl)
     where
       nobody : (r : Range) → JustThat a.facts base n r → ⊥
@@ -123,7 +119,7 @@ module _ {b : List ℕ} (a : Accepted b) {base n : ℕ} where
     take_held met = inr ((λ none. none _ just), inl ((_, just, met_answered f (rw (Of.facts_in_lem b a) met)), refl))
 
     pub take_made : {b' : List ℕ} → (MeetsHeld (facts_in b) (whole base n) → ⊥) → TakenOut b b' head_ranges (range_place i) range_size handles_at
-        → TakesRange base n b b' Made
+        → TakesRange base n b b' (Ok (tt {0}))
     take_made {b'} silent out =
         becomes _ _ _ a _
         (((λ none. none _ just), ((λ x. silent (rw (Of.facts_in_lem b a) at (answered_met x.0 x.1 x.2))), tt)), refl)

@@ -2,12 +2,11 @@
 use Rattle.facts.proofs.Words.{◌≡◌, refl, ap, ◌∙◌, subst, inl, inr, ⊎_elim, ◌≢◌, List, ℕ, ◌+◌, ◌-◌, ◌≤◌, ◌<◌, dec_le, dec_lt, arith, eq-or-lt_of_le}
 use Rattle.layout.proofs.Of
 use Rattle.facts.proofs.{told}
-use Rattle.managed_ranges.specs.declared.NextRange.TheVariants as next
-use Rattle.facts.specs.{Range, ◌∈◌, Within, all_ports}
+use Rattle.std.specs.Prelude.{Some, None, Err}
+use Rattle.facts.specs.{InUse, Range, ◌∈◌, Within, all_ports}
 use Rattle.layout.specs.{ranges_in, range_in, Accepted, RangesSound, ManagedIn, range_base, range_count, end_before_lem}
 use Rattle.layout.proofs.{range_end, end_before, ends_before, bases_rise}
-use Rattle.managed_ranges.specs.declared.NewPorts.TheVariants.{Free, Taken}
-use Rattle.managed_ranges.specs.{PlaceOf, StartIs, FreeIs, FoundAt, NextRangeIs}
+use Rattle.managed_ranges.specs.{PlaceOf, StartIs, FreeAt, FreeIs, FoundAt, NextRangeIs}
 
 -- no later range has a lower base
 rise : {b : List ℕ} → RangesSound b → (j i : ℕ) → j ≤ i → i < ranges_in b → range_base b j ≤ range_base b i
@@ -37,22 +36,23 @@ module _ {b : List ℕ} {from i : ℕ} (d : Down b from i) where
 module _ {b : List ℕ} (s : RangesSound b) where
   -- new ports and the ranges next to their place
   module _ {base count i : ℕ} (place : PlaceOf b base i) where
-    pub taken_before : 1 ≤ count → base < end_before_lem b i → FreeIs b base count Taken
+    pub taken_before : 1 ≤ count → base < end_before_lem b i → FreeIs b base count (Err InUse)
     taken_before c h =
         let some : i ≢ 0 = λ e. omega (arith, ap (end_before_lem b) e) in
         let held : Within base (range_base b (i - 1)) (range_count b (i - 1)) =
         omega (arith, place.ahead (i - 1) (omega arith), end_before b i some) in
-        (base, omega arith, (i - 1, omega (arith, place.within), held))
+        (refl, base, omega arith, (i - 1, omega (arith, place.within), held))
 
-    pub taken_after : {x : ℕ} → StartIs b i x → base + count ≤ all_ports → x < base + count → FreeIs b base count Taken
+    pub taken_after : {x : ℕ} → StartIs b i x → base + count ≤ all_ports → x < base + count → FreeIs b base count (Err InUse)
     taken_after (inl y) w h = (
+      refl,
       range_base b i,
       record { from = place.behind i (omega arith) y.0; below = omega (arith, y.1) },
       (i, y.0, omega (arith, (s i y.0).port)),
     )
     taken_after (inr y) w h = absurd (omega (arith, y.1))
 
-    pub untaken : {x : ℕ} → end_before_lem b i ≤ base → StartIs b i x → base + count ≤ x → FreeIs b base count (Free i)
+    pub untaken : {x : ℕ} → end_before_lem b i ≤ base → StartIs b i x → base + count ≤ x → FreeAt b base count i
     untaken {x} before after h = record { place = place; free = λ p w m. below_or_not p w m (dec_lt m.0 i) after }
       where
         ends : (j : ℕ) → j < i → range_end b j ≤ base
@@ -84,10 +84,10 @@ module _ {b : List ℕ} {from i : ℕ} (place : PlaceOf b from i) where
   past a r j e h =
       told (dec_le i j) (λ n. omega (arith, place.ahead j (omega arith), ap (λ (x : Range). x.base) e ∙ Of.range_base_lem b a j))
 
-  pub next_none : ranges_in b ≤ i → NextRangeIs b from next.End
+  pub next_none : ranges_in b ≤ i → NextRangeIs b from None
   next_none n a r m h = let x = Of.listed_range b a r m in omega (arith, past a r x.0 x.2 h, x.1)
 
-  pub next_found : i < ranges_in b → NextRangeIs b from (next.At (range_base b i) (range_count b i))
+  pub next_found : i < ranges_in b → NextRangeIs b from (Some (range_base b i, range_count b i))
   next_found l a =
       let here = Of.range_base_lem b a i in
       let listed = Of.range_listed b a i l in

@@ -6,89 +6,31 @@ ghost use Rattle.facts.specs.Table;
 ghost use Rattle.layout.specs.Layout.{table_size};
 ghost use Rattle.layout.specs.Reading.{ranges_in};
 ghost use Rattle.layout.specs.Sound.{Accepted, RangesSound};
-ghost use Rattle.managed_ranges.specs.Asked.{LinesAre, CountIs, PortsReach, PortsNamedIs, PlaceOf, StartIs, FreeIs, FoundIs, RoomIs, Entered, CardsAre};
+ghost use Rattle.managed_ranges.specs.Asked.{PortsNamedIs, PlaceOf, StartIs, FreeIs, FoundIs, Entered};
 ghost use Rattle.managed_ranges.specs.Asked.{NextRangeIs, PutsRange, TakesRange, AddsRange, RemovesRange};
 
-use facts::{Code, RangeAsked};
+use facts::{Code, Ports, RangeAsked};
 use layout::{
     ALL_PORTS, HANDLES_AT, MOST_LINES, MOST_RANGES, RANGE_COUNT_AT, RANGE_RESERVED_AT, RANGE_SIZE,
     RANGES_AT, RANGES_IN,
 };
-use managed_changes::{Bits, Change, Reserve};
 
-// "both need lines of 16 for I/O".
-#[derive(Clone, Copy)]
-pub enum Lines {
-    All,
-    Other,
-}
-
-fn lined(lines: u8) -> Lines
-    ensures { LinesAre lines result }
-{
-    if lines as usize == MOST_LINES {
-        Lines::All
-    } else {
-        Lines::Other
-    }
-}
-
-// "ports 0 or over 65,536 BAD_SIZE".
-#[derive(Clone, Copy)]
-pub enum PortCount {
-    Right,
-    Wrong,
-}
-
-fn counted(count: u32) -> PortCount
-    ensures { CountIs count result }
-{
-    if count == 0 {
-        return PortCount::Wrong;
-    }
-    if ALL_PORTS < count as usize {
-        return PortCount::Wrong;
-    }
-    PortCount::Right
-}
-
-// "a port past FFFF BAD_BASE".
-#[derive(Clone, Copy)]
-pub enum Reach {
-    Within,
-    Past,
-}
-
-fn reaches(base: u32, count: u32) -> Reach
-    ensures { PortsReach base count result }
-{
-    if ALL_PORTS < base as usize + count as usize {
-        Reach::Past
-    } else {
-        Reach::Within
-    }
-}
-
-// The ports that an Add or a Remove names, or the code of what is wrong with them.
-#[derive(Clone, Copy)]
-pub enum PortsNamed {
-    Ports(usize, usize),
-    Wrong(Code),
-}
-
-fn ports_named(r: RangeAsked) -> PortsNamed
+// The ports that an Add or a Remove names: "both need lines of 16 for I/O", "ports 0 or over 65,536 BAD_SIZE; a port past FFFF BAD_BASE".
+fn ports_named(r: RangeAsked) -> Result<(usize, usize), Code>
     ensures { PortsNamedIs r.base r.count r.lines result }
 {
-    let Lines::All = lined(r.lines) else {
-        return PortsNamed::Wrong(Code::BadAttribute);
-    };
-    let PortCount::Right = counted(r.count) else {
-        return PortsNamed::Wrong(Code::BadSize);
-    };
-    let Reach::Within = reaches(r.base, r.count) else {
-        return PortsNamed::Wrong(Code::BadBase);
-    };
-    PortsNamed::Ports(r.base as usize, r.count as usize)
+    let base = r.base as usize;
+    let count = r.count as usize;
+    if usize::from(r.lines) != MOST_LINES {
+        return Err(Code::BadAttribute);
+    }
+    if count == 0 || ALL_PORTS < count {
+        return Err(Code::BadSize);
+    }
+    if ALL_PORTS < base + count {
+        return Err(Code::BadBase);
+    }
+    Ok((base, count))
 }
 
 // How many ranges have a base below a number: where such a base belongs. The last ones are looked at first.
@@ -96,12 +38,10 @@ fn place(t: &[u8], from: usize) -> usize
     requires { (length t.now ≡ table_size) × (ranges_in t.now ≤ Table.most_ranges) × RangesSound t.now }
     ensures { PlaceOf t.now from result }
 {
-    let mut i = table_read::byte(t, RANGES_IN);
-    while 0 < i {
-        if table_read::word(t, RANGES_AT + (i - 1) * RANGE_SIZE) < from {
-            return i;
+    for i in (0..table_read::byte(t, RANGES_IN)).rev() {
+        if table_read::word(t, RANGES_AT + i * RANGE_SIZE) < from {
+            return i + 1;
         }
-        i -= 1;
     }
     0
 }
@@ -118,43 +58,19 @@ fn start(t: &[u8], i: usize) -> usize
 }
 
 // Where new ports belong, if none of them is managed: the ranges before and after that place are the nearest.
-#[derive(Clone, Copy)]
-pub enum NewPorts {
-    Free(usize),
-    Taken,
-}
-
-fn free(t: &[u8], base: usize, count: usize) -> NewPorts
+fn free(t: &[u8], base: usize, count: usize) -> Result<usize, Code>
     requires ranges { (length t.now ≡ table_size) × (ranges_in t.now ≤ Table.most_ranges) × RangesSound t.now }
     requires ports { (1 ≤ count) × (base + count ≤ Table.all_ports) }
     ensures { FreeIs t.now base count result }
 {
     let i = place(t, base);
     if base < managed_search::end_before(t, i) {
-        return NewPorts::Taken;
+        return Err(Code::InUse);
     }
     if start(t, i) < base + count {
-        return NewPorts::Taken;
+        return Err(Code::InUse);
     }
-    NewPorts::Free(i)
-}
-
-// Whether there is room for one more.
-#[derive(Clone, Copy)]
-pub enum Room {
-    Left,
-    Full,
-}
-
-fn has_room(t: &[u8]) -> Room
-    requires { length t.now ≡ table_size }
-    ensures { RoomIs t.now result }
-{
-    if table_read::byte(t, RANGES_IN) < MOST_RANGES {
-        Room::Left
-    } else {
-        Room::Full
-    }
+    Ok(i)
 }
 
 // The new range's record in the place i: those from there on move one place up.
@@ -171,88 +87,59 @@ fn enter(t: &mut [u8], i: usize, base: usize, count: usize, reserved: u8)
 }
 
 // The ports are put in, with their reserve mark: "a port already managed IN_USE; 32 ranges present OUT_OF_RESOURCE".
-fn put(t: &mut [u8], base: usize, count: usize, reserved: u8) -> Change
+fn put(t: &mut [u8], base: usize, count: usize, reserved: u8) -> Result<(), Code>
     requires { Accepted t.old × (1 ≤ count) × (base + count ≤ Table.all_ports) }
     ensures { PutsRange base count reserved t.old t.new result }
 {
-    let NewPorts::Free(i) = free(t, base, count) else {
-        return Change::Refused(Code::InUse);
-    };
-    let Room::Left = has_room(t) else {
-        return Change::Refused(Code::OutOfResource);
-    };
+    let i = free(t, base, count)?;
+    if MOST_RANGES <= table_read::byte(t, RANGES_IN) {
+        return Err(Code::OutOfResource);
+    }
     enter(t, i, base, count, reserved);
-    Change::Made
+    Ok(())
 }
 
-pub fn add(t: &mut [u8], r: RangeAsked) -> Change
+pub fn add(t: &mut [u8], r: RangeAsked) -> Result<(), Code>
     requires { Accepted t.old }
     ensures { AddsRange r.base r.count r.attributes r.lines t.old t.new result }
 {
-    let Reserve::Mark(reserved) = managed_changes::reserve_asked(r.attributes) else {
-        return Change::Refused(Code::BadAttribute);
-    };
-    let ports = ports_named(r);
-    match ports {
-        PortsNamed::Ports(base, count) => put(t, base, count, reserved),
-        PortsNamed::Wrong(code) => Change::Refused(code),
-    }
+    let reserved = managed_changes::reserve_asked(r.attributes)?;
+    let (base, count) = ports_named(r)?;
+    put(t, base, count, reserved)
 }
 
-// The place of the range with just that base and count.
-#[derive(Clone, Copy)]
-pub enum RangeFound {
-    At(usize),
-    Nowhere,
-}
-
-fn find(t: &[u8], base: usize, count: usize) -> RangeFound
+// The place of the range with just that base and count: "no range with just that base and count BAD_BASE".
+fn find(t: &[u8], base: usize, count: usize) -> Result<usize, Code>
     requires { (length t.now ≡ table_size) × (ranges_in t.now ≤ Table.most_ranges) × RangesSound t.now }
     ensures { FoundIs t.now base count result }
 {
     let i = place(t, base);
-    if table_read::byte(t, RANGES_IN) <= i {
-        return RangeFound::Nowhere;
-    }
     let at = RANGES_AT + i * RANGE_SIZE;
-    if table_read::word(t, at) != base {
-        return RangeFound::Nowhere;
-    }
-    if table_read::long(t, at + RANGE_COUNT_AT) != count {
-        return RangeFound::Nowhere;
-    }
-    RangeFound::At(i)
-}
-
-// "Remove is IN_USE if a live grant holds or is repeated at any port of the range" (K2): whether a card that is granted ports answers at one of these.
-#[derive(Clone, Copy)]
-pub enum Cards {
-    Silent,
-    Answering,
-}
-
-fn cards_at(t: &[u8], base: usize, count: usize) -> Cards
-    requires { Accepted t.now × (base < Table.all_ports) × (count ≤ Table.all_ports) }
-    ensures { CardsAre t.now base count result }
-{
-    if io_meeting::some(t, base, count, MOST_LINES) {
-        Cards::Answering
+    if i < table_read::byte(t, RANGES_IN)
+        && table_read::word(t, at) == base
+        && table_read::long(t, at + RANGE_COUNT_AT) == count
+    {
+        Ok(i)
     } else {
-        Cards::Silent
+        Err(Code::BadBase)
     }
 }
 
-// The ports are taken out: "no range with just that base and count BAD_BASE", and K2's IN_USE.
-fn take(t: &mut [u8], base: usize, count: usize) -> Change
+// The ports are taken out: "Remove is IN_USE if a live grant holds or is repeated at any port of the range" (K2), that is if a card that is granted ports
+// answers at one of these.
+fn take(t: &mut [u8], base: usize, count: usize) -> Result<(), Code>
     requires { Accepted t.old }
     ensures { TakesRange base count t.old t.new result }
 {
-    let RangeFound::At(i) = find(t, base, count) else {
-        return Change::Refused(Code::BadBase);
+    let i = find(t, base, count)?;
+    let ports = Ports {
+        base,
+        count,
+        lines: MOST_LINES,
     };
-    let Cards::Silent = cards_at(t, base, count) else {
-        return Change::Refused(Code::InUse);
-    };
+    if io_meeting::some(t, ports) {
+        return Err(Code::InUse);
+    }
     table_write::take_out(
         t,
         RANGES_IN,
@@ -260,41 +147,30 @@ fn take(t: &mut [u8], base: usize, count: usize) -> Change
         RANGE_SIZE,
         HANDLES_AT,
     );
-    Change::Made
+    Ok(())
 }
 
-pub fn remove(t: &mut [u8], r: RangeAsked) -> Change
+pub fn remove(t: &mut [u8], r: RangeAsked) -> Result<(), Code>
     requires { Accepted t.old }
     ensures { RemovesRange r.base r.count r.attributes r.lines t.old t.new result }
 {
-    let Bits::Clear = managed_changes::no_bit(r.attributes) else {
-        return Change::Refused(Code::BadAttribute);
-    };
-    let ports = ports_named(r);
-    match ports {
-        PortsNamed::Ports(base, count) => take(t, base, count),
-        PortsNamed::Wrong(code) => Change::Refused(code),
-    }
+    managed_changes::no_bit(r.attributes)?;
+    let (base, count) = ports_named(r)?;
+    take(t, base, count)
 }
 
 // The range with the lowest base that isn't below a number: its base and its count.
-#[derive(Clone, Copy)]
-pub enum NextRange {
-    At(usize, usize),
-    End,
-}
-
-pub fn next(t: &[u8], from: usize) -> NextRange
+pub fn next(t: &[u8], from: usize) -> Option<(usize, usize)>
     requires { Accepted t.now }
     ensures { NextRangeIs t.now from result }
 {
     let i = place(t, from);
     if table_read::byte(t, RANGES_IN) <= i {
-        return NextRange::End;
+        return None;
     }
     let at = RANGES_AT + i * RANGE_SIZE;
-    NextRange::At(
+    Some((
         table_read::word(t, at),
         table_read::long(t, at + RANGE_COUNT_AT),
-    )
+    ))
 }

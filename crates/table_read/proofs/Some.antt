@@ -1,21 +1,20 @@
--- What holds of some number below a bound: how a loop that stops at the first it finds decides it. Assumes nothing.
-use Rattle.facts.proofs.Words.{◌≡◌, Bool, true, false, ℕ, ◌+◌, ◌≤◌, ◌<◌, arith, Says}
+-- What holds of some number below a bound: `any` over a range. Assumes nothing.
+use Rattle.std.specs.Bool.{MatchBool}
+use Rattle.std.specs.List.{AllWithin, HoldsAt, range_with_len}
+use Rattle.std.proofs.lemmas.List.FromFn.{length-range_with_len, get_or-range_with_len}
+use Rattle.facts.proofs.Words.{sym, ◌∙◌, subst, Bool, true, false, ℕ, ◌<◌, arith, length, zero-add, Says}
 use Rattle.facts.proofs.{says_true, says_false}
-use Rattle.table_read.proofs.Below.{SoFar, so_far_more}
 
 abbrev pub Some : ℕ → (ℕ → Type 0) → Type 0
 Some n P = (i : ℕ) × (i < n) × P i
 
--- what the loop keeps: it has come to i, and none before i is P
-abbrev pub NoneYet : ℕ → (ℕ → Type 0) → ℕ → Type 0
-NoneYet n P = SoFar n (λ i. P i → ⊥)
-
-module _ {n : ℕ} {P : ℕ → Type 0} {r : Bool} {i : ℕ} where
-  pub none_next : NoneYet n P i → i < n → Says r (P i) → r ≡ false → NoneYet n P (i + 1)
-  none_next a h s e = so_far_more a h (s.fails e)
-
-  pub some_found : i < n → Says r (P i) → r ≡ true → Says true (Some n P)
-  some_found h s e = says_true (i, h, s.holds e)
-
-pub none_found : {n : ℕ} {P : ℕ → Type 0} {i : ℕ} → NoneYet n P i → n ≤ i → Says false (Some n P)
-none_found a h = says_false (λ x. a.each x.0 (omega (arith, x.1)) x.2)
+pub range_has : {P : ℕ → Type 0} (r : Bool) (n : ℕ)
+    → MatchBool r ((k : ℕ) × (k < length (range_with_len 0 n)) × HoldsAt P (range_with_len 0 n) k)
+    (AllWithin (λ i. P i → ⊥) (range_with_len 0 n) 0 (length (range_with_len 0 n)))
+    → Says r (Some n P)
+range_has {P} true n u =
+    let l : u.0 < n = omega (arith, u.1, length-range_with_len 0 n) in
+    says_true (u.0, l, subst P (get_or-range_with_len 0 n u.0 0 l ∙ zero-add u.0) (u.2 0))
+range_has {P} false n a =
+    says_false (λ x. a x.0 0 (omega arith) (omega (arith, x.1, length-range_with_len 0 n))
+    (subst P (sym (get_or-range_with_len 0 n x.0 0 x.1 ∙ zero-add x.0)) x.2))

@@ -1,36 +1,18 @@
 -- `managed_holders::ports_at` meets its contract: nothing is held at the seat, or other ports, or some of these, shared or not.
 -- Assumes nothing.
-use Rattle.facts.proofs.Words.{◌≡◌, ap, ◌∙◌, some, true, false}
+use Rattle.facts.proofs.Words.{true, false}
 use Rattle.facts.proofs.{says_yes, says_no}
-use Rattle.layout.specs.{facts_in}
-use Rattle.seats.specs.{range, io_at}
-use Rattle.seats.proofs.{io_read}
 use Rattle.managed_holders.proofs.{ports_free, ports_other, ports_here}
 use Rattle.managed_holders.proofs.ports_at.Goals as goal
 
-pub returns-in_default : goal.returns-in_default
-returns-in_default c =
-    let a = c.args in
-    let answered = io_read a.t.now a.s.0 c.requires.1 c.held.result c.held.ensures in
-    ports_free (facts_in a.t.now) _ _ a.s.0 (answered ∙ ap io_at c.in_default.is)
+pub returns-in_err-held : goal.returns-in_err-held
+returns-in_err-held c = rw c.from_residual.ensures (ports_free _ _ c.requires.1 c.args.base c.args.count c.in_err-held.ensures)
 
-pub returns-then-not-overlaps : goal.returns-then-not-overlaps
-returns-then-not-overlaps c =
-    let a = c.args in
-    let answered = io_read a.t.now a.s.0 c.requires.1 c.held.result c.held.ensures in
-    let found : (facts_in a.t.now).io a.s.0 ≡ some (range c.in-Held.held) = answered ∙ ap io_at c.in-Held.is in
-    ports_other (facts_in a.t.now) _ _ a.s.0 _ found (says_no c.overlaps.ensures c.if-not-overlaps.true)
+pub returns-else-overlaps : goal.returns-else-overlaps
+returns-else-overlaps c = ports_other _ _ c.requires.1 _ _ _ c.in_ok-held.ensures (says_no c.overlaps.ensures c.if-overlaps.false)
 
 pub returns-then-held : goal.returns-then-held
-returns-then-held c =
-    let a = c.args in
-    let answered = io_read a.t.now a.s.0 c.requires.1 c.held.result c.held.ensures in
-    let found : (facts_in a.t.now).io a.s.0 ≡ some (range c.in-Held.held) = answered ∙ ap io_at c.in-Held.is in
-    ports_here (facts_in a.t.now) _ _ a.s.0 _ found (says_yes c.overlaps.ensures c.if-not-overlaps.false) true c.if-held.true
+returns-then-held c = ports_here _ _ c.requires.1 _ _ _ c.in_ok-held.ensures (says_yes c.overlaps.ensures c.if-overlaps.true) true c.if-held.true
 
-pub returns : goal.returns
-returns c =
-    let a = c.args in
-    let answered = io_read a.t.now a.s.0 c.requires.1 c.held.result c.held.ensures in
-    let found : (facts_in a.t.now).io a.s.0 ≡ some (range c.in-Held.held) = answered ∙ ap io_at c.in-Held.is in
-    ports_here (facts_in a.t.now) _ _ a.s.0 _ found (says_yes c.overlaps.ensures c.if-not-overlaps.false) false c.if-held.false
+pub returns-else-held : goal.returns-else-held
+returns-else-held c = ports_here _ _ c.requires.1 _ _ _ c.in_ok-held.ensures (says_yes c.overlaps.ensures c.if-overlaps.true) false c.if-held.false

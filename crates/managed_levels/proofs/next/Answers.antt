@@ -1,17 +1,18 @@
--- `managed_levels::next` meets its contract. The invariant: from the number up to `l` no level is managed.
+-- `managed_levels::next` meets its contract: `find` gives the first level that is marked, or none is.
 -- Assumes nothing.
-use Rattle.facts.proofs.Words.{arith}
+use Rattle.std.proofs.lemmas.Iterator.{first_from_Range, serves_from_Range}
+use Rattle.facts.proofs.Words.{◌≡◌, ◌≢◌, ℕ, rules}
+use Rattle.facts.specs.{byte}
+use Rattle.layout.specs.{level_place}
 use Rattle.layout.proofs.{size_in}
-use Rattle.managed_levels.proofs.{next_found, next_none}
+use Rattle.managed_levels.proofs.{next_is}
 use Rattle.managed_levels.proofs.next.Goals as goal
 
-pub whether_managed-found-requires : goal.whether_managed-found-requires
-whether_managed-found-requires c = (size_in _ c.requires, omega arith)
-
-pub returns-in-Managed : goal.returns-in-Managed
-returns-in-Managed c =
-    let inv = c.loop-l.invariant in
-    next_found _ inv.1 inv.0 (omega (arith, c.loop-l-test.true)) c.in-Managed.ensures
+pub find-requires-clause-callable : goal.find-requires-clause-callable
+find-requires-clause-callable c = serves_from_Range (λ x q h. search rules) (λ x h l. let size = size_in c.args.t.now c.requires in search rules)
 
 pub returns : goal.returns
-returns c = next_none _ c.loop-l.invariant.1 (omega (arith, c.loop-l-test.false))
+returns c =
+    next_is c.requires _ c.find.result
+    (first_from_Range _ _ _ c.find.result (λ (l : ℕ). byte c.args.t.now (level_place l) ≡ 1) (λ (l : ℕ). byte c.args.t.now (level_place l) ≢ 1)
+    c.find.ensures.ran (λ x q h. search rules) (λ x q h. search rules))
