@@ -1,13 +1,35 @@
--- What holds of some number below a bound: `any` over a range. Assumes nothing.
+-- What holds of some number below a bound: how a loop that stops at the first it finds decides it, and `any` over a range. Assumes nothing.
+use denote.Param.Members.{Mut}
+use Rattle.std.specs.declared.ops.Range.{Range}
 use Rattle.std.specs.Bool.{MatchBool}
+use Rattle.std.specs.Fn.{Called}
+use Rattle.std.specs.Iterator.{ChecksAny}
 use Rattle.std.specs.List.{AllWithin, HoldsAt, range_with_len}
+use Rattle.std.proofs.iter.Yields.{nat_range_steps}
+use Rattle.std.proofs.lemmas.Iterator.{cases_from_any, YieldsList-from_range}
 use Rattle.std.proofs.lemmas.List.FromFn.{length-range_with_len, get_or-range_with_len}
-use Rattle.facts.proofs.Words.{sym, ◌∙◌, subst, Bool, true, false, ℕ, ◌<◌, arith, length, zero-add, Says}
+use Rattle.facts.proofs.Words.{◌≡◌, refl, sym, ◌∙◌, subst, Bool, true, false, ℕ, ◌+◌, ◌≤◌, ◌<◌, arith, length, zero-add, Says}
 use Rattle.facts.proofs.{says_true, says_false}
+use Rattle.table_read.proofs.Below.{SoFar, so_far_more}
 
 abbrev pub Some : ℕ → (ℕ → Type 0) → Type 0
 Some n P = (i : ℕ) × (i < n) × P i
 
+-- what the loop keeps: it has come to i, and none before i is P
+abbrev pub NoneYet : ℕ → (ℕ → Type 0) → ℕ → Type 0
+NoneYet n P = SoFar n (λ i. P i → ⊥)
+
+module _ {n : ℕ} {P : ℕ → Type 0} {r : Bool} {i : ℕ} where
+  pub none_next : NoneYet n P i → i < n → Says r (P i) → r ≡ false → NoneYet n P (i + 1)
+  none_next a h s e = so_far_more a h (s.fails e)
+
+  pub some_found : i < n → Says r (P i) → r ≡ true → Says true (Some n P)
+  some_found h s e = says_true (i, h, s.holds e)
+
+pub none_found : {n : ℕ} {P : ℕ → Type 0} {i : ℕ} → NoneYet n P i → n ≤ i → Says false (Some n P)
+none_found a h = says_false (λ x. a.each x.0 (omega (arith, x.1)) x.2)
+
+-- `any` over the numbers below n
 pub range_has : {P : ℕ → Type 0} (r : Bool) (n : ℕ)
     → MatchBool r ((k : ℕ) × (k < length (range_with_len 0 n)) × HoldsAt P (range_with_len 0 n) k)
     (AllWithin (λ i. P i → ⊥) (range_with_len 0 n) 0 (length (range_with_len 0 n)))
@@ -18,3 +40,11 @@ range_has {P} true n u =
 range_has {P} false n a =
     says_false (λ x. a x.0 0 (omega arith) (omega (arith, x.1, length-range_with_len 0 n))
     (subst P (sym (get_or-range_with_len 0 n x.0 0 x.1 ∙ zero-add x.0)) x.2))
+
+module _ {P : ℕ → Type 0} (n : ℕ) where
+  pub any_says : {F : Type 0} {g : Mut F (ℕ × Unit {0}) Bool} {f : F} {u : Range ℕ} {r : Bool}
+      → ChecksAny nat_range_steps g (record { start = 0; end = n }) f r u
+      → ((x : ℕ) (q : F) → Called g f (x, tt) true q → P x)
+      → ((x : ℕ) (q : F) → Called g f (x, tt) false q → (q ≡ f) × (P x → ⊥))
+      → Says r (Some n P)
+  any_says {F} {g} {f} {u} {r} ran yes' no' = range_has r n (cases_from_any u f r P (λ i. P i → ⊥) ran (YieldsList-from_range 0 n n refl (omega arith)) yes' no')
