@@ -60,10 +60,8 @@ fn in_the_way(t: &[u8], asked: IoAsked) -> Result<(), Code>
     requires { Accepted t.now × AskedFits asked }
     ensures { WayIs t.now asked result }
 {
-    for s in 0..MOST_SEATS {
-        if stands(t, asked, Seat(s)) {
-            return Err(Code::InUse);
-        }
+    if (0..MOST_SEATS).any(|s| stands(t, asked, Seat(s))) {
+        return Err(Code::InUse);
     }
     Ok(())
 }

@@ -1,4 +1,4 @@
--- What holds of some number below a bound: how a loop that stops at the first it finds decides it, and `any` over a range. Assumes nothing.
+-- What holds of some number below a bound: `any` over a range. Assumes nothing.
 use denote.Param.Members.{Mut}
 use Rattle.std.specs.declared.ops.Range.{Range}
 use Rattle.std.specs.Bool.{MatchBool}
@@ -10,27 +10,12 @@ use Rattle.std.proofs.lemmas.Iterator.{cases_from_any, YieldsList-from_range}
 use Rattle.std.proofs.lemmas.List.FromFn.{length-range_with_len, get_or-range_with_len}
 use Rattle.facts.proofs.Words.{◌≡◌, refl, sym, ◌∙◌, subst, Bool, true, false, ℕ, ◌+◌, ◌≤◌, ◌<◌, arith, length, zero-add, Says}
 use Rattle.facts.proofs.{says_true, says_false}
-use Rattle.table_read.proofs.Below.{SoFar, so_far_more}
 
 abbrev pub Some : ℕ → (ℕ → Type 0) → Type 0
 Some n P = (i : ℕ) × (i < n) × P i
 
--- what the loop keeps: it has come to i, and none before i is P
-abbrev pub NoneYet : ℕ → (ℕ → Type 0) → ℕ → Type 0
-NoneYet n P = SoFar n (λ i. P i → ⊥)
-
-module _ {n : ℕ} {P : ℕ → Type 0} {r : Bool} {i : ℕ} where
-  pub none_next : NoneYet n P i → i < n → Says r (P i) → r ≡ false → NoneYet n P (i + 1)
-  none_next a h s e = so_far_more a h (s.fails e)
-
-  pub some_found : i < n → Says r (P i) → r ≡ true → Says true (Some n P)
-  some_found h s e = says_true (i, h, s.holds e)
-
-pub none_found : {n : ℕ} {P : ℕ → Type 0} {i : ℕ} → NoneYet n P i → n ≤ i → Says false (Some n P)
-none_found a h = says_false (λ x. a.each x.0 (omega (arith, x.1)) x.2)
-
 -- `any` over the numbers below n
-pub range_has : {P : ℕ → Type 0} (r : Bool) (n : ℕ)
+range_has : {P : ℕ → Type 0} (r : Bool) (n : ℕ)
     → MatchBool r ((k : ℕ) × (k < length (range_with_len 0 n)) × HoldsAt P (range_with_len 0 n) k)
     (AllWithin (λ i. P i → ⊥) (range_with_len 0 n) 0 (length (range_with_len 0 n)))
     → Says r (Some n P)
