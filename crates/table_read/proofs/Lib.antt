@@ -7,7 +7,7 @@ pub mod Sets
 pub mod Some
 pub mod Zeros
 pub mod Quarters
-pub use Below.{All, all_none, all_more, SoFar, so_far_none, so_far_more, range_says}
+pub use Below.{All, all_none, all_more, SoFar, so_far_none, so_far_more}
 pub use Bits.{lowest_bit, higher_bit, no_bit}
 pub use Flaws.{Flawless, flawless_none, flawless_more, flawless_says}
 pub use Covering.{all_bits, none_common, common_says}
