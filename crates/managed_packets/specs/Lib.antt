@@ -1,3 +1,3 @@
 -- What the packets' fields say. Assumes nothing.
 pub mod Fields
-pub use Fields.{NamesBoth, HeadIs, FormIs, AskedIs, FromIs, FitIs, Written, attributes_shown_lem, handle_shown_lem, answer_of}
+pub use Fields.{number_of, ActionIs, NamesBoth, HeadIs, FormIs, AskedIs, FromIs, Written, attributes_shown_lem, handle_shown_lem}

@@ -2,17 +2,41 @@
 #![tactic(auto)]
 
 ghost use Rattle.std.specs.Prelude.{◌≡◌, length};
+ghost use Rattle.facts.specs.declared.Code.TheVariants.{BadSize};
+ghost use Rattle.facts.specs.Checks.{RefusedIf};
 ghost use Rattle.facts.specs.Resources;
-ghost use Rattle.managed_packets.specs.Fields.{HeadIs, FormIs, AskedIs, FromIs, FitIs, Written, answer_of, attributes_shown_lem, handle_shown_lem};
+ghost use Rattle.managed_packets.specs.Fields.{ActionIs, number_of, HeadIs, FormIs, AskedIs, FromIs, Written, attributes_shown_lem, handle_shown_lem};
 
-use facts::{Handle, RangeAsked, Width};
+use facts::{Code, Handle, RangeAsked, Width};
 use layout::MOST_LINES;
-use managed_changes::Change;
 use managed_holders::Holders;
-use service_answers::Answer;
+use seats::NOBODY;
 
-// The action First (5.3).
-pub const FIRST: u8 = 2;
+// The actions (5.3): Remove and Add; First and Next show what is managed.
+#[derive(Clone, Copy, Debug, PartialEq, Eq)]
+pub enum Action {
+    Remove,
+    Add,
+    First,
+    Next,
+}
+
+// "Then Action over 3: BAD_ARGS."
+impl TryFrom<u8> for Action {
+    type Error = Code;
+
+    ghost try_from_gives = { ActionIs };
+
+    fn try_from(action: u8) -> Result<Self, Code> {
+        match action {
+            0 => Ok(Action::Remove),
+            1 => Ok(Action::Add),
+            2 => Ok(Action::First),
+            3 => Ok(Action::Next),
+            4..=0xFF => Err(Code::BadArgs),
+        }
+    }
+}
 
 // The fields that every packet has.
 const ACTION_AT: usize = 0;
@@ -45,38 +69,24 @@ const WIDE_LINES_AT: usize = 11;
 const MOST_SHOWN: usize = 255;
 
 // The action and the resource that a packet names: "Length under 2: BAD_ARG_LENGTH."
-#[derive(Clone, Copy)]
-pub enum Head {
-    Names(u8, u8),
-    Broken,
-}
-
-pub fn named(p: &[u8]) -> Head
+pub fn named(p: &[u8]) -> Result<(u8, u8), Code>
     ensures { HeadIs p.now result }
 {
     if p.len() < HEAD_LENGTH {
-        return Head::Broken;
+        return Err(Code::BadArgLength);
     }
-    Head::Names(p[ACTION_AT], p[RESOURCE_AT])
+    Ok((p[ACTION_AT], p[RESOURCE_AT]))
 }
 
 // The width of an I/O packet: "I/O 7 or 12".
-#[derive(Clone, Copy)]
-pub enum Form {
-    Of(Width),
-    Neither,
-}
-
-pub fn width_of(p: &[u8]) -> Form
+pub fn width_of(p: &[u8]) -> Result<Width, Code>
     ensures { FormIs p.now result }
 {
-    if p.len() == SHORT_LENGTH {
-        return Form::Of(Width::Short);
+    match p.len() {
+        SHORT_LENGTH => Ok(Width::Short),
+        WIDE_LENGTH => Ok(Width::Wide),
+        _ => Err(Code::BadArgLength),
     }
-    if p.len() == WIDE_LENGTH {
-        return Form::Of(Width::Wide);
-    }
-    Form::Neither
 }
 
 // What a packet of a width asks for.
@@ -85,82 +95,54 @@ pub fn asked(p: &[u8], w: Width) -> RangeAsked
     ensures { AskedIs w p.now result }
 {
     match w {
-        Width::Short => {
-            let base = table_read::word(p, BASE_AT) as u32;
-            let count = table_read::byte(p, SHORT_COUNT_AT) as u32;
-            let attributes = p[SHORT_ATTRIBUTES_AT];
-            let lines = p[SHORT_LINES_AT];
-            RangeAsked {
-                base,
-                count,
-                attributes,
-                lines,
-            }
-        }
-        Width::Wide => {
-            let base = table_read::long(p, BASE_AT) as u32;
-            let count = table_read::long(p, WIDE_COUNT_AT) as u32;
-            let attributes = p[WIDE_ATTRIBUTES_AT];
-            let lines = p[WIDE_LINES_AT];
-            RangeAsked {
-                base,
-                count,
-                attributes,
-                lines,
-            }
-        }
+        Width::Short => RangeAsked {
+            base: table_read::word(p, BASE_AT) as u32,
+            count: u32::from(p[SHORT_COUNT_AT]),
+            attributes: p[SHORT_ATTRIBUTES_AT],
+            lines: p[SHORT_LINES_AT],
+        },
+        Width::Wide => RangeAsked {
+            base: table_read::long(p, BASE_AT) as u32,
+            count: table_read::long(p, WIDE_COUNT_AT) as u32,
+            attributes: p[WIDE_ATTRIBUTES_AT],
+            lines: p[WIDE_LINES_AT],
+        },
     }
 }
 
 // The number from which First or Next looks.
-pub fn from(action: u8, given: u32) -> usize
-    ensures { FromIs action given result }
+pub fn from(action: Action, given: u32) -> usize
+    ensures { FromIs (number_of action) given result }
 {
-    if action == FIRST {
-        return 0;
+    if action == Action::First {
+        0
+    } else {
+        given as usize + 1
     }
-    given as usize + 1
 }
 
-// Whether a packet of a width can show so many ports.
-#[derive(Clone, Copy)]
-pub enum Fit {
-    Shown,
-    TooMany,
-}
-
-pub fn can_show(w: Width, count: usize) -> Fit
-    ensures { FitIs w count result }
+// A packet of a width can show so many ports.
+pub fn can_show(w: Width, count: usize) -> Result<(), Code>
+    ensures { RefusedIf (Resources.TooMany w count) BadSize result }
 {
-    match w {
-        Width::Short => {
-            if MOST_SHOWN < count {
-                Fit::TooMany
-            } else {
-                Fit::Shown
-            }
-        }
-        Width::Wide => Fit::Shown,
+    if w == Width::Short && MOST_SHOWN < count {
+        Err(Code::BadSize)
+    } else {
+        Ok(())
     }
 }
 
 // What is shown of the holders: attributes and a handle.
-pub fn attributes_shown(x: Holders) -> u8
-    ensures { result ≡ attributes_shown_lem x }
+pub fn attributes_shown(holders: Option<Holders>) -> u8
+    ensures { result ≡ attributes_shown_lem holders }
 {
-    match x {
-        Holders::Lowest(_, attributes) => attributes,
-        Holders::Nobody => 0,
-    }
+    holders.map_or(0, |x| x.shown)
 }
 
-pub fn handle_shown(x: Holders) -> Handle
-    ensures { result.0 ≡ handle_shown_lem x }
+pub fn handle_shown(holders: Option<Holders>) -> Handle
+    ensures { result.0 ≡ handle_shown_lem holders }
 {
-    match x {
-        Holders::Lowest(h, _) => h,
-        Holders::Nobody => Handle(0),
-    }
+    holders.map_or(NOBODY, |x| x.lowest)
 }
 
 // "Written: base and ports, or level; attributes; lines 16."
@@ -181,15 +163,5 @@ pub fn write(p: &mut [u8], w: Width, base: usize, count: usize, attributes: u8)
             p[WIDE_ATTRIBUTES_AT] = attributes;
             p[WIDE_LINES_AT] = MOST_LINES as u8;
         }
-    }
-}
-
-// A change that is made answers the handle given.
-pub fn answer(c: Change, h: Handle) -> Answer
-    ensures { result ≡ answer_of c h }
-{
-    match c {
-        Change::Made => Answer::Done(h),
-        Change::Refused(code) => Answer::Refused(code),
     }
 }
