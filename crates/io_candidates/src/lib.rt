@@ -136,7 +136,7 @@ fn first(t: &[u8], search: &Search, mut known: Stretch) -> Option<usize>
     requires barring { Barring (Barred search.now) search.now.wanted.step known }
     ensures { FirstIs t.now (Barred search.now) search.now.wanted.count search.now.wanted.step result }
 {
-    for most in UNRESERVED..ALL + 1 {
+    for most in UNRESERVED..=ALL {
         if !some_marked(t, most) {
             return None;
         }
@@ -185,7 +185,7 @@ pub fn choose(t: &[u8], asked: IoAsked) -> Option<usize>
         count,
         step: align(count),
         limit,
-        few: grants.shortest(limit),
+        few: io_obstacles::shortest(grants.periods(), limit),
         gaps: io_obstacles::gaps_count(lines),
     };
     past_bars(t, asked, &grants, wanted)

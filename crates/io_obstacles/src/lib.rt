@@ -44,6 +44,16 @@ pub fn limit_of(lines: usize) -> u16
     (io_ranges::power(lines) - 1) as u16
 }
 
+// The shortest of the periods, less one, but for that of places that aren't used; the limit, where none is shorter. Of bars of 10 and of 16 lines it is
+// 2^10 - 1: the trailing zeros of 2^10 + 2^16 are the ten lines.
+pub fn shortest(periods: usize, limit: u16) -> u16
+    requires { Power (limit + 1) }
+    ensures { Power (result + 1) × (result ≤ limit) }
+{
+    let lines = (periods - periods % 2).trailing_zeros() as usize;
+    limit.min(limit_of(lines.min(MOST_LINES)))
+}
+
 // Whether gaps bar a base. A card that decodes all lines answers at its own ports alone, and for it they don't count.
 pub fn gaps_count(lines: usize) -> bool
     ensures { Says result (lines < Table.most_lines) }

@@ -3,8 +3,7 @@ ghost use Rattle.std.specs.Prelude.{ℕ, ◌+◌, ◌<◌, ◌≤◌, slice_inde
 ghost use Rattle.io_obstacles.specs.Powers.{around, Power};
 ghost use Rattle.io_obstacles.specs.Unique.{Powers-prop};
 
-use crate::limit_of;
-use layout::{MOST_LINES, MOST_RANGES, MOST_SEATS};
+use layout::{MOST_RANGES, MOST_SEATS};
 
 // A bar: so many bases from a start on, and again after each period. The period is a power of two; less one, its bits are all ones.
 #[derive(Clone, Copy)]
@@ -29,7 +28,10 @@ impl Bar {
         if limit < self.ones {
             return 0;
         }
-        self.width.saturating_sub(behind)
+        if self.width <= behind {
+            return 0;
+        }
+        self.width - behind
     }
 }
 
@@ -104,22 +106,11 @@ impl<const N: usize> Bars<N> {
 
     // The periods of the bars, a bit for each: two to so many lines. A place that isn't used has a period of one. With bars of 10 and of 16 lines it is
     // 1 + 2^10 + 2^16.
-    pub(crate) fn periods(&self) -> usize {
+    pub fn periods(&self) -> usize {
         let mut some = 0;
         for ones in &self.ones {
             some |= *ones as usize + 1;
         }
         some
-    }
-
-    // The shortest of the periods, less one, but for that of places that aren't used; the limit, where none is shorter. Of bars of 10 and of 16 lines it is
-    // 2^10 - 1: the trailing zeros of 2^10 + 2^16 are the ten lines.
-    pub fn shortest(&self, limit: u16) -> u16
-        requires { Power (limit + 1) }
-        ensures { Power (result + 1) × (result ≤ limit) }
-    {
-        let periods = self.periods();
-        let lines = (periods - periods % 2).trailing_zeros() as usize;
-        limit.min(limit_of(lines.min(MOST_LINES)))
     }
 }
