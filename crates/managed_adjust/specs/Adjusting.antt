@@ -1,15 +1,16 @@
 -- What AdjustResourceInfo's actions are given and answer. Assumes nothing.
-use Rattle.std.specs.Prelude.{◌≡◌, List, ℕ, ◌≤◌}
+use Rattle.std.specs.Prelude.{◌≡◌, List, ℕ, ◌≤◌, Result}
+use Rattle.facts.specs.declared.Code.{Code}
+use Rattle.facts.specs.declared.Handle.{Handle}
 use Rattle.facts.specs.Table.{Facts}
 use Rattle.facts.specs.Checks.{Rule}
 use Rattle.facts.specs.Resources.{action_of}
 use Rattle.layout.specs.Served.{ServedBy}
-use Rattle.service_answers.specs.declared.Answer.{Answer}
 use Rattle.service_answers.specs.Answers.{code_of, handle_of}
 use Rattle.managed_packets.specs.Fields.{NamesBoth}
 
 -- the rule R is served: it answers r, and leaves the packet p' and the table b'
-abbrev pub ServesBy : Rule → ℕ → List ℕ → List ℕ → List ℕ → List ℕ → Answer → Type 0
+abbrev pub ServesBy : Rule → ℕ → List ℕ → List ℕ → List ℕ → List ℕ → Result Handle Code → Type 0
 ServesBy R h p p' b b' r = ServedBy (λ (F : Facts). R F h p) b b' p' (code_of r) (handle_of r)
 
 -- the earlier checks passed, and the packet names the action and the resource

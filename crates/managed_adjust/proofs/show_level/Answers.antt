@@ -1,25 +1,27 @@
 -- `managed_adjust::show_level` meets its contract: no level follows, or the lowest that does is written, with what its holders show.
 -- Assumes nothing.
-use Rattle.facts.proofs.Words.{subst₂, ℕ, ◌<◌, arith}
-use Rattle.facts.specs.{action_of, level_given, all_levels}
-use Rattle.managed_packets.specs.{FromIs}
+use Rattle.facts.proofs.Words.{arith}
+use Rattle.facts.proofs.{handed, given, missing}
+use Rattle.facts.specs.{ShowLevel}
+use Rattle.managed_levels.specs.{NextLevelIs}
+use Rattle.managed_adjust.specs.{ServesBy}
 use Rattle.managed_adjust.proofs.{level_none, level_shown}
 use Rattle.managed_adjust.proofs.show_level.Goals as goal
 
-pub returns-in_default : goal.returns-in_default
-returns-in_default c =
-    let from_given : let p = c.args.p.now in FromIs (action_of p) (level_given p) c.from.result =
-    subst₂ (λ (x y : ℕ). FromIs x y c.from.result) c.requires.2.action_is c.byte-given.ensures.0 c.from.ensures in
-    level_none _ c.requires.0 from_given c.in_default.ensures
+pub returns-in_err-l : goal.returns-in_err-l
+returns-in_err-l c =
+    let none = missing (NextLevelIs c.args.t.now c.from-from.result) _ _ c.ok_or.ensures.value c.in_err-l.was c.next.ensures in
+    handed (ServesBy ShowLevel 0 _ _ _ _) _ c.from_residual.ensures none.0
+    (level_none _ c.requires.0 (rw (c.requires.2.action_is, c.from.ensures) at c.from-from.ensures) none.1)
 
 pub overflow_cast-p : goal.overflow_cast-p
 overflow_cast-p c =
-    let level_below : c.in-At.l < all_levels = let a = c.requires.0 in a.formed.levels c.in-At.l (c.in-At.ensures a).fits.0 in
-    omega (arith, level_below)
+    let a = c.requires.0 in
+    let at = given (NextLevelIs c.args.t.now c.from-from.result) _ _ c.ok_or.ensures.value c.in_ok-l.was c.next.ensures a in
+    omega (arith, a.formed.levels c.in_ok-l.l at.fits.0)
 
 pub returns : goal.returns
 returns c =
-    let from_given : let p = c.args.p.now in FromIs (action_of p) (level_given p) c.from.result =
-    subst₂ (λ (x y : ℕ). FromIs x y c.from.result) c.requires.2.action_is c.byte-given.ensures.0 c.from.ensures in
-    level_shown _ c.requires.0 from_given c.of_level-x.result c.in-At.ensures c.of_level-x.ensures
-    c.handle_shown.ensures (rw c.attributes_shown.ensures)
+    let at = given (NextLevelIs c.args.t.now c.from-from.result) _ _ c.ok_or.ensures.value c.in_ok-l.was c.next.ensures in
+    level_shown _ c.requires.0 (rw (c.requires.2.action_is, c.from.ensures) at c.from-from.ensures) c.of_level-holders.result at
+    c.of_level-holders.ensures c.handle_shown.ensures (rw c.attributes_shown.ensures)

@@ -1,28 +1,29 @@
 -- `managed_adjust::show_range` meets its contract at either width: no range follows, it has too many ports, or it is written, with what its holders show.
 -- Assumes nothing.
-use Rattle.facts.proofs.Words.{subst₂, ℕ}
-use Rattle.facts.specs.{action_of, base_given}
-use Rattle.managed_packets.specs.{FromIs}
+use Rattle.facts.proofs.{handed, given, missing}
+use Rattle.facts.specs.{ShowRange}
+use Rattle.managed_ranges.specs.{NextRangeIs}
+use Rattle.managed_adjust.specs.{ServesBy}
 use Rattle.managed_adjust.proofs.{range_none, range_too_many, range_shown}
 use Rattle.managed_adjust.proofs.show_range.Goals as goal
 
-pub returns-in_default : goal.returns-in_default
-returns-in_default c =
-    let from_given : let a = c.args in FromIs (action_of a.p.now) (base_given a.w a.p.now) c.from.result =
-    subst₂ (λ (x y : ℕ). FromIs x y c.from.result) c.requires.2.action_is c.asked-a.ensures.base_is c.from.ensures in
-    range_none _ c.requires.0 from_given c.in_default.ensures
+pub returns-in_err-base : goal.returns-in_err-base
+returns-in_err-base c =
+    let none = missing (NextRangeIs c.args.t.now c.from-from.result) _ _ c.ok_or.ensures.value c.in_err-base.was c.next.ensures in
+    handed (ServesBy (ShowRange c.args.w) 0 _ _ _ _) _ c.from_residual.ensures none.0
+    (range_none _ c.requires.0 (rw (c.requires.2.action_is, c.asked.ensures.base_is) at c.from-from.ensures) none.1)
 
-pub returns-in_default-can_show : goal.returns-in_default-can_show
-returns-in_default-can_show c =
-    let from_given : let a = c.args in FromIs (action_of a.p.now) (base_given a.w a.p.now) c.from.result =
-    subst₂ (λ (x y : ℕ). FromIs x y c.from.result) c.requires.2.action_is c.asked-a.ensures.base_is c.from.ensures in
+pub returns-in_err-can_show : goal.returns-in_err-can_show
+returns-in_err-can_show c =
+    let at = given (NextRangeIs c.args.t.now c.from-from.result) _ _ c.ok_or.ensures.value c.in_ok-base.was c.next.ensures in
+    let many = c.in_err-can_show.ensures in
     let a = c.requires.0 in
-    range_too_many _ a from_given (c.in-At.ensures a) c.in_default-can_show.ensures
+    handed (ServesBy (ShowRange c.args.w) 0 _ _ _ _) _ c.from_residual-in_err-can_show.ensures many.0
+    (range_too_many _ a (rw (c.requires.2.action_is, c.asked.ensures.base_is) at c.from-from.ensures) (at a) many.1)
 
 pub returns : goal.returns
 returns c =
-    let from_given : let a = c.args in FromIs (action_of a.p.now) (base_given a.w a.p.now) c.from.result =
-    subst₂ (λ (x y : ℕ). FromIs x y c.from.result) c.requires.2.action_is c.asked-a.ensures.base_is c.from.ensures in
+    let at = given (NextRangeIs c.args.t.now c.from-from.result) _ _ c.ok_or.ensures.value c.in_ok-base.was c.next.ensures in
     let a = c.requires.0 in
-    range_shown _ a from_given (c.in-At.ensures a) c.of_range-x.result c.in-Shown.ensures
-    c.of_range-x.ensures c.handle_shown.ensures (rw c.attributes_shown.ensures at c.write.ensures)
+    range_shown _ a (rw (c.requires.2.action_is, c.asked.ensures.base_is) at c.from-from.ensures) (at a) c.of_range-holders.result
+    c.in_ok-can_show.ensures c.of_range-holders.ensures c.handle_shown.ensures (rw c.attributes_shown.ensures at c.write.ensures)
