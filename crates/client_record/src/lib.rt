@@ -111,10 +111,10 @@ pub fn live(t: &[u8], h: Handle) -> bool
 
 // Whether the client listed in the place `i` holds a mask at the seat.
 pub fn mask_on(t: &[u8], i: usize, s: Seat) -> bool
-    requires { (length t.now ≡ table_size) × (i < Table.most_clients) × (s.0 < Table.most_seats) }
-    ensures { Says result (MaskUsed t.now i s.0) }
+    requires { (length t.now ≡ table_size) × (i < Table.most_clients) }
+    ensures { Says result (MaskUsed t.now i s.number) }
 {
-    let number = s.0;
+    let number = s.number;
     let at = MASKS_AT + i * MASKS_SIZE + number * MASK_SIZE;
     table_read::word(t, at) != 0
 }

@@ -81,8 +81,8 @@ pub fn register(t: &mut [u8], p: &[u8]) -> Result<Handle, Code>
 
 // Whether the client holds a grant at the seat.
 fn grant_on(t: &[u8], s: Seat, h: Handle) -> bool
-    requires { (length t.now ≡ table_size) × (s.0 < Table.most_seats) }
-    ensures { Says result (GrantAt t.now h.0 s.0) }
+    requires { length t.now ≡ table_size }
+    ensures { Says result (GrantAt t.now h.0 s.number) }
 {
     seats::io_held_by(t, s, h) || seats::irq_held_by(t, s, h)
 }
@@ -91,7 +91,7 @@ fn grant_held(t: &[u8], h: Handle) -> bool
     requires { length t.now ≡ table_size }
     ensures { Says result (GrantHeld t.now h.0) }
 {
-    (0..MOST_SEATS).any(|s| grant_on(t, Seat(s), h))
+    (0..MOST_SEATS).any(|s| grant_on(t, Seat::new(s), h))
 }
 
 // Whether the client listed in the place i holds a mask.
@@ -99,7 +99,7 @@ fn mask_held(t: &[u8], i: usize) -> bool
     requires { (length t.now ≡ table_size) × (i < Table.most_clients) }
     ensures { Says result (MaskHeldIn t.now i) }
 {
-    (0..MOST_SEATS).any(|s| client_record::mask_on(t, i, Seat(s)))
+    (0..MOST_SEATS).any(|s| client_record::mask_on(t, i, Seat::new(s)))
 }
 
 // The client listed in the place i, whose handle is h, holds neither a grant nor a mask.

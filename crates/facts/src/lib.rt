@@ -2,7 +2,7 @@
 // asks for and a boot record. What a table says, which sets of facts are well formed and what each call does with them is in specs/.
 #![tactic(auto)]
 
-ghost use Rattle.std.specs.Prelude.{◌≡◌};
+ghost use Rattle.std.specs.Prelude.{◌≡◌, ◌<◌};
 ghost use Rattle.facts.specs.Codes.{number_of};
 
 use std::error::Error;
@@ -16,9 +16,22 @@ pub struct Handle(pub u16);
 #[derive(Clone, Copy, Debug, PartialEq, Eq)]
 pub struct Socket(pub usize);
 
-// A seat: where a grant or a mask stands. Today each socket has one, which has its number; with functions, each function of a socket will have one.
+// A seat: where a grant or a mask stands, one of a table's. Today each socket has one, which has its number; with functions, each function of a socket will
+// have one.
 #[derive(Clone, Copy, Debug, PartialEq, Eq)]
-pub struct Seat(pub usize);
+pub struct Seat {
+    pub number: usize,
+    pub ghost in_table: { number < 8 },
+}
+
+impl Seat {
+    pub fn new(number: usize) -> Seat
+        requires { number < 8 }
+        ensures { result.number ≡ number }
+    {
+        Seat { number }
+    }
+}
 
 // Ports as a card with so many decoded lines answers to them.
 #[derive(Clone, Copy, Debug, PartialEq, Eq)]

@@ -16,8 +16,8 @@ use layout::{IO_BASE_AT, IO_COUNT_AT, IO_LINES_AT, IO_SHARED_AT, IRQ_LEVEL_AT, I
 
 // The record of the seat's I/O grant: client, base, count, lines and shared mark; of none it is nobody's, and zeros.
 pub fn enter_ports(t: &mut [u8], seat: Seat, h: Handle, ports: Ports, shared: usize)
-    requires { (length t.old ≡ table_size) × (seat.0 < Table.most_seats) × (ports.base < 65536) × (ports.count < 256) × (ports.lines < 256) × (shared < 256) }
-    ensures { t.new ≡ io_entered t.old seat.0 h.0 ports.base ports.count ports.lines shared }
+    requires { (length t.old ≡ table_size) × (ports.base < 65536) × (ports.count < 256) × (ports.lines < 256) × (shared < 256) }
+    ensures { t.new ≡ io_entered t.old seat.number h.0 ports.base ports.count ports.lines shared }
 {
     let at = seats::io_place(seat);
     table_write::put_word(t, at, h.0 as usize);
@@ -29,8 +29,8 @@ pub fn enter_ports(t: &mut [u8], seat: Seat, h: Handle, ports: Ports, shared: us
 
 // "BAD_BASE unless this client holds that base and count on this socket."
 pub fn ports_of(t: &[u8], seat: Seat, h: Handle, base: usize, count: usize) -> Result<(), Code>
-    requires { (length t.now ≡ table_size) × (seat.0 < Table.most_seats) }
-    ensures { Checked (IoHeld (facts_in t.now) h.0 seat.0 base count) BadBase result }
+    requires { length t.now ≡ table_size }
+    ensures { Checked (IoHeld (facts_in t.now) h.0 seat.number base count) BadBase result }
 {
     let Some(x) = seats::held(t, seat) else {
         return Err(Code::BadBase);
@@ -41,8 +41,8 @@ pub fn ports_of(t: &[u8], seat: Seat, h: Handle, base: usize, count: usize) -> R
 
 // The record of the seat's IRQ grant: client, level and manner; of none it is nobody's, and zeros.
 pub fn enter_level(t: &mut [u8], seat: Seat, h: Handle, level: usize, manner: usize)
-    requires { (length t.old ≡ table_size) × (seat.0 < Table.most_seats) × (level < Table.all_levels) × (manner < 256) }
-    ensures { t.new ≡ irq_entered t.old seat.0 h.0 level manner }
+    requires { (length t.old ≡ table_size) × (level < Table.all_levels) × (manner < 256) }
+    ensures { t.new ≡ irq_entered t.old seat.number h.0 level manner }
 {
     let at = seats::irq_place(seat);
     table_write::put_word(t, at, h.0 as usize);
@@ -52,8 +52,8 @@ pub fn enter_level(t: &mut [u8], seat: Seat, h: Handle, level: usize, manner: us
 
 // The manner in which this client holds this level at the seat: "BAD_IRQ unless this client holds that level".
 pub fn level_of(t: &[u8], seat: Seat, h: Handle, level: usize) -> Result<Manner, Code>
-    requires { (length t.now ≡ table_size) × (seat.0 < Table.most_seats) }
-    ensures { LevelOf (facts_in t.now) h.0 seat.0 level result }
+    requires { length t.now ≡ table_size }
+    ensures { LevelOf (facts_in t.now) h.0 seat.number level result }
 {
     let Some(x) = seats::level_held(t, seat) else {
         return Err(Code::BadIrq);

@@ -52,7 +52,7 @@ pub fn grant_bars(t: &[u8], count: usize, lines: usize) -> Bars<GRANT_PLACES>
 {
     let mut bars = Bars::none();
     for s in 0..MOST_SEATS {
-        let ports = ports_of(seats::held(t, Seat(s)));
+        let ports = ports_of(seats::held(t, Seat::new(s)));
         bars.enter(s, bar_of(ports, count, lines));
     }
     bars

@@ -41,8 +41,8 @@ fn apart(asked: IoAsked, held: HeldPorts) -> bool
 
 // Whether what is held at the seat is in the way of a base that is named: the ports meet, and they aren't shared.
 fn stands(t: &[u8], asked: IoAsked, s: Seat) -> bool
-    requires { Accepted t.now × (s.0 < Table.most_seats) × AskedFits asked }
-    ensures { Says result (StandsAt (facts_in t.now) asked s.0) }
+    requires { Accepted t.now × AskedFits asked }
+    ensures { Says result (StandsAt (facts_in t.now) asked s.number) }
 {
     let Some(x) = seats::held(t, s) else {
         return false;
@@ -60,7 +60,7 @@ fn in_the_way(t: &[u8], asked: IoAsked) -> Result<(), Code>
     requires { Accepted t.now × AskedFits asked }
     ensures { WayIs t.now asked result }
 {
-    if (0..MOST_SEATS).any(|s| stands(t, asked, Seat(s))) {
+    if (0..MOST_SEATS).any(|s| stands(t, asked, Seat::new(s))) {
         return Err(Code::InUse);
     }
     Ok(())

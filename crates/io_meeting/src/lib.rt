@@ -14,9 +14,9 @@ use layout::MOST_SEATS;
 
 // Whether the ports meet those that are held at the seat.
 fn at(t: &[u8], ports: Ports, s: Seat) -> bool
-    requires accepted { Accepted t.now × (s.0 < Table.most_seats) }
+    requires accepted { Accepted t.now }
     requires few { (ports.base < Table.all_ports) × (ports.count ≤ Table.all_ports) × (ports.lines ≤ Table.most_lines) }
-    ensures { Says result (MeetsAt (facts_in t.now) ports s.0) }
+    ensures { Says result (MeetsAt (facts_in t.now) ports s.number) }
 {
     match seats::held(t, s) {
         Some(held) => io_ranges::meets(ports, held.ports),
@@ -30,5 +30,5 @@ pub fn some(t: &[u8], ports: Ports) -> bool
     requires few { (ports.base < Table.all_ports) × (ports.count ≤ Table.all_ports) × (ports.lines ≤ Table.most_lines) }
     ensures { Says result (MeetsHeld (facts_in t.now) ports) }
 {
-    (0..MOST_SEATS).any(|s| at(t, ports, Seat(s)))
+    (0..MOST_SEATS).any(|s| at(t, ports, Seat::new(s)))
 }

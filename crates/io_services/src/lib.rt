@@ -32,8 +32,8 @@ fn mark_of(shared: bool) -> usize
 
 // The grant that is asked for is entered at a base; "Success writes BasePort1."
 fn enter_asked(t: &mut [u8], seat: Seat, h: Handle, base: usize, asked: IoAsked, p: &mut [u8])
-    requires { (length t.old ≡ table_size) × (seat.0 < Table.most_seats) × (base < 65536) × AskedFits asked × (length p.old ≡ request_io_length) }
-    ensures entered { t.new ≡ asked_entered t.old seat.0 h.0 base asked }
+    requires { (length t.old ≡ table_size) × (base < 65536) × AskedFits asked × (length p.old ≡ request_io_length) }
+    ensures entered { t.new ≡ asked_entered t.old seat.number h.0 base asked }
     ensures written { p.new ≡ with_word p.old 2 base }
 {
     let ports = Ports {

@@ -30,8 +30,8 @@ pub struct Levels {
 
 // The level that is held at the seat.
 fn levels_at(t: &[u8], asked: IrqAsked, s: Seat) -> Levels
-    requires { Accepted t.now × (s.0 < Table.most_seats) }
-    ensures { LevelsAt (facts_in t.now) asked s.0 result }
+    requires { Accepted t.now }
+    ensures { LevelsAt (facts_in t.now) asked s.number result }
 {
     let Some(held) = seats::level_held(t, s) else {
         return Levels {
@@ -61,7 +61,7 @@ fn levels_held(t: &[u8], asked: IrqAsked) -> Levels
     let mut way = 0;
     let mut together = 0;
     for s in 0..MOST_SEATS {
-        let here = levels_at(t, asked, Seat(s));
+        let here = levels_at(t, asked, Seat::new(s));
         way |= here.way;
         together |= here.together;
     }

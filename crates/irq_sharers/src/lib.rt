@@ -17,8 +17,8 @@ use seats::IrqSeat;
 
 // One for a grant of the level at the seat, else none.
 fn sharer(t: &[u8], level: usize, s: Seat) -> usize
-    requires { (length t.now ≡ table_size) × (s.0 < Table.most_seats) }
-    ensures { (result ≡ Irq.sharer level ((facts_in t.now).irq s.0)) × (result ≤ 1) }
+    requires { length t.now ≡ table_size }
+    ensures { (result ≡ Irq.sharer level ((facts_in t.now).irq s.number)) × (result ≤ 1) }
 {
     let IrqSeat::Held(held) = seats::level_held(t, s) else {
         return 0;
@@ -37,7 +37,7 @@ fn count(t: &[u8], level: usize) -> usize
     let sockets = table_read::byte(t, SOCKETS_IN);
     let mut n = 0;
     for s in 0..sockets {
-        n += sharer(t, level, Seat(s));
+        n += sharer(t, level, Seat::new(s));
     }
     n
 }

@@ -25,8 +25,8 @@ const HELD_SHARED: u8 = HELD + 0x01;
 
 // Who holds the level at the seat, shown with the type of its grant.
 fn level_at(t: &[u8], l: usize, s: Seat) -> Option<Holders>
-    requires { (length t.now ≡ table_size) × (s.0 < Table.most_seats) }
-    ensures { HereIs (LevelHolds (facts_in t.now) l s.0) result }
+    requires { length t.now ≡ table_size }
+    ensures { HereIs (LevelHolds (facts_in t.now) l s.number) result }
 {
     let held = seats::level_held(t, s)?;
     if held.level == l {
@@ -41,8 +41,8 @@ fn level_at(t: &[u8], l: usize, s: Seat) -> Option<Holders>
 
 // Who holds one of the ports at the seat, shown as sharing or not.
 fn ports_at(t: &[u8], base: usize, count: usize, s: Seat) -> Option<Holders>
-    requires { (length t.now ≡ table_size) × (s.0 < Table.most_seats) }
-    ensures { HereIs (PortsHold (facts_in t.now) base count s.0) result }
+    requires { length t.now ≡ table_size }
+    ensures { HereIs (PortsHold (facts_in t.now) base count s.number) result }
 {
     let held = seats::held(t, s)?;
     if io_ranges::overlaps(held.ports.base, held.ports.count, base, count) {
@@ -77,7 +77,7 @@ pub fn of_level(t: &[u8], l: usize) -> Option<Holders>
 {
     let mut holders = None;
     for s in 0..MOST_SEATS {
-        holders = joined(holders, level_at(t, l, Seat(s)));
+        holders = joined(holders, level_at(t, l, Seat::new(s)));
     }
     holders
 }
@@ -88,7 +88,7 @@ pub fn of_range(t: &[u8], base: usize, count: usize) -> Option<Holders>
 {
     let mut holders = None;
     for s in 0..MOST_SEATS {
-        holders = joined(holders, ports_at(t, base, count, Seat(s)));
+        holders = joined(holders, ports_at(t, base, count, Seat::new(s)));
     }
     holders
 }

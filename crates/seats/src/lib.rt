@@ -2,7 +2,6 @@
 #![tactic(auto)]
 
 ghost use Rattle.std.specs.Prelude.{◌≡◌, ◌+◌, ◌<◌, ◌≤◌, length};
-ghost use Rattle.facts.specs.Table;
 ghost use Rattle.facts.specs.Says.{Says};
 ghost use Rattle.layout.specs.Layout.{table_size, io_size, irq_size};
 ghost use Rattle.layout.specs.Reading.{io_place_lem, irq_place_lem};
@@ -16,17 +15,15 @@ use layout::{
 
 // Where the record of a seat's I/O grant begins, and that of its IRQ grant.
 pub fn io_place(s: Seat) -> usize
-    requires { s.0 < Table.most_seats }
-    ensures { (result ≡ io_place_lem s.0) × (result + io_size ≤ table_size) }
+    ensures { (result ≡ io_place_lem s.number) × (result + io_size ≤ table_size) }
 {
-    IOS_AT + s.0 * IO_SIZE
+    IOS_AT + s.number * IO_SIZE
 }
 
 pub fn irq_place(s: Seat) -> usize
-    requires { s.0 < Table.most_seats }
-    ensures { (result ≡ irq_place_lem s.0) × (result + irq_size ≤ table_size) }
+    ensures { (result ≡ irq_place_lem s.number) × (result + irq_size ≤ table_size) }
 {
-    IRQS_AT + s.0 * IRQ_SIZE
+    IRQS_AT + s.number * IRQ_SIZE
 }
 
 // The handle that is never live: the record of no grant says it.
@@ -50,8 +47,8 @@ pub struct HeldPorts {
 
 // What a seat's I/O grant holds, if there is one.
 pub fn held(t: &[u8], s: Seat) -> Option<HeldPorts>
-    requires { (length t.now ≡ table_size) × (s.0 < Table.most_seats) }
-    ensures { HeldIs t.now s.0 result }
+    requires { length t.now ≡ table_size }
+    ensures { HeldIs t.now s.number result }
 {
     let at = io_place(s);
     let client = table_read::handle(t, at);
@@ -71,8 +68,8 @@ pub fn held(t: &[u8], s: Seat) -> Option<HeldPorts>
 
 // Whether the client holds the seat's I/O grant.
 pub fn io_held_by(t: &[u8], s: Seat, client: Handle) -> bool
-    requires { (length t.now ≡ table_size) × (s.0 < Table.most_seats) }
-    ensures { Says result (IoHeldBy t.now client.0 s.0) }
+    requires { length t.now ≡ table_size }
+    ensures { Says result (IoHeldBy t.now client.0 s.number) }
 {
     recorded(t, io_place(s), client)
 }
@@ -87,8 +84,8 @@ pub struct HeldLevel {
 
 // What a seat's IRQ grant holds, if there is one.
 pub fn level_held(t: &[u8], s: Seat) -> Option<HeldLevel>
-    requires { (length t.now ≡ table_size) × (s.0 < Table.most_seats) }
-    ensures { LevelHeldIs t.now s.0 result }
+    requires { length t.now ≡ table_size }
+    ensures { LevelHeldIs t.now s.number result }
 {
     let at = irq_place(s);
     let client = table_read::handle(t, at);
@@ -106,8 +103,8 @@ pub fn level_held(t: &[u8], s: Seat) -> Option<HeldLevel>
 
 // Whether the client holds the seat's IRQ grant.
 pub fn irq_held_by(t: &[u8], s: Seat, client: Handle) -> bool
-    requires { (length t.now ≡ table_size) × (s.0 < Table.most_seats) }
-    ensures { Says result (IrqHeldBy t.now client.0 s.0) }
+    requires { length t.now ≡ table_size }
+    ensures { Says result (IrqHeldBy t.now client.0 s.number) }
 {
     recorded(t, irq_place(s), client)
 }

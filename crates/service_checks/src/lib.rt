@@ -91,5 +91,5 @@ pub fn begin(
     let i = client_record::client_at(t, h).ok_or(Code::BadHandle)?;
     let socket = socket_named(t, p)?;
     card_asked(t, socket, need)?;
-    Ok((i, Seat(socket.0)))
+    Ok((i, Seat::new(socket.0)))
 }

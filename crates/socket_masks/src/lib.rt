@@ -36,10 +36,10 @@ fn events_asked(p: &[u8]) -> Result<usize, Code>
 
 // The word of the client's mask at the seat: 0 for none, else one more than the mask.
 fn write(t: &mut [u8], i: usize, seat: Seat, word: usize)
-    requires { (length t.old ≡ table_size) × (i < Table.most_clients) × (seat.0 < Table.most_seats) }
-    ensures { t.new ≡ with_word t.old (mask_place i seat.0) word }
+    requires { (length t.old ≡ table_size) × (i < Table.most_clients) }
+    ensures { t.new ≡ with_word t.old (mask_place i seat.number) word }
 {
-    table_write::put_word(t, MASKS_AT + i * MASKS_SIZE + seat.0 * MASK_SIZE, word);
+    table_write::put_word(t, MASKS_AT + i * MASKS_SIZE + seat.number * MASK_SIZE, word);
 }
 
 pub fn request(t: &mut [u8], h: Handle, p: &[u8]) -> Result<Handle, Code>

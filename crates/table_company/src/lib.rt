@@ -57,8 +57,8 @@ fn unshared_of(shared: bool, count: u16) -> u16
 
 // The numbers of the I/O grant at the seat `s`.
 fn numbers_of(t: &[u8], s: Seat) -> Numbers
-    requires { (length t.now ≡ table_size) × (s.0 < Table.most_seats) × IoPlaceSound t.now s.0 }
-    ensures { NumbersAre t.now s.0 result }
+    requires { (length t.now ≡ table_size) × IoPlaceSound t.now s.number }
+    ensures { NumbersAre t.now s.number result }
 {
     let Some(held) = seats::held(t, s) else {
         return Numbers {
@@ -80,12 +80,12 @@ fn numbers_of(t: &[u8], s: Seat) -> Numbers
 
 // Puts the numbers of the I/O grant at the seat `s` in the rows, which have those of the seats below it.
 fn enter(t: &[u8], s: Seat, held: &mut [u16])
-    requires seat { (length t.now ≡ table_size) × (s.0 < Table.most_seats) × IoPlaceSound t.now s.0 }
-    requires rows { (held_room ≤ length held.old) × RowsAre t.now held.old s.0 }
-    ensures { (length held.new ≡ length held.old) × RowsAre t.now held.new (s.0 + 1) }
+    requires seat { (length t.now ≡ table_size) × IoPlaceSound t.now s.number }
+    requires rows { (held_room ≤ length held.old) × RowsAre t.now held.old s.number }
+    ensures { (length held.new ≡ length held.old) × RowsAre t.now held.new (s.number + 1) }
 {
     let new = numbers_of(t, s);
-    let number = s.0;
+    let number = s.number;
     held[number] = new.base;
     held[ONES + number] = new.ones;
     held[COUNTS + number] = new.count;
@@ -115,10 +115,9 @@ fn row_against(unshared: u16) -> usize
 
 // Whether the grant at the seat `s` reaches no ports of a seat below it that it may not: what it reaches of each, or-ed together with no early exit.
 fn apart(held: &[u16; HELD], s: Seat) -> bool
-    requires { s.0 < Table.most_seats }
-    ensures { Says result (RowsApart held.now s.0) }
+    ensures { Says result (RowsApart held.now s.number) }
 {
-    let number = s.0;
+    let number = s.number;
     let count = held[COUNTS + number];
     if count == 0 {
         return true;
@@ -169,8 +168,8 @@ fn blocks_of(ports: Ports) -> u64
 
 // The blocks of the I/O grant at the seat `s`.
 pub fn io_blocks(t: &[u8], s: Seat) -> u64
-    requires { (length t.now ≡ table_size) × (s.0 < Table.most_seats) × IoPlaceSound t.now s.0 }
-    ensures { BlocksOf t.now s.0 result }
+    requires { (length t.now ≡ table_size) × IoPlaceSound t.now s.number }
+    ensures { BlocksOf t.now s.number result }
 {
     let Some(held) = seats::held(t, s) else {
         return 0;
@@ -180,8 +179,8 @@ pub fn io_blocks(t: &[u8], s: Seat) -> u64
 
 // Whether the seat `s` has no I/O grant but a shared one.
 fn shared_at(t: &[u8], s: Seat) -> bool
-    requires { (length t.now ≡ table_size) × (s.0 < Table.most_seats) }
-    ensures { Says result (SharedAt t.now s.0) }
+    requires { length t.now ≡ table_size }
+    ensures { Says result (SharedAt t.now s.number) }
 {
     let Some(held) = seats::held(t, s) else {
         return true;
@@ -195,7 +194,7 @@ fn all_shared(t: &[u8], sockets: usize) -> bool
     ensures { Says result (AllShared t.now sockets) }
 {
     for s in 0..sockets {
-        if !shared_at(t, Seat(s)) {
+        if !shared_at(t, Seat::new(s)) {
             return false;
         }
     }
@@ -213,8 +212,8 @@ pub fn companies_kept(t: &[u8], sockets: usize) -> bool
     }
     let mut held: [u16; HELD] = [0; HELD];
     for s in 0..sockets {
-        enter(t, Seat(s), &mut held);
-        if !apart(&held, Seat(s)) {
+        enter(t, Seat::new(s), &mut held);
+        if !apart(&held, Seat::new(s)) {
             return false;
         }
     }

@@ -53,9 +53,9 @@ fn ports_sound(t: &[u8], rows: &[u16; ROWS], near: usize, held: HeldPorts) -> bo
 
 // "every grant .. has a live client and a socket below the count": the I/O grant at a seat of such a socket, or a record that is all zero.
 fn io_place_sound(t: &[u8], rows: &[u16; ROWS], near: usize, s: Seat) -> bool
-    requires sound { (length t.now ≡ table_size) × (socket_at s.0 < sockets_in t.now) × CountsSound t.now × ClientsSound t.now × RangesSound t.now }
-    requires rows_serve { RowsServe t.now rows.now × RangeServes t.now near s.0 }
-    ensures { Says result (IoPlaceSound t.now s.0) }
+    requires sound { (length t.now ≡ table_size) × (socket_at s.number < sockets_in t.now) × CountsSound t.now × ClientsSound t.now × RangesSound t.now }
+    requires rows_serve { RowsServe t.now rows.now × RangeServes t.now near s.number }
+    ensures { Says result (IoPlaceSound t.now s.number) }
 {
     let at = seats::io_place(s);
     let Some(held) = seats::held(t, s) else {
@@ -75,8 +75,8 @@ fn io_place_sound(t: &[u8], rows: &[u16; ROWS], near: usize, s: Seat) -> bool
 
 // The lines that the card of the seat's I/O grant decodes; all, where there is no grant.
 fn lines_at(t: &[u8], s: Seat) -> usize
-    requires { (length t.now ≡ table_size) × (s.0 < Table.most_seats) }
-    ensures { LinesAt t.now s.0 result }
+    requires { length t.now ≡ table_size }
+    ensures { LinesAt t.now s.number result }
 {
     let Some(held) = seats::held(t, s) else {
         return MOST_LINES;
@@ -92,7 +92,7 @@ fn fewest_lines(t: &[u8]) -> usize
     let sockets = table_read::byte(t, SOCKETS_IN);
     let mut fewest = MOST_LINES;
     for s in 0..sockets {
-        fewest = io_ranges::smaller(fewest, lines_at(t, Seat(s)));
+        fewest = io_ranges::smaller(fewest, lines_at(t, Seat::new(s)));
     }
     fewest
 }
@@ -117,11 +117,11 @@ pub fn ios_sound(t: &[u8]) -> bool
     let mut common: u64 = 0;
     let mut near = 0;
     for s in 0..sockets {
-        near = range_near(t, near, Seat(s));
-        if !io_place_sound(t, &rows, near, Seat(s)) {
+        near = range_near(t, near, Seat::new(s));
+        if !io_place_sound(t, &rows, near, Seat::new(s)) {
             return false;
         }
-        let own = io_blocks(t, Seat(s));
+        let own = io_blocks(t, Seat::new(s));
         common = common | passed & own;
         passed = passed | own;
     }

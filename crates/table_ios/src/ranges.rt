@@ -100,8 +100,8 @@ fn range_with(t: &[u8], near: usize, base: usize, count: usize) -> usize
 
 // The managed range that has the ports of the seat's I/O grant, where its card decodes all lines; else the range `near` of the grant before it.
 pub fn range_near(t: &[u8], near: usize, s: Seat) -> usize
-    requires { (length t.now ≡ table_size) × (s.0 < Table.most_seats) × (ranges_in t.now ≤ Table.most_ranges) × (near ≤ Table.most_ranges) }
-    ensures { (result ≤ Table.most_ranges) × RangeServes t.now result s.0 }
+    requires { (length t.now ≡ table_size) × (ranges_in t.now ≤ Table.most_ranges) × (near ≤ Table.most_ranges) }
+    ensures { (result ≤ Table.most_ranges) × RangeServes t.now result s.number }
 {
     let Some(held) = seats::held(t, s) else {
         return near;

@@ -28,7 +28,7 @@ const ALL_MANNERS: usize = LAST_MANNER + 1;
 
 // Whether the client of the IRQ grant at the seat `s` is live: it is where it holds the seat's I/O grant too, as most often.
 fn irq_holder_live(t: &[u8], client: Handle, s: Seat) -> bool
-    requires { (length t.now ≡ table_size) × (clients_in t.now ≤ Table.most_clients) × (s.0 < Table.most_seats) × IoPlaceSound t.now s.0 }
+    requires { (length t.now ≡ table_size) × (clients_in t.now ≤ Table.most_clients) × IoPlaceSound t.now s.number }
     ensures { Says result (LiveIn t.now client.0) }
 {
     seats::io_held_by(t, s, client) || client_record::live(t, client)
@@ -36,9 +36,9 @@ fn irq_holder_live(t: &[u8], client: Handle, s: Seat) -> bool
 
 // "every grant .. has a live client and a socket below the count": the IRQ grant at a seat of such a socket, or a record that is all zero.
 fn irq_place_sound(t: &[u8], s: Seat) -> bool
-    requires sound { (length t.now ≡ table_size) × (socket_at s.0 < sockets_in t.now) × CountsSound t.now × ClientsSound t.now }
-    requires place_sound { IoPlaceSound t.now s.0 }
-    ensures { Says result (IrqPlaceSound t.now s.0) }
+    requires sound { (length t.now ≡ table_size) × (socket_at s.number < sockets_in t.now) × CountsSound t.now × ClientsSound t.now }
+    requires place_sound { IoPlaceSound t.now s.number }
+    ensures { Says result (IrqPlaceSound t.now s.number) }
 {
     let at = seats::irq_place(s);
     if table_read::zero(t, at, at + IRQ_SIZE) {
@@ -61,8 +61,8 @@ pub struct Holding {
 
 // What the IRQ grant at the seat `s` holds.
 fn irq_holding(t: &[u8], s: Seat) -> Holding
-    requires { (length t.now ≡ table_size) × (s.0 < Table.most_seats) × IrqPlaceSound t.now s.0 }
-    ensures { HoldingIs t.now s.0 result }
+    requires { (length t.now ≡ table_size) × IrqPlaceSound t.now s.number }
+    ensures { HoldingIs t.now s.number result }
 {
     let at = seats::irq_place(s);
     if table_read::word(t, at) == 0 {
@@ -90,10 +90,10 @@ pub fn irqs_sound(t: &[u8]) -> bool
     }
     let mut held = 0;
     for s in 0..sockets {
-        if !irq_place_sound(t, Seat(s)) {
+        if !irq_place_sound(t, Seat::new(s)) {
             return false;
         }
-        let holding = irq_holding(t, Seat(s));
+        let holding = irq_holding(t, Seat::new(s));
         if held & holding.against != 0 {
             return false;
         }

@@ -6,4 +6,4 @@ use Rattle.grants.proofs.enter_level.Goals as goal
 pub returns : goal.returns
 returns c =
     let s = c.args in
-    enters_level (s.t.now) _ _ s.seat.0 s.h.0 c.irq_place-at.ensures.0 c.put_word.ensures s.level s.manner
+    enters_level (s.t.now) _ _ s.seat.number s.h.0 c.irq_place-at.ensures.0 c.put_word.ensures s.level s.manner

@@ -6,5 +6,5 @@ use Rattle.grants.proofs.enter_ports.Goals as goal
 pub returns : goal.returns
 returns c =
     let s = c.args in
-    enters_ports (s.t.now) _ _ _ s.seat.0 s.h.0 s.ports.base c.io_place-at.ensures.0 c.put_word.ensures
+    enters_ports (s.t.now) _ _ _ s.seat.number s.h.0 s.ports.base c.io_place-at.ensures.0 c.put_word.ensures
     c.put_word-2.ensures s.ports.count s.ports.lines s.shared

@@ -8,12 +8,12 @@ use Rattle.grants.proofs.{no_ports, ports_said}
 use Rattle.grants.proofs.ports_of.Goals as goal
 
 pub returns-in_default : goal.returns-in_default
-returns-in_default c = (refl, no_ports _ _ _ _ _ (io_read c.args.t.now c.args.seat.0 c.requires.1 None c.in_default.ensures))
+returns-in_default c = (refl, no_ports _ _ _ _ _ (io_read c.args.t.now c.args.seat.number c.args.seat.in_table None c.in_default.ensures))
 
 pub returns-then-same : goal.returns-then-same
 returns-then-same c =
-    (ports_said _ _ _ _ _ _ (io_read _ _ c.requires.1 (Some c.in-Some.x) c.in-Some.ensures)).holds (sym c.eq-same.ensures ∙ c.if-same.true)
+    (ports_said _ _ _ _ _ _ (io_read _ _ c.args.seat.in_table (Some c.in-Some.x) c.in-Some.ensures)).holds (sym c.eq-same.ensures ∙ c.if-same.true)
 
 pub returns-else-same : goal.returns-else-same
 returns-else-same c =
-    (refl, (ports_said _ _ _ _ _ _ (io_read _ _ c.requires.1 (Some c.in-Some.x) c.in-Some.ensures)).fails (sym c.eq-same.ensures ∙ c.if-same.false))
+    (refl, (ports_said _ _ _ _ _ _ (io_read _ _ c.args.seat.in_table (Some c.in-Some.x) c.in-Some.ensures)).fails (sym c.eq-same.ensures ∙ c.if-same.false))

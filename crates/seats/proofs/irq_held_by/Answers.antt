@@ -6,4 +6,4 @@ use Rattle.seats.proofs.irq_held_by.Goals as goal
 
 pub returns : goal.returns
 returns c =
-    says_as (rw c.irq_place.ensures.0 at c.recorded.ensures) (irq_said_by _ _ c.requires.1 _) (irq_by_said _ _ c.requires.1 _)
+    says_as (rw c.irq_place.ensures.0 at c.recorded.ensures) (irq_said_by _ _ c.args.s.in_table _) (irq_by_said _ _ c.args.s.in_table _)

@@ -10,5 +10,5 @@ pub loop-u-preserved : goal.loop-u-preserved
 loop-u-preserved c =
     let a = c.args in
     let row = c.row_against-row.ensures.0 in
-    let is = reached_by (a.held.now) a.s.0 c.loop-u.u _ _ _ row refl c.over-some.ensures in
+    let is = reached_by (a.held.now) a.s.number c.loop-u.u _ _ _ row refl c.over-some.ensures in
     (omega arith, flawless_more c.over-some.result c.loop-u.invariant.1 (says_as (says_eq _ _) (λ z. sym is ∙ z) (λ z. is ∙ z)))

@@ -8,6 +8,6 @@ returns c =
     let a = c.args in
     let rows = a.held.now in
     let new = c.numbers_of-new in (
-      (lengths rows a.s.0 new.result).3,
-      entered_are rows a.s.0 new.result c.requires.seat.1 c.requires.rows.0 (a.t.now) c.requires.rows.1 new.ensures,
+      (lengths rows a.s.number new.result).3,
+      entered_are rows a.s.number new.result c.requires.seat.1 c.requires.rows.0 (a.t.now) c.requires.rows.1 new.ensures,
     )

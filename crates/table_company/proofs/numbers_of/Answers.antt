@@ -9,27 +9,27 @@ use Rattle.table_company.proofs.numbers_of.Goals as goal
 
 pub power-ones-requires : goal.power-ones-requires
 power-ones-requires c =
-    let there : let a = c.args in HeldIs (a.t.now) a.s.0 (Some c.in-Some.held) = c.in-Some.ensures in
+    let there : let a = c.args in HeldIs (a.t.now) a.s.number (Some c.in-Some.held) = c.in-Some.ensures in
     let lines : c.in-Some.held.ports.lines ≤ most_lines = held_lines _ _ _ there c.requires.2 in
     lines
 
 pub overflow_cast-count : goal.overflow_cast-count
 overflow_cast-count c =
-    let there : let a = c.args in HeldIs (a.t.now) a.s.0 (Some c.in-Some.held) = c.in-Some.ensures in
+    let there : let a = c.args in HeldIs (a.t.now) a.s.number (Some c.in-Some.held) = c.in-Some.ensures in
     let fits : let x = c.in-Some.held in (x.ports.base < all_ports) × (x.ports.count ≤ most_asked) =
     held_fits _ _ _ there (λ i. omega (arith, c.shared_slice_known-1.given i)) in
     omega (arith, fits.1)
 
 pub overflow_cast-result : goal.overflow_cast-result
 overflow_cast-result c =
-    let there : let a = c.args in HeldIs (a.t.now) a.s.0 (Some c.in-Some.held) = c.in-Some.ensures in
+    let there : let a = c.args in HeldIs (a.t.now) a.s.number (Some c.in-Some.held) = c.in-Some.ensures in
     let fits : let x = c.in-Some.held in (x.ports.base < all_ports) × (x.ports.count ≤ most_asked) =
     held_fits _ _ _ there (λ i. omega (arith, c.shared_slice_known-1.given i)) in
     omega (arith, fits.0)
 
 pub overflow_cast-result-2 : goal.overflow_cast-result-2
 overflow_cast-result-2 c =
-    let there : let a = c.args in HeldIs (a.t.now) a.s.0 (Some c.in-Some.held) = c.in-Some.ensures in
+    let there : let a = c.args in HeldIs (a.t.now) a.s.number (Some c.in-Some.held) = c.in-Some.ensures in
     let lines : c.in-Some.held.ports.lines ≤ most_lines = held_lines _ _ _ there c.requires.2 in
     let power : (1 ≤ c.power-ones.result) × (c.power-ones.result ≤ 65536) =
     (omega (arith, c.power-ones.ensures, pow_pos c.in-Some.held.ports.lines), omega (arith, c.power-ones.ensures, pow_mono lines)) in
@@ -37,7 +37,7 @@ overflow_cast-result-2 c =
 
 pub returns : goal.returns
 returns c =
-    let there : let a = c.args in HeldIs (a.t.now) a.s.0 (Some c.in-Some.held) = c.in-Some.ensures in
+    let there : let a = c.args in HeldIs (a.t.now) a.s.number (Some c.in-Some.held) = c.in-Some.ensures in
     let fits : let x = c.in-Some.held in (x.ports.base < all_ports) × (x.ports.count ≤ most_asked) =
     held_fits _ _ _ there (λ i. omega (arith, c.shared_slice_known-1.given i)) in
     let lines : c.in-Some.held.ports.lines ≤ most_lines = held_lines _ _ _ there c.requires.2 in

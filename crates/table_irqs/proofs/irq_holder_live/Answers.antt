@@ -12,4 +12,4 @@ returns-then-io_held_by c =
     let b = c.args.t.now in
     let same = io_by_said _ _ c.requires.2 _ (c.io_held_by.ensures.holds c.if-io_held_by.true) in
     rw c.if-io_held_by.true
-    (says_true (subst (LiveIn b) same.1 (used_sound b (io_place_lem c.args.s.0) io_size (omega arith) c.requires.3 same.0).client))
+    (says_true (subst (LiveIn b) same.1 (used_sound b (io_place_lem c.args.s.number) io_size (omega arith) c.requires.3 same.0).client))

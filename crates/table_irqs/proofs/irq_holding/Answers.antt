@@ -10,15 +10,15 @@ use Rattle.table_irqs.proofs.irq_holding.Goals as goal
 
 pub returns : goal.returns
 returns c =
-    let used : IrqUsed c.args.t.now c.args.s.0 = λ e. c.if-word-eq0.false ((rw c.irq_place-at.ensures.0 at c.word.ensures.0) ∙ e) in
+    let used : IrqUsed c.args.t.now c.args.s.number = λ e. c.if-word-eq0.false ((rw c.irq_place-at.ensures.0 at c.word.ensures.0) ∙ e) in
     let number : held_as c.byte-first.result c.byte-manner.result < 64 =
-    let g = used_sound c.args.t.now (irq_place_lem c.args.s.0) irq_size (omega arith) c.requires.2 used in
+    let g = used_sound c.args.t.now (irq_place_lem c.args.s.number) irq_size (omega arith) c.requires.2 used in
     omega (arith, g.level, g.manner, rw c.irq_place-at.ensures.0 at c.byte-first.ensures.0, rw c.irq_place-at.ensures.0 at c.byte-manner.ensures.0) in
     let manner = rw c.irq_place-at.ensures.0 at c.byte-manner.ensures.0 in
     let level = rw c.irq_place-at.ensures.0 at c.byte-first.ensures.0 in
     let here = used in
     let apart = rw c.manner_of.ensures at c.apart.ensures in
     record {
-      own = own_held c.args.t.now c.args.s.0 level manner here _ (one_shifted _ 64 number);
-      against = apart_against c.args.t.now c.args.s.0 level manner here _ _ apart (shl_exact 4 _ 64 apart.manners (omega (arith, number)));
+      own = own_held c.args.t.now c.args.s.number level manner here _ (one_shifted _ 64 number);
+      against = apart_against c.args.t.now c.args.s.number level manner here _ _ apart (shl_exact 4 _ 64 apart.manners (omega (arith, number)));
     }
