@@ -33,10 +33,6 @@ module _ {b p : List ℕ} {n h i s : ℕ} {need : CardNeed} (a : Accepted b) (be
   pub in_seats : s < most_seats
   in_seats = omega (arith, seat_named, begun.socket.counted, Of.sockets_in_lem b a, a.formed.sockets_most)
 
-  -- what a grant's record at the seat asks of the table
-  pub in_table : (length b ≡ table_size) × (s < most_seats)
-  in_table = (Of.size_in b a, in_seats)
-
   -- the client's place is one of a table's
   pub in_clients : i < most_clients
   in_clients = omega (arith, begun.client.listed, Of.clients_in_lem b a, a.formed.clients_most)

@@ -27,5 +27,5 @@ pub record BegunAt (b p : List ℕ) (n h : ℕ) (need : CardNeed) (i : ℕ) (s :
 
 -- so it is, or k is the code of the first that applies
 abbrev pub BegunIs : List ℕ → ℕ → List ℕ → ℕ → CardNeed → Result (ℕ × seat.Seat) Code → Type 0
-BegunIs b h p n need (Ok x) = BegunAt b p n h need x.0 x.1.0
+BegunIs b h p n need (Ok x) = BegunAt b p n h need x.0 x.1.number
 BegunIs b h p n need (Err k) = (a : Accepted b) → FirstGiven (checks_ahead need n a.facts h p) k

@@ -31,8 +31,8 @@ releasing =
 -- the service has begun: the client's mask at the seat
 module _ {b p : List ℕ} {n h i s : ℕ} {need : CardNeed} (a : Accepted b) (begun : BegunAt b p n h need i s) where
   -- what the mask's place asks of the table
-  pub in_table : (length b ≡ table_size) × (i < most_clients) × (s < most_seats)
-  in_table = (Of.size_in b a, in_clients a begun, in_seats a begun)
+  pub in_table : (length b ≡ table_size) × (i < most_clients)
+  in_table = (Of.size_in b a, in_clients a begun)
 
   held : MaskUsed b i s → MaskHeld a.facts h (socket_of p)
   held u = rw (← seat_named a begun) (mask_said b a i h begun.client.listed begun.client.handle s (in_seats a begun) u)

@@ -4,7 +4,8 @@ use Rattle.facts.proofs.Words.{arith, refl}
 use Rattle.facts.proofs.{handed}
 use Rattle.facts.specs.{base_asked_lem, count_asked_lem, IoHeld}
 use Rattle.layout.specs.{facts_in}
-use Rattle.service_checks.proofs.{in_table, refused_ahead}
+use Rattle.layout.proofs.{size_in}
+use Rattle.service_checks.proofs.{refused_ahead}
 use Rattle.io_services.specs.Granting.{ReleaseServed}
 use Rattle.io_services.proofs.{releasing, release_second, release_unheld, release_done}
 use Rattle.io_services.proofs.release.Goals as goal
@@ -19,7 +20,7 @@ returns-in_err-second_asked c =
     (release_second c.requires c.in_ok-seat.ensures c.in_err-second_asked.ensures.1)
 
 pub ports_of-requires : goal.ports_of-requires
-ports_of-requires c = in_table c.requires c.in_ok-seat.ensures
+ports_of-requires c = size_in _ c.requires
 
 pub returns-in_err-ports_of : goal.returns-in_err-ports_of
 returns-in_err-ports_of c =
@@ -30,7 +31,7 @@ returns-in_err-ports_of c =
 
 pub enter_ports-requires : goal.enter_ports-requires
 enter_ports-requires c =
-    let t = in_table c.requires c.in_ok-seat.ensures in (t.0, t.1, omega arith, omega arith, omega arith, omega arith)
+    (size_in _ c.requires, omega arith, omega arith, omega arith, omega arith)
 
 pub returns : goal.returns
 returns c =

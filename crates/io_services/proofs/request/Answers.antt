@@ -4,7 +4,8 @@ use Rattle.facts.proofs.Words.{◌≡◌, ap, ◌<◌, arith, refl, List, ℕ}
 use Rattle.std.specs.Prelude.{Ok, Err}
 use Rattle.facts.proofs.{handed}
 use Rattle.facts.specs.{IoAttributesBad, IoSizeBad, io_asked, IoAsked, all_ports}
-use Rattle.service_checks.proofs.{in_table, refused_ahead}
+use Rattle.layout.proofs.{size_in}
+use Rattle.service_checks.proofs.{refused_ahead}
 use Rattle.io_bases.specs.{AskedFits, BaseIs}
 use Rattle.io_services.specs.Granting.{RequestServed}
 use Rattle.io_services.proofs.{requesting, lines_good, count_good, request_attributes, request-sizes, request_held, request-base, request_done}
@@ -36,7 +37,7 @@ returns-in_err-sizes_asked c =
     (request-sizes c.requires c.in_ok-seat.ensures c.in_ok-attributes_asked.ensures c.in_err-sizes_asked.ensures.1)
 
 pub held-requires : goal.held-requires
-held-requires c = in_table c.requires c.in_ok-seat.ensures
+held-requires c = size_in _ c.requires
 
 pub returns-in_default : goal.returns-in_default
 returns-in_default c =
@@ -50,8 +51,7 @@ returns-in_err-base c =
 
 pub enter_asked-requires : goal.enter_asked-requires
 enter_asked-requires c =
-    let t = in_table c.requires c.in_ok-seat.ensures in
-    (t.0, t.1, c.in_ok-base.ensures.0, asked_fits c.args.p.now _ c.asked-asked.ensures c.in_ok-attributes_asked.ensures c.in_ok-sizes_asked.ensures, c.in_ok-seat.ensures.size)
+    (size_in _ c.requires, c.in_ok-base.ensures.0, asked_fits c.args.p.now _ c.asked-asked.ensures c.in_ok-attributes_asked.ensures c.in_ok-sizes_asked.ensures, c.in_ok-seat.ensures.size)
 
 pub returns : goal.returns
 returns c =

@@ -44,3 +44,8 @@ returns-in_err-card_asked c =
     handed (BegunIs _ _ _ _ _) _ c.from_residual-in_err-card_asked.ensures c.in_err-card_asked.ensures.0
     (λ a. by_card a c.args.p.now c.args.n c.args.h.0 c.in_ok-sized.ensures (live_listed c.args.t.now a _ _ found.listed found.handle) c.in_ok-socket.ensures
       c.args.need c.in_err-card_asked.ensures.1)
+
+pub new-requires : goal.new-requires
+new-requires c =
+    let a = c.requires.0 in
+    omega (arith, c.in_ok-socket.ensures.number, c.in_ok-socket.ensures.counted, sockets_in_lem c.args.t.now a, a.formed.sockets_most)
