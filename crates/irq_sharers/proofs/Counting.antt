@@ -1,7 +1,7 @@
 -- The number of sharers: one seat more, and the answer. Assumes nothing.
-use Rattle.facts.proofs.Words.{◌≡◌, refl, ap, ap₂, sym, ◌∙◌, inl, inr, List, ℕ, ◌+◌, ◌≤◌, ◌<◌, add-one, arith}
+use Rattle.facts.proofs.Words.{◌≡◌, refl, ap, ap₂, sym, ◌∙◌, inr, List, ℕ, ◌+◌, ◌<◌, add-one, arith}
 use Rattle.layout.proofs.Of
-use Rattle.facts.specs.{Success, BadIrq, Facts, Sharers, sharer, sharers_below, all_levels}
+use Rattle.facts.specs.{Success, Facts, Sharers, sharer, sharers_below, all_levels}
 use Rattle.layout.specs.{sockets_in, facts_in, Accepted}
 
 -- one seat more
@@ -9,9 +9,6 @@ pub sharers_more : (F : Facts) (l s n m : ℕ) → n ≡ sharers_below F l s →
 sharers_more F l s n m e f = ap₂ (λ (x y : ℕ). x + y) e f ∙ ap (sharers_below F l) (sym (add-one s))
 
 module _ (b : List ℕ) (a : Accepted b) (l : ℕ) where
-  pub sharers_past : all_levels ≤ l → Sharers a.facts l (record { code = BadIrq; count = 0 })
-  sharers_past h = inl (inl (h, refl), refl)
-
   pub sharers_done : (n : ℕ) → l < all_levels → n ≡ sharers_below (facts_in b) l (sockets_in b) → Sharers a.facts l (record { code = Success; count = n })
   unfolding facts_in
   sharers_done n h e = rw (Of.facts_in_lem b a) (inr (((λ d. omega arith), tt), (refl, e)))
