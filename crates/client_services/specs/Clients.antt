@@ -12,7 +12,8 @@ use Rattle.layout.specs.Reading.{clients_in, issued_in}
 use Rattle.layout.specs.Sound.{MaskUsed}
 use Rattle.layout.specs.Served.{ServedBy}
 use Rattle.seats.specs.Seats.{IoHeldBy, IrqHeldBy}
-use Rattle.service_answers.specs.Answers.{code_of, handle_of}
+use Rattle.facts.specs.Checks.{code_in}
+use Rattle.service_answers.specs.Answers.{handle_of}
 
 -- the attributes and the event mask of a registration, or one of them is not allowed
 pub record Asks (p : List ℕ) (attributes events : ℕ) : Type 0 where
@@ -54,7 +55,7 @@ HoldsSome b i h = GrantHeld b h ⊎ MaskHeldIn b i
 
 -- RegisterClient and DeregisterClient are served as their rules say: they answer r, and leave the table b'; the packet stays
 abbrev pub RegisterServed : List ℕ → List ℕ → List ℕ → Result Handle Code → Type 0
-RegisterServed p b b' r = ServedBy (λ (F : Facts). Register F 0 p) b b' p (code_of r) (handle_of r)
+RegisterServed p b b' r = ServedBy (λ (F : Facts). Register F 0 p) b b' p (code_in r) (handle_of r)
 
 abbrev pub DeregisterServed : ℕ → List ℕ → List ℕ → List ℕ → Result Handle Code → Type 0
-DeregisterServed h p b b' r = ServedBy (λ (F : Facts). Deregister F h p) b b' p (code_of r) (handle_of r)
+DeregisterServed h p b b' r = ServedBy (λ (F : Facts). Deregister F h p) b b' p (code_in r) (handle_of r)

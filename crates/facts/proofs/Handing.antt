@@ -12,9 +12,9 @@ error_of (Err y) i = ap Err i
 pub handed : {T : Type 0} (P : Result T Code → Type 0) (r : Result T Code) {e k : Code} → IsErr r × IsErrAnd r (λ y. y ≡ e) → e ≡ k → P (Err k) → P r
 handed P r i c p = subst P (sym (error_of r i.1 ∙ ap Err c)) p
 
-abbrev code_in : {T : Type 0} → Result T Code → Code → Code
-code_in (Ok x) k = k
-code_in (Err e) k = e
+abbrev code_or : {T : Type 0} → Result T Code → Code → Code
+code_or (Ok x) k = k
+code_or (Err e) k = e
 
 -- what was said of an answer that may be missing, where `ok_or` gave a value of it; and where it gave the code k
 module _ {A : Type 0} (P : Option A → Type 0) (k : Code) where
@@ -27,5 +27,5 @@ module _ {A : Type 0} (P : Option A → Type 0) (k : Code) where
       value (Err e) = Some y
 
   pub missing : (o : Option A) {r : Result A Code} {e : Code} → r ≡ ok_or o k → r ≡ Err e → P o → (e ≡ k) × P None
-  missing None v w p = (ap (λ r. code_in r k) (sym w ∙ v), p)
+  missing None v w p = (ap (λ r. code_or r k) (sym w ∙ v), p)
   missing (Some y) v w p = absurd (true≢false (sym (ap is_ok v) ∙ ap is_ok w))

@@ -1,3 +1,3 @@
 -- The number of sharers: one seat more, and the answer. Assumes nothing.
 pub mod Counting
-pub use Counting.{sharers_more, sharers_past, sharers_done, count_done, count_refused}
+pub use Counting.{sharers_more, sharers_done}

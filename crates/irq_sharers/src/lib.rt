@@ -11,22 +11,17 @@ ghost use Rattle.layout.specs.Sound.{Accepted};
 ghost use Rattle.irq_sharers.specs.Sharing.{CountsSharers, count_of};
 
 use facts::{Code, Seat};
-use irq_levels::LevelNumber;
 use layout::SOCKETS_IN;
-use seats::IrqSeat;
 
 // One for a grant of the level at the seat, else none.
 fn sharer(t: &[u8], level: usize, s: Seat) -> usize
     requires { length t.now ≡ table_size }
     ensures { (result ≡ Irq.sharer level ((facts_in t.now).irq s.number)) × (result ≤ 1) }
 {
-    let IrqSeat::Held(held) = seats::level_held(t, s) else {
+    let Some(held) = seats::level_held(t, s) else {
         return 0;
     };
-    if held.level == level {
-        return 1;
-    }
-    0
+    usize::from(held.level == level)
 }
 
 // The number of grants of the level at the seats below the count of sockets.
@@ -43,28 +38,20 @@ fn count(t: &[u8], level: usize) -> usize
 }
 
 // What the question for sharers answers: their number, or the code of a refusal.
-#[derive(Clone, Copy)]
-pub enum SharerCount {
-    Number(u16),
-    Refused(Code),
-}
-
-pub fn of_level(t: &[u8], level: u32) -> SharerCount
+pub fn of_level(t: &[u8], level: u32) -> Result<u16, Code>
     requires { Accepted t.now }
     ensures { CountsSharers level t.now result }
 {
-    let LevelNumber::Below(l) = irq_levels::below_levels(level) else {
-        return SharerCount::Refused(Code::BadIrq);
-    };
-    SharerCount::Number(count(t, l) as u16)
+    let l = irq_levels::below_levels(level)?;
+    Ok(count(t, l) as u16)
 }
 
 // code + 65536 * count.
-pub fn pack(c: SharerCount) -> u32
-    ensures { result ≡ packed (count_of c).code (count_of c).count }
+pub fn pack(count: Result<u16, Code>) -> u32
+    ensures { result ≡ packed (count_of count).code (count_of count).count }
 {
-    match c {
-        SharerCount::Number(n) => 65536 * (n as u32),
-        SharerCount::Refused(code) => facts::number(code),
+    match count {
+        Ok(n) => 65536 * u32::from(n),
+        Err(code) => u32::from(code),
     }
 }

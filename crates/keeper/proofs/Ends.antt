@@ -6,8 +6,10 @@ use Rattle.facts.specs.{request_irq, release_irq, request_io, release_io, reques
 use Rattle.facts.specs.{packed, records_of, end_of, placed, all_levels, most_ranges}
 use Rattle.facts.proofs.{host_laws}
 use Rattle.layout.specs.{Accepted, ServedBy, TableRefused}
-use Rattle.service_answers.specs.declared.Answer.{Answer}
-use Rattle.service_answers.specs.{code_of, handle_of}
+use Rattle.facts.specs.{Code, code_in}
+use Rattle.facts.specs.declared.Handle.{Handle}
+use Rattle.std.specs.Prelude.{Result}
+use Rattle.service_answers.specs.{handle_of}
 use Rattle.layout.proofs.{kept, stays}
 use Rattle.managed_boot.specs.declared.Booted.{Booted}
 use Rattle.managed_boot.specs.{place_of, Boots}
@@ -18,11 +20,11 @@ module _ (b : List ℕ) (none : Accepted b → ⊥) where
   stands : TableRefused b b GeneralFailure
   stands = record { unformed = none; code_is = refl; table = refl }
 
-  pub call_unformed : (n h : ℕ) (p : List ℕ) (r : ℕ) → Bytes p → r ≡ number_of GeneralFailure → CallAnswers n h b b p p r
-  call_unformed n h p r bytes e = record { code = GeneralFailure; answered = 0; packs = e; bytes = bytes; permitted = inr (stands, refl, refl) }
+  pub call_unformed : (n h : ℕ) (p : List ℕ) → Bytes p → CallAnswers n h b b p p (packed GeneralFailure 0)
+  call_unformed n h p bytes = record { code = GeneralFailure; answered = 0; packs = refl; bytes = bytes; permitted = inr (stands, refl, refl) }
 
-  pub card_unformed : (present : Bool) (s r : ℕ) → r ≡ number_of GeneralFailure → CardAnswers present s b b r
-  card_unformed present s r e = record { code = GeneralFailure; is = e; permitted = inr stands }
+  pub card_unformed : (present : Bool) (s : ℕ) → CardAnswers present s b b (number_of GeneralFailure)
+  card_unformed present s = record { code = GeneralFailure; is = refl; permitted = inr stands }
 
   pub boot_unformed : (records : List ℕ) (r : ℕ) → r ≡ placed GeneralFailure 0 → BootAnswers records b b r
   boot_unformed records r e = record { code = GeneralFailure; place = 0; packs = e; permitted = inr (stands, refl) }
@@ -56,12 +58,12 @@ serves_none n x s = each_service s.service s.number_is
     each_service request_socket_mask e = x.no_mask_request (sym e)
     each_service release_socket_mask e = x.no_mask_release (sym e)
 
-pub unsupported : (b p : List ℕ) (n h r : ℕ) → Bytes p → Accepted b → NoService n → r ≡ packed UnsupportedService 0 → CallAnswers n h b b p p r
-unsupported b p n h r bytes a x e =
+pub unsupported : (b p : List ℕ) (n h : ℕ) → Bytes p → Accepted b → NoService n → CallAnswers n h b b p p (packed UnsupportedService 0)
+unsupported b p n h bytes a x =
     record {
       code = UnsupportedService;
       answered = 0;
-      packs = e;
+      packs = refl;
       bytes = bytes;
       permitted =
           inl
@@ -70,15 +72,14 @@ unsupported b p n h r bytes a x e =
     }
 
 -- a service, by its number
-pub by_service : (v : Service) (b b' p p' : List ℕ) (n h r : ℕ) (a : Answer) → Bytes p → n ≡ service_number v
-    → ServedBy (λ (F : Facts). rule_of v F h p) b b' p' (code_of a) (handle_of a)
-    → r ≡ packed (code_of a) (handle_of a)
-    → CallAnswers n h b b' p p' r
-by_service v b b' p p' n h r a bytes i s e =
+pub by_service : (v : Service) (b b' p p' : List ℕ) (n h : ℕ) (a : Result Handle Code) → Bytes p → n ≡ service_number v
+    → ServedBy (λ (F : Facts). rule_of v F h p) b b' p' (code_in a) (handle_of a)
+    → CallAnswers n h b b' p p' (packed (code_in a) (handle_of a))
+by_service v b b' p p' n h a bytes i s =
     record {
-      code = code_of a;
+      code = code_in a;
       answered = handle_of a;
-      packs = e;
+      packs = refl;
       bytes = bytes;
       permitted =
           inl

@@ -4,12 +4,12 @@
 ghost use Rattle.std.specs.Prelude.{◌≡◌, true, false};
 ghost use Rattle.facts.specs.Checks.{code_in};
 ghost use Rattle.facts.specs.Codes.{number_of, packed};
-ghost use Rattle.service_answers.specs.Answers.{code_of, handle_of};
+ghost use Rattle.service_answers.specs.Answers.{handle_of};
 ghost use Rattle.promises.specs.Entries.{CallAnswers, CardAnswers, SharersAnswers, FreshAnswers, BootAnswers};
 
 use facts::{Code, Handle, Socket};
 use layout::TABLE_SIZE;
-use managed_boot::Stopped;
+use managed_boot::Booted;
 
 // The services by their numbers (chapter 5 of the volume); every other number is refused.
 const DEREGISTER_CLIENT: u16 = 0x02;
@@ -59,7 +59,7 @@ pub fn cs_fresh(table: &mut [u8], sockets: u32) -> u32
 
 // What a call of a service answers, on any bytes.
 fn serve(table: &mut [u8], service: u16, h: Handle, packet: &mut [u8]) -> Result<Handle, Code>
-    ensures { CallAnswers service h.0 table.old table.new packet.old packet.new (packed (code_of result) (handle_of result)) }
+    ensures { CallAnswers service h.0 table.old table.new packet.old packet.new (packed (code_in result) (handle_of result)) }
 {
     table_test::load(table)?;
     match service {
@@ -114,7 +114,7 @@ pub fn cs_boot(table: &mut [u8], records: &[u8]) -> u64
     ensures { BootAnswers records.now table.old table.new result }
 {
     if let Err(code) = table_test::load(table) {
-        return managed_boot::pack(Err(Stopped { place: 0, code }));
+        return managed_boot::pack(Booted::Stopped(0, code));
     }
     managed_boot::pack(managed_boot::boot(table, records))
 }

@@ -1,3 +1,3 @@
 -- What the contracts of `service_answers` cite. Assumes nothing.
 pub mod Answers
-pub use Answers.{code_of, handle_of}
+pub use Answers.{handle_of}

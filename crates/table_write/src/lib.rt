@@ -46,7 +46,7 @@ pub fn take_out(t: &mut [u8], count: usize, at: usize, bytes: usize, end: usize)
     t[count] -= 1;
 }
 
-// Room for a record of so many bytes at a place: those from there on move up, the last of them into bytes that no record uses.
+// Room for a record of so many bytes at a place: those from there on move up, the last byte first, into bytes that no record uses.
 pub fn make_room(t: &mut [u8], count: usize, at: usize, bytes: usize, end: usize)
     requires { (count < at) × (at + bytes ≤ end) × (end ≤ length t.old) × (byte t.old count < 255) }
     ensures { RoomMade t.old t.new count at bytes end }
