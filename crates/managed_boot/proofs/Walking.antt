@@ -9,8 +9,7 @@ use Rattle.facts.specs.{records_in, records_of, end_of, record_checks, most_line
 use Rattle.facts.specs.Boot.{Boot}
 use Rattle.facts.proofs.{is_built, boot_stays, record_no_success, first_not_success, boot_within, boot_success, records_length, bytes_laws}
 use Rattle.layout.specs.{Accepted}
-use Rattle.layout.specs.Served.{Served}
-use Rattle.layout.proofs.{image_size, size_in, one_set}
+use Rattle.layout.proofs.{one_set}
 use Rattle.std.specs.Prelude.{Result, Ok, Err}
 use Rattle.managed_changes.specs.{Changes}
 use Rattle.managed_levels.specs.{AddsLevel}
@@ -90,13 +89,7 @@ pub record Walked (e : Code) (rs : List Record) (b b' : List ℕ) (place : ℕ) 
 pub walked_none : {e : Code} {rs : List Record} {b : List ℕ} → Accepted b → Walked e rs b b 0 rs
 walked_none a = record { first = a; here = a; goes_on = λ o r. r }
 
-pub ends_length : {R : Facts → Facts → Type 0} {b b' : List ℕ} → Served R b b' → length b' ≡ length b
-ends_length {b = b} s = ap length (sym s.table) ∙ image_size s.after ∙ sym (size_in b s.accepted)
-
 module _ {e : Code} {rs : List Record} {b b' : List ℕ} {place : ℕ} where
-  pub walked_length : {left : List Record} → Walked e rs b b' place left → length b' ≡ length b
-  walked_length w = size_in b' w.here ∙ sym (size_in b w.first)
-
   -- where none is left, the list ends
   pub walked_all : (r : Result ℕ Stopped) → Walked e rs b b' place [] → place_of r ≡ place → code_of r ≡ e → Refuses r → EndsAs e rs b b' r
   walked_all r w p k n = (
