@@ -1,17 +1,15 @@
 -- Each way in which RegisterClient and DeregisterClient end is the rule's. Assumes nothing.
-use Rattle.facts.proofs.Words.{◌≡◌, refl, sym, ◌∙◌, ◌⊎◌, inl, inr, ⊎_elim, List, ℕ, ◌+◌, ◌-◌, ◌≤◌, ◌<◌, ap, arith, length, length-set, set, Option, none, some}
+use Rattle.facts.proofs.Words.{◌≡◌, refl, sym, ◌∙◌, ◌⊎◌, inl, inr, ⊎_elim, List, ℕ, ◌≤◌, ◌<◌, arith, length, Option, none, some}
 use Rattle.layout.proofs.Of
-use Rattle.facts.specs.{Code, Success, BadAttribute, OutOfResource, Facts, IoGrant, IrqGrant, word, with_word}
+use Rattle.facts.specs.{Code, Success, BadAttribute, OutOfResource, AttributesAllowed, EventsAllowed, Facts, IoGrant, IrqGrant, word}
 use Rattle.facts.specs.{Live, Outcome, FirstGiven, register_checks, deregister_checks, Register, Deregister, register_length, deregister_length}
 use Rattle.facts.specs.{HoldsIo, HoldsIrq, HoldsMask, most_clients, most_issued, most_seats}
-use Rattle.layout.specs.{handle_place, attributes_place, events_place, masks_place, head_issued, head_clients, clients_in, handle_in, Accepted, ServedBy}
-use Rattle.layout.specs.{entered, ClosedUp, Withdrawn, handle_size, attributes_size, events_size, masks_size}
+use Rattle.layout.specs.{clients_in, issued_in, handle_in, Accepted, ServedBy}
+use Rattle.layout.specs.{entered, Withdrawn}
 use Rattle.layout.proofs.{entered_image, withdrawn_image, mask_socket, mask_said, said_mask, kept, left, stays, becomes}
 use Rattle.client_record.specs.{ListedAt}
-use Rattle.client_services.specs.declared.ClientAsked.TheVariants.{Bad}
-use Rattle.client_services.specs.declared.Room.TheVariants.{Full}
 use Rattle.seats.specs.{HeldBy}
-use Rattle.client_services.specs.{Asks, AsksFor, NextIs, RoomIs, MaskHeldIn, HoldsSome}
+use Rattle.client_services.specs.{Asks, NextIs, MaskHeldIn, HoldsSome}
 
 -- the rules, of a packet
 abbrev Registers : List ℕ → Facts → Outcome → Type 0
@@ -20,49 +18,19 @@ Registers p F = Register F 0 p
 abbrev Deregisters : ℕ → List ℕ → Facts → Outcome → Type 0
 Deregisters h p F = Deregister F h p
 
--- the writes of a registration, one after the other
-pub enters : (b : List ℕ) {b₁ b₂ b₃ : List ℕ} (n h attributes events : ℕ) → b₁ ≡ with_word b (handle_place n) h
-    → b₂ ≡ with_word b₁ (events_place n) events
-    → b₃ ≡ with_word b₂ head_issued h
-    → set (set b₃ (attributes_place n) attributes) head_clients (n + 1) ≡ entered b n h attributes events
-unfolding entered
-enters b n h attributes events e₁ e₂ e₃ = rw (e₃, e₂, e₁)
-
--- a client taken out of each row, and the number written; the table keeps its size
-pub withdraws : {b b₁ b₂ b₃ b₄ : List ℕ} {n i : ℕ} → n ≡ clients_in b → ClosedUp b b₁ (handle_place i) handle_size (handle_place n)
-    → ClosedUp b₁ b₂ (attributes_place i) attributes_size (attributes_place n)
-    → ClosedUp b₂ b₃ (events_place i) events_size (events_place n)
-    → ClosedUp b₃ b₄ (masks_place i) masks_size (masks_place n)
-    → Withdrawn b (set b₄ head_clients (n - 1)) i
-withdraws {b} {b₁} {b₂} {b₃} {b₄} e handles attributes events masks =
-    record {
-      b₁ = b₁;
-      b₂ = b₂;
-      b₃ = b₃;
-      b₄ = b₄;
-      handles = rw (e) at handles;
-      attributes = rw (e) at attributes;
-      events = rw (e) at events;
-      masks = rw (e) at masks;
-      number = rw (e) refl;
-    }
-
-pub withdrawn_size : {b b' : List ℕ} {i : ℕ} → Withdrawn b b' i → length b' ≡ length b
-withdrawn_size {b} w =
-    ap length w.number ∙ length-set w.b₄ head_clients (clients_in b - 1) ∙ w.masks.size ∙ w.events.size ∙ w.attributes.size
-    ∙ w.handles.size
-
 module _ {b p : List ℕ} (a : Accepted b) where
   pub register_refused : {k : Code} → FirstGiven (register_checks a.facts p) k → ServedBy (Registers p) b b p k 0
   register_refused g = stays _ _ a (inl (g, kept _ _ _))
 
   -- the length is right
   module _ (l : length p ≡ register_length) where
-    pub register_bad : AsksFor p Bad → ServedBy (Registers p) b b p BadAttribute 0
+    pub register_bad : (AttributesAllowed (word p 0) → ⊥) ⊎ (AttributesAllowed (word p 0) × (EventsAllowed (word p 2) → ⊥))
+        → ServedBy (Registers p) b b p BadAttribute 0
     register_bad (inl h) = register_refused (inr ((λ d. d l), inl (h, refl)))
     register_bad (inr h) = register_refused (inr ((λ d. d l), inr ((λ d. d h.0), inl (h.1, refl))))
 
-    pub register_full : {attributes events : ℕ} → Asks p attributes events → RoomIs b Full → ServedBy (Registers p) b b p OutOfResource 0
+    pub register_full : {attributes events : ℕ} → Asks p attributes events → (most_clients ≤ clients_in b) ⊎ (most_issued ≤ issued_in b)
+        → ServedBy (Registers p) b b p OutOfResource 0
     register_full q h =
         let full : (most_clients ≤ length a.facts.clients) ⊎ (most_issued ≤ a.facts.issued) =
         ⊎_elim (λ m. inl (omega (arith, Of.clients_in_lem b a))) (λ m. inr (omega (arith, Of.issued_in_lem b a))) h in

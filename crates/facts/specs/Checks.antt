@@ -41,6 +41,11 @@ abbrev pub RefusedIf : {T : Type 0} → Type 0 → Code → Result T Code → Ty
 RefusedIf P k (Ok x) = P → ⊥
 RefusedIf P k (Err e) = (e ≡ k) × P
 
+-- the code of an answer
+abbrev pub code_in : {T : Type 0} → Result T Code → Code
+code_in (Ok x) = Success
+code_in (Err k) = k
+
 -- what a call of a service answers and leaves
 pub record Outcome : Type 0 where
   pub code : Code

@@ -38,7 +38,7 @@ pub use Ports.{MeetsHeld, Within, Meet, Has, Managed, AllManaged, Answers, Answe
 pub use Levels.{Together, exclusive_type, time_multiplexed_type, dynamic_type, type_of, Holds}
 pub use WellFormed.{Rising, Apart, Live, AttributesAllowed, EventsAllowed, ClientFits, IoFits, IrqFits, IoCompany, IrqCompany}
 pub use Packets.{byte, word, long, with_word, with_long, bit, Bytes}
-pub use Checks.{Check, ◌gives◌, FirstGiven, Passed, Checked, RefusedIf, DecidedThen, Decided, Outcome, Kept, Leaves, RuledThen, Ruled, Rule}
+pub use Checks.{Check, ◌gives◌, FirstGiven, Passed, Checked, RefusedIf, code_in, DecidedThen, Decided, Outcome, Kept, Leaves, RuledThen, Ruled, Rule}
 pub use Clients.{with_clients, next_handle, register_length, client_attributes, client_events, new_client, registered, register_checks, Register}
 pub use Clients.{without_client, HoldsIo, HoldsIrq, Masks, MaskHeld, HoldsMask, deregister_length, deregister_checks, Deregister}
 pub use Sockets.{socket_of, BadSocketIn, release_checks, request_checks, with_card, card_checks, CardOutcome, CardTo, masking, with_mask}

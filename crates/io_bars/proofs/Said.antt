@@ -1,18 +1,18 @@
 -- The bars that were entered have just the bases at which ports meet a live grant, or a gap. Assumes nothing.
+use Rattle.std.specs.Prelude.{Option, Some, None}
 use Rattle.facts.proofs.Words.{◌≡◌, sym, ◌∙◌, subst, List, some-injective, none-ne-some, ℕ, ◌<◌, arith}
 use Rattle.facts.specs.{MeetsHeld, Facts, HeldPorts, Held, Meet, most_seats, most_lines, all_ports}
 use Rattle.layout.specs.{Accepted}
 use Rattle.seats.specs.{HeldIs, range}
-use Rattle.seats.specs.declared.IoSeat.{IoSeat}
-use Rattle.seats.specs.declared.IoSeat.TheVariants as io
+use Rattle.seats.specs.declared.HeldPorts as seats
 use Rattle.seats.proofs.{io_held_lem}
 use Rattle.io_answering.specs.{row_at, GapsAre, ports_from}
 use Rattle.io_obstacles.specs.{Bar, Bars, bar_at, grant_places, gap_places}
-use Rattle.io_bars.specs.{BarIs, seat_ports, SeatFits, GrantBars, GapBars}
+use Rattle.io_bars.specs.{BarIs, PortsFit, seat_ports, GrantBars, GapBars}
 
 -- the bar of what is held at a seat
 pub record OfSeat (b : List ℕ) (count lines s : ℕ) (bar : Bar) : Type 0 where
-  pub read : IoSeat
+  pub read : Option seats.HeldPorts
   pub held : HeldIs b s read
   pub is : BarIs (seat_ports read) count lines bar
 
@@ -21,18 +21,18 @@ abbrev pub OfGap : List ℕ → ℕ → ℕ → ℕ → Bar → Type 0
 OfGap gaps count lines i = BarIs (row_at gaps i) count lines
 
 -- what is held begins at a port, and fits
-pub seat_below : (b : List ℕ) (s : ℕ) (l : s < most_seats) → Accepted b → (r : IoSeat) → HeldIs b s r → (seat_ports r).base < all_ports
-seat_below b s l a (io.Held x) h =
-    let f = a.formed.ios s (range x) (io_held_lem b s l a (io.Held x) h) in
-    let m = f.managed x.base (record { from = omega arith; below = omega (arith, f.port) }) in
+pub seat_below : (b : List ℕ) (s : ℕ) (l : s < most_seats) → Accepted b → (r : Option seats.HeldPorts) → HeldIs b s r → (seat_ports r).base < all_ports
+seat_below b s l a (Some x) h =
+    let f = a.formed.ios s (range x) (io_held_lem b s l a (Some x) h) in
+    let m = f.managed x.ports.base (record { from = omega arith; below = omega (arith, f.port) }) in
     omega (arith, m.has.below, a.formed.ranges m.range m.listed)
-seat_below b s l a io.Free h = omega arith
+seat_below b s l a None h = omega arith
 
-pub seat_fits : (b : List ℕ) (s : ℕ) (l : s < most_seats) → Accepted b → (r : IoSeat) → HeldIs b s r → SeatFits r
-seat_fits b s l a (io.Held x) h =
-    let f = a.formed.ios s (range x) (io_held_lem b s l a (io.Held x) h) in
-    record { base = omega (arith, seat_below b s l a (io.Held x) h); ports = omega (arith, f.asked); lines = f.lines }
-seat_fits b s l a io.Free h = record { base = omega arith; ports = omega arith; lines = omega arith }
+pub seat_fits : (b : List ℕ) (s : ℕ) (l : s < most_seats) → Accepted b → (r : Option seats.HeldPorts) → HeldIs b s r → PortsFit (seat_ports r)
+seat_fits b s l a (Some x) h =
+    let f = a.formed.ios s (range x) (io_held_lem b s l a (Some x) h) in
+    record { base = omega (arith, seat_below b s l a (Some x) h); ports = omega (arith, f.asked); lines = f.lines }
+seat_fits b s l a None h = record { base = omega arith; ports = omega arith; lines = omega arith }
 
 module _ (b : List ℕ) (count lines : ℕ) where
   module _ (bars : Bars grant_places) (so : (s : ℕ) → s < grant_places → OfSeat b count lines s (bar_at bars s)) (a : Accepted b) where
@@ -40,16 +40,16 @@ module _ (b : List ℕ) (count lines : ℕ) where
     F = a.facts
 
     -- ports that are met at a seat are held there
-    met_held : (s x : ℕ) → s < most_seats → (r : IoSeat) → HeldIs b s r → Meet (ports_from count lines x) (seat_ports r) → MeetsHeld F (ports_from count lines x)
-    met_held s x l (io.Held y) h m = record { seat = s; range = range y; held = io_held_lem b s l a (io.Held y) h; meets = m }
-    met_held s x l io.Free h m = absurd (omega (arith, m.other_in.from, m.other_in.below))
+    met_held : (s x : ℕ) → s < most_seats → (r : Option seats.HeldPorts) → HeldIs b s r → Meet (ports_from count lines x) (seat_ports r) → MeetsHeld F (ports_from count lines x)
+    met_held s x l (Some y) h m = record { seat = s; range = range y; held = io_held_lem b s l a (Some y) h; meets = m }
+    met_held s x l None h m = absurd (omega (arith, m.other_in.from, m.other_in.below))
 
-    held_met : (s x : ℕ) → s < most_seats → (y : HeldPorts) → Held F s y → Meet (ports_from count lines x) y.ports → (r : IoSeat) → HeldIs b s r
+    held_met : (s x : ℕ) → s < most_seats → (y : HeldPorts) → Held F s y → Meet (ports_from count lines x) y.ports → (r : Option seats.HeldPorts) → HeldIs b s r
         → Meet (ports_from count lines x) (seat_ports r)
-    held_met s x l y e m (io.Held z) h =
-        let same : range z ≡ y = some-injective (range z) y (sym (io_held_lem b s l a (io.Held z) h) ∙ e) in
+    held_met s x l y e m (Some z) h =
+        let same : range z ≡ y = some-injective (range z) y (sym (io_held_lem b s l a (Some z) h) ∙ e) in
         subst (λ (w : HeldPorts). Meet (ports_from count lines x) w.ports) (sym same) m
-    held_met s x l y e m io.Free h = absurd (none-ne-some y (sym (io_held_lem b s l a io.Free h) ∙ e))
+    held_met s x l y e m None h = absurd (none-ne-some y (sym (io_held_lem b s l a None h) ∙ e))
 
     pub grants_are : GrantBars F count lines bars
     grants_are =

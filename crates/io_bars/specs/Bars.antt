@@ -1,13 +1,11 @@
 -- Which bases the live grants and the gaps of a table bar. Assumes nothing.
-use Rattle.std.specs.Prelude.{List, ℕ, ◌+◌, ◌-◌, ◌^◌, ◌≤◌, ◌<◌}
+use Rattle.std.specs.Prelude.{Option, Some, None, List, ℕ, ◌+◌, ◌-◌, ◌^◌, ◌≤◌, ◌<◌}
 use Rattle.facts.specs.Table
 use Rattle.facts.specs.Table.{Facts}
 use Rattle.facts.specs.declared.Ports.{Ports}
 use Rattle.facts.specs.Ports.{Meet, MeetsHeld}
 use Rattle.layout.specs.Sound.{Accepted}
-use Rattle.seats.specs.Seats.{range}
-use Rattle.seats.specs.declared.IoSeat.{IoSeat}
-use Rattle.seats.specs.declared.IoSeat.TheVariants as io
+use Rattle.seats.specs.declared.HeldPorts.{HeldPorts}
 use Rattle.io_answering.specs.Gaps.{MeetsGap}
 use Rattle.io_answering.specs.Rows.{ports_from}
 use Rattle.io_obstacles.specs.{Bar, Bars, Power, LiesInBar, LiesInBars, grant_places, gap_places}
@@ -24,18 +22,15 @@ pub record BarIs (g : Ports) (count lines : ℕ) (bar : Bar) : Type 0 where
   pub only : (x : ℕ) → LiesInBar bar x → Meet (ports_from count lines x) g
 
 -- the ports that are held at a seat, or none
-abbrev pub seat_ports : IoSeat → Ports
-seat_ports (io.Held x) = (range x).ports
-seat_ports io.Free = record { base = 0; count = 0; lines = 0 }
+abbrev pub seat_ports : Option HeldPorts → Ports
+seat_ports (Some x) = x.ports
+seat_ports None = record { base = 0; count = 0; lines = 0 }
 
 -- numbers that a grant can have
 pub record PortsFit (g : Ports) : Type 0 where
   pub base : g.base ≤ Table.all_ports
   pub ports : g.count ≤ most_ports
   pub lines : g.lines ≤ Table.most_lines
-
-abbrev pub SeatFits : IoSeat → Type 0
-SeatFits held = PortsFit (seat_ports held)
 
 -- the bars have just the bases at which ports meet a live grant
 pub record GrantBars (F : Facts) (count lines : ℕ) (bars : Bars grant_places) : Type 0 where

@@ -1,3 +1,3 @@
 -- What the contracts of `io_bars` cite. Assumes nothing.
 pub mod Bars
-pub use Bars.{most_ports, BarIs, seat_ports, PortsFit, SeatFits, GrantBars, GrantBarsOf, GapBars}
+pub use Bars.{most_ports, BarIs, seat_ports, PortsFit, GrantBars, GrantBarsOf, GapBars}

@@ -2,26 +2,32 @@
 // which their card answers in it.
 #![tactic(auto)]
 
-ghost use Rattle.std.specs.Prelude.{◌≤◌, ◌<◌};
+ghost use Rattle.std.specs.Prelude.{◌≡◌, ◌≤◌, ◌<◌};
 ghost use Rattle.facts.specs.Table;
 ghost use Rattle.layout.specs.Sound.{Accepted};
-ghost use Rattle.io_bars.specs.Bars.{most_ports, BarIs, seat_ports, SeatFits, GrantBarsOf, GapBars};
+ghost use Rattle.io_bars.specs.Bars.{BarIs, seat_ports, PortsFit, GrantBarsOf, GapBars};
 
-use facts::Seat;
+use facts::{Ports, Seat};
 use io_answering::ROWS;
 use io_obstacles::{Bar, Bars, GAP_PLACES, GRANT_PLACES};
 use layout::{ALL_PORTS, MOST_LINES, MOST_SEATS};
-use seats::IoSeat;
+use seats::HeldPorts;
+
+const NO_PORTS: Ports = Ports {
+    base: 0,
+    count: 0,
+    lines: 0,
+};
 
 // The bases at which so many ports, decoded by so many lines, meet others: from where their last port is the first of those on, up to where their first
 // port is the last. Four ports meet the eight from 300 on at 2FD to 307, which are 4 + 8 - 1 bases, and again after each period.
-fn bar_of(base: usize, ports: usize, decoded: usize, count: usize, lines: usize) -> Bar
-    requires { (base ≤ Table.all_ports) × (ports ≤ most_ports) × (decoded ≤ Table.most_lines) × (1 ≤ count) × (count < 256) × (lines ≤ Table.most_lines) }
-    ensures { BarIs (record { base = base; count = ports; lines = decoded }) count lines result }
+fn bar_of(ports: Ports, count: usize, lines: usize) -> Bar
+    requires { PortsFit ports × (1 ≤ count) × (count < 256) × (lines ≤ Table.most_lines) }
+    ensures { BarIs ports count lines result }
 {
-    let start = (base + ALL_PORTS + 1 - count) % ALL_PORTS;
-    let ones = io_obstacles::limit_of(lines.min(decoded));
-    let width = if ports == 0 { 0 } else { ports + count - 1 };
+    let start = (ports.base + ALL_PORTS + 1 - count) % ALL_PORTS;
+    let ones = io_obstacles::limit_of(lines.min(ports.lines));
+    let width = if ports.count == 0 { 0 } else { ports.count + count - 1 };
     Bar {
         start: start as u16,
         ones,
@@ -29,14 +35,13 @@ fn bar_of(base: usize, ports: usize, decoded: usize, count: usize, lines: usize)
     }
 }
 
-// The bar of what is held at a seat; of nothing, one that has no base.
-fn seat_bar(held: IoSeat, count: usize, lines: usize) -> Bar
-    requires { SeatFits held × (1 ≤ count) × (count < 256) × (lines ≤ Table.most_lines) }
-    ensures { BarIs (seat_ports held) count lines result }
+// The ports that are held at a seat; of nothing, none.
+fn ports_of(held: Option<HeldPorts>) -> Ports
+    ensures { result ≡ seat_ports held }
 {
     match held {
-        IoSeat::Held(x) => bar_of(x.base, x.count, x.lines, count, lines),
-        IoSeat::Free => bar_of(0, 0, 0, count, lines),
+        Some(x) => x.ports,
+        None => NO_PORTS,
     }
 }
 
@@ -47,7 +52,8 @@ pub fn grant_bars(t: &[u8], count: usize, lines: usize) -> Bars<GRANT_PLACES>
 {
     let mut bars = Bars::none();
     for s in 0..MOST_SEATS {
-        bars.enter(s, seat_bar(seats::held(t, Seat(s)), count, lines));
+        let ports = ports_of(seats::held(t, Seat(s)));
+        bars.enter(s, bar_of(ports, count, lines));
     }
     bars
 }
@@ -65,9 +71,12 @@ pub fn gap_bars(t: &[u8], count: usize, lines: usize) -> Bars<GAP_PLACES>
     let mut gaps: [u16; ROWS] = [0; ROWS];
     io_answering::gap_rows(t, lines, &mut gaps);
     for i in 0..GAP_PLACES {
-        let base = gaps[i] as usize;
-        let ports = gaps[GAP_PLACES + i] as usize;
-        bars.enter(i, bar_of(base, ports, MOST_LINES, count, lines));
+        let ports = Ports {
+            base: gaps[i] as usize,
+            count: gaps[GAP_PLACES + i] as usize,
+            lines: MOST_LINES,
+        };
+        bars.enter(i, bar_of(ports, count, lines));
     }
     bars
 }

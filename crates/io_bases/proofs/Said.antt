@@ -1,9 +1,10 @@
 -- What the bytes say of the ports at a named base: whether they are managed, and what is in their way. Assumes nothing.
-use Rattle.facts.proofs.Words.{◌≡◌, sym, ◌∙◌, subst, ◌⊎◌, inr, ⊎_elim, List, Bool, true, false, not, none, some, some-injective}
-use Rattle.facts.proofs.Words.{none-ne-some, ℕ, ◌+◌, ◌<◌, dec_lt, arith, true≢false, Says}
+use Rattle.std.specs.Prelude.{◌&&◌, ◌||◌}
+use Rattle.facts.proofs.Words.{◌≡◌, refl, sym, ◌∙◌, subst, ◌⊎◌, inl, inr, ⊎_elim, List, Bool, true, false, not, none, some, some-injective}
+use Rattle.facts.proofs.Words.{none-ne-some, ℕ, ◌+◌, ◌<◌, dec_lt, arith, false≢true, Says}
 use Rattle.layout.proofs.Of
 use Rattle.facts.specs.{Facts, IoAsked, HeldPorts, Within, Meet, ports_at, NotAllManaged, BothShare, InTheWay, all_ports, most_seats}
-use Rattle.facts.proofs.{says_true, says_false, told, own_answers}
+use Rattle.facts.proofs.{says_true, says_false, says_as, told, own_answers}
 use Rattle.layout.specs.{Accepted, facts_in}
 use Rattle.table_read.proofs.Some.{Some}
 use Rattle.io_answering.specs.{AllManagedIn}
@@ -28,6 +29,13 @@ module _ (b : List ℕ) (q : IoAsked) (a : Accepted b) (within : all_ports < q.b
   all_managed f =
       ⊎_elim within (⊎_elim (λ n. n (λ p w. Of.managed_said b a p (f.own p w))) (λ n. n (λ p y. Of.managed_said b a p (f.answers p y))))
 
+-- one says First Shared, or not both say Shared
+alone_says : (f a b : Bool) → Says (f || not (a && b)) ((f ≡ true) ⊎ ((a ≡ true) × (b ≡ true) → ⊥))
+alone_says true a b = says_true (inl refl)
+alone_says false true true = says_false (⊎_elim false≢true (λ n. n (refl, refl)))
+alone_says false true false = says_true (inr (λ x. false≢true x.1))
+alone_says false false b = says_true (inr (λ x. false≢true x.0))
+
 -- what is held at a seat
 module _ (F : Facts) (q : IoAsked) (s : ℕ) where
   pub none_stands : F.io s ≡ none → StandsAt F q s → ⊥
@@ -37,19 +45,15 @@ module _ (F : Facts) (q : IoAsked) (s : ℕ) where
     same : (x : StandsAt F q s) → x.range ≡ y
     same x = some-injective x.range y (sym x.held ∙ held)
 
-    pub meets_stands : (Meet (ports_at q q.base) y.ports → ⊥) → StandsAt F q s → ⊥
-    meets_stands n x = n (subst (λ (z : HeldPorts). Meet (ports_at q q.base) z.ports) (same x) x.meets)
+    pub meets_stands : StandsAt F q s → Meet (ports_at q q.base) y.ports
+    meets_stands x = subst (λ (z : HeldPorts). Meet (ports_at q q.base) z.ports) (same x) x.meets
 
     -- it is met: then it is in the way, or both share
     module _ (met : Meet (ports_at q q.base) y.ports) where
-      pub unshared_stands : (q.first ≡ true) ⊎ (BothShare q y → ⊥) → StandsAt F q s
-      unshared_stands u = record { range = y; held = held; meets = met; unshared = u }
-
-      pub shared_says : q.first ≡ false → q.shared ≡ true → (r : Bool) → y.shared ≡ r → Says (not r) (StandsAt F q s)
-      shared_says first shared false e = says_true (unshared_stands (inr (λ both. true≢false (sym both.1 ∙ e))))
-      shared_says first shared true e =
-          says_false (λ x.
-          ⊎_elim (λ f. true≢false (sym f ∙ first)) (λ n. n (shared, subst (λ (z : HeldPorts). z.shared ≡ true) (sym (same x)) e)) x.unshared)
+      pub apart_says : Says (q.first || not (q.shared && y.shared)) (StandsAt F q s)
+      apart_says =
+          says_as (alone_says q.first q.shared y.shared) (λ u. record { range = y; held = held; meets = met; unshared = u })
+          (λ x. subst (λ (z : HeldPorts). (q.first ≡ true) ⊎ (BothShare q z → ⊥)) (same x) x.unshared)
 
 -- a live grant is in the way exactly if what is held at some seat is
 module _ (b : List ℕ) (q : IoAsked) (a : Accepted b) where

@@ -6,7 +6,7 @@ pub mod Searching
 pub mod Steps
 pub mod Wanting
 pub use Choosing.{none_found}
-pub use Runs.{Run, run_start, run_more, reach_stopped, reach_wanted}
+pub use Runs.{Run, run_start, run_more, reach_stopped}
 pub use Said.{BarsOnly, BarsAll, first_by, none_marked}
 pub use Searching.{open_found, open_none, NoneIn, lowest_in, lowest_of, none_of}
 pub use Steps.{smallest_power, smallest_power_lines}

@@ -93,13 +93,3 @@ module _ (b : List ℕ) (s : RangesSound b) where
     pub reach_stopped : (want : ℕ) → end < want → (FollowsOn b j end most → ⊥) → ReachIs b i most want end
     reach_stopped want l n =
         record { from = run.from; wanted = omega arith; within = run.within; counts = run.counts; ends = λ _. run_ends n }
-
-    pub reach_wanted : (want : ℕ) → range_base b i ≤ want → want ≤ end → ReachIs b i most want want
-    reach_wanted want h l =
-        record {
-          from = h;
-          wanted = omega arith;
-          within = omega (arith, run.within);
-          counts = λ p f m. run.counts p f (omega arith);
-          ends = λ m. absurd (omega arith);
-        }

@@ -40,10 +40,7 @@ fn follows(t: &[u8], j: usize, end: usize, most: usize) -> bool
         return false;
     }
     let at = RANGES_AT + j * RANGE_SIZE;
-    if table_read::word(t, at) != end {
-        return false;
-    }
-    table_read::byte(t, at + RANGE_RESERVED_AT) <= most
+    table_read::word(t, at) == end && table_read::byte(t, at + RANGE_RESERVED_AT) <= most
 }
 
 // How far the ports that count go on from the base of the range `i`, over the ranges that follow without a gap: no further than is wanted.
@@ -139,7 +136,7 @@ fn first(t: &[u8], search: &Search, mut known: Stretch) -> Option<usize>
     requires barring { Barring (Barred search.now) search.now.wanted.step known }
     ensures { FirstIs t.now (Barred search.now) search.now.wanted.count search.now.wanted.step result }
 {
-    for most in UNRESERVED..ALL + 1 {
+    for most in UNRESERVED..=ALL {
         if !some_marked(t, most) {
             return None;
         }

@@ -5,5 +5,5 @@ pub mod Searching
 pub mod Repeating
 pub use Leaping.{masked, wrapped, leaps, leaps_short, leap_more}
 pub use Steps.{power_positive, power_most, rounded}
-pub use Searching.{AllBarred, leap_barred, Gone, gone_start, gone_on, gone_along, gone_free, gone_past, gone_as}
+pub use Searching.{AllBarred, leap_barred, Gone, gone_on, gone_along, gone_free, gone_past, gone_as}
 pub use Repeating.{period_is, bars_repeat, barred_repeat, bars_more, learnt_barring, barring_as}

@@ -2,7 +2,7 @@
 use Rattle.facts.proofs.Words.{◌≡◌, ap, sym, subst, ◌∙◌, inl, inr, ℕ, ◌+◌, ◌-◌, ◌%◌, ◌^◌, ◌≤◌, ◌<◌, max, add-mod-mod, mod-add-mod, dec_le, arith}
 use Rattle.facts.specs.{all_ports}
 use Rattle.io_ranges.proofs.{all_ports_mod, mod_fewer}
-use Rattle.io_obstacles.specs.Alone.{power_lines}
+use Rattle.io_obstacles.specs.Unique.{power_lines}
 use Rattle.io_obstacles.specs.{around, Power, Multiple, Period, LiesFrom, Bars, bar_at, LiesInBars, Stretch, Lies, Barring, Repeats, StretchBetween, LearntIs}
 use Rattle.io_obstacles.specs.{Search, Barred}
 use Rattle.io_obstacles.proofs.Searching.{AllBarred}

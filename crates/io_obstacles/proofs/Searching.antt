@@ -19,9 +19,6 @@ module _ (Bar : ℕ → Type 0) (step from : ℕ) where
     pub near : base ≤ around + around
     pub barred : AllBarred Bar step from base
 
-  pub gone_start : Multiple step from → from ≤ around + around → Gone from
-  gone_start m l = record { multiple = m; past = omega arith; near = l; barred = λ y n f h. absurd (omega arith) }
-
   module _ (base : ℕ) (g : Gone base) where
     -- from one that is barred, it leaps to the first past the end
     pub gone_on : (far next : ℕ) → base ≤ far → AllBarred Bar step base far → FirstMultiple far step next → next ≤ around + around → Gone next

@@ -1,6 +1,6 @@
 -- What the contracts of `io_obstacles` cite. Assumes nothing.
 pub mod Powers
-pub mod Alone
+pub mod Unique
 pub mod Rows
 pub mod Stretches
 pub mod Searches

@@ -1,4 +1,4 @@
--- Powers of two, the multiples of one, and periods. Assumes nothing.
+-- Powers of two and their multiples; periods, and the bases that a leap goes over. Assumes nothing.
 use Rattle.std.specs.Prelude.{◌≡◌, ℕ, ◌+◌, ◌-◌, ◌*◌, ◌%◌, ◌^◌, ◌<◌, ◌≤◌}
 use Rattle.facts.specs.Table
 

@@ -6,7 +6,7 @@ ghost use Rattle.std.specs.Prelude.{◌≡◌, ◌+◌, ◌^◌, ◌<◌, ◌≤
 ghost use Rattle.facts.specs.Table;
 ghost use Rattle.facts.specs.Says.{Says};
 ghost use Rattle.io_obstacles.specs.Powers.{around, Power, FirstMultiple, Period};
-ghost use Rattle.io_obstacles.specs.Alone.{Power-prop};
+ghost use Rattle.io_obstacles.specs.Unique.{Power-prop};
 
 use layout::{ALL_PORTS, MOST_LINES};
 

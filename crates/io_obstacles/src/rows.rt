@@ -1,7 +1,7 @@
 // Bars of bases: each stands for what one live grant bars, or one gap between the managed ranges.
 ghost use Rattle.std.specs.Prelude.{ℕ, ◌+◌, ◌<◌, ◌≤◌, slice_index};
 ghost use Rattle.io_obstacles.specs.Powers.{around, Power};
-ghost use Rattle.io_obstacles.specs.Alone.{Powers-prop};
+ghost use Rattle.io_obstacles.specs.Unique.{Powers-prop};
 
 use layout::{MOST_RANGES, MOST_SEATS};
 
@@ -36,7 +36,7 @@ impl Bar {
 }
 
 // As many bars as there are places: where each starts, its period less one, and how many bases it has. These are rows of 16-bit numbers, so that many bars
-// are looked at side by side. The bar in a place that isn't used has no base.
+// are looked at side by side. Each period is a power of two. The bar in a place that isn't used has no base.
 #[derive(Drop)]
 pub struct Bars<const N: usize> {
     start: [u16; N],

@@ -1,7 +1,7 @@
 // Stretches of bases that a search knows to be barred.
 ghost use Rattle.std.specs.Prelude.{◌≡◌, ◌+◌, ◌≤◌};
 ghost use Rattle.io_obstacles.specs.Powers.{around, Power};
-ghost use Rattle.io_obstacles.specs.Alone.{Power-prop};
+ghost use Rattle.io_obstacles.specs.Unique.{Power-prop};
 
 use layout::ALL_PORTS;
 

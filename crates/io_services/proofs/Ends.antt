@@ -11,11 +11,7 @@ use Rattle.service_checks.specs.declared.CardNeed.{CardNeed}
 use Rattle.service_checks.specs.declared.CardNeed.TheVariants.{Needed, Ignored}
 use Rattle.service_checks.proofs.{seat_named, in_seats, Service, refused_own, done_own}
 use Rattle.io_bases.specs.{BaseIs}
-use Rattle.io_bases.specs.declared.Base.{Base}
-use Rattle.io_bases.specs.declared.Base.TheVariants as taken
-use Rattle.service_answers.specs.{code_of, handle_of}
-use Rattle.service_answers.specs.declared.Answer.{Answer}
-use Rattle.io_services.specs.{asked_entered, BaseFits, Granted}
+use Rattle.io_services.specs.{asked_entered}
 
 -- the two services
 abbrev pub requesting : Service
@@ -44,11 +40,6 @@ count_good p good = within_or_not (dec_le 1 (count_asked_lem p))
     within_or_not : Dec (1 ≤ count_asked_lem p) → 1 ≤ count_asked_lem p
     within_or_not (yes l) = l
     within_or_not (no l) = absurd (good (inl (omega arith)))
-
--- a base that is taken is a number of 16 bits
-pub base_fits : (b : List ℕ) (q : IoAsked) (r : Base) → BaseIs b q r → BaseFits r
-base_fits b q (taken.At x) is = is.0
-base_fits b q (taken.Refused k) is = omega arith
 
 -- the service has begun: the seat's grant
 module _ {b p : List ℕ} {n h i s : ℕ} {need : CardNeed} (a : Accepted b) (begun : BegunAt b p n h need i s) where
@@ -96,12 +87,6 @@ module _ {b p : List ℕ} {h i s : ℕ} (a : Accepted b) (begun : BegunAt b p re
             (attributes, (sizes, ((λ d. d (free a begun unused)), taken.0)))
             (record { base = x; taken = taken.1; leaves = left h (with_word p 2 x) after })
             (rw (← seat_named a begun) (granted_image b a s (in_seats a begun) (io_grant h (io_asked p) x) low based))
-
-        -- what is settled of a base is the rule's
-        pub settled : (r : Base) (b' p' : List ℕ) (k : Answer) → h < 65536 → BaseIs b (io_asked p) r → Granted s h (io_asked p) r p p' b b' k
-            → Requested b' p' (code_of k) (handle_of k)
-        settled (taken.At x) b' p' k low is (entered, said, code, handle) = rw (entered, said, code, handle) (request_done x (is.1 a) low is.0)
-        settled (taken.Refused code) b' p' k low is (same, kept, said, handle) = rw (same, kept, said, handle) (request-base code (is a))
 
 module _ {b p : List ℕ} {h i s : ℕ} (a : Accepted b) (begun : BegunAt b p release_io_length h Ignored i s) where
   abbrev Released : List ℕ → Code → ℕ → Type 0

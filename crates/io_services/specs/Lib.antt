@@ -1,3 +1,3 @@
 -- What the contracts of `io_services` cite. Assumes nothing.
 pub mod Granting
-pub use Granting.{asked_entered, BaseFits, Granted}
+pub use Granting.{asked_entered}

@@ -1,5 +1,5 @@
 -- Which levels fit a request, and which it goes together with, as sets; and what the choice among them answers. Assumes nothing.
-use Rattle.std.specs.Prelude.{◌≡◌, List, Bool, true, false, ℕ}
+use Rattle.std.specs.Prelude.{◌≡◌, List, Bool, true, false, ℕ, Option, Some, None}
 use Rattle.facts.specs.declared.IrqAsked.{IrqAsked}
 use Rattle.facts.specs.declared.Manner.{Manner}
 use Rattle.facts.specs.Table
@@ -12,8 +12,6 @@ use Rattle.layout.specs.Sound.{Accepted}
 use Rattle.table_read.specs.Sets.{HasJust, SomeBelow}
 use Rattle.irq_fitting.specs.declared.Levels.{Levels}
 use Rattle.irq_fitting.specs.declared.Fitting.{Fitting}
-use Rattle.irq_fitting.specs.declared.TakenLevel.{TakenLevel}
-use Rattle.irq_fitting.specs.declared.TakenLevel.TheVariants.{Level, Nothing}
 
 -- a grant of the manner m goes together with the request: First Shared isn't set, and its manner goes together with the one asked for
 pub record Goes (q : IrqAsked) (m : Manner) : Type 0 where
@@ -70,11 +68,11 @@ abbrev pub LowestIn : ℕ → ℕ → Type 0
 LowestIn set = Lowest (λ k. bit set k ≡ 1)
 
 -- the first of the levels that fit, or none does
-abbrev pub FirstIs : Facts → IrqAsked → TakenLevel → Type 0
-FirstIs F q (Level l) = FirstFitting F q l
-FirstIs F q Nothing = NoLevelFits F q
+abbrev pub FirstIs : Facts → IrqAsked → Option ℕ → Type 0
+FirstIs F q (Some l) = FirstFitting F q l
+FirstIs F q None = NoLevelFits F q
 
 -- the level that is taken, or none fits
-abbrev pub TakenIs : List ℕ → IrqAsked → TakenLevel → Type 0
-TakenIs b q (Level l) = (a : Accepted b) → LevelTaken a.facts q l
-TakenIs b q Nothing = (a : Accepted b) → NoLevelFits a.facts q
+abbrev pub TakenIs : List ℕ → IrqAsked → Option ℕ → Type 0
+TakenIs b q (Some l) = (a : Accepted b) → LevelTaken a.facts q l
+TakenIs b q None = (a : Accepted b) → NoLevelFits a.facts q

@@ -1,33 +1,28 @@
 // The level that a request for an IRQ takes, on a table that is the image of a well-formed set.
 #![tactic(auto)]
 
-ghost use Rattle.std.specs.Prelude.{◌≢◌, ◌<◌};
+ghost use Rattle.std.specs.Prelude.{◌<◌};
 ghost use Rattle.facts.specs.Table;
 ghost use Rattle.facts.specs.Says.{Says};
 ghost use Rattle.facts.specs.Irq.{Fits};
 ghost use Rattle.layout.specs.Reading.{facts_in};
 ghost use Rattle.layout.specs.Sound.{Accepted};
 ghost use Rattle.table_read.specs.Sets.{HasJust};
-ghost use Rattle.irq_fitting.specs.Fitting.{Goes, LevelsAt, LevelsHeld, LevelBarred, FittingAt, LevelsFitting, LowestIn, FirstIs, TakenIs};
+ghost use Rattle.irq_fitting.specs.Fitting.{Goes, LevelsAt, LevelsHeld, LevelBarred, FittingAt, LevelsFitting, FirstIs, TakenIs};
 
 use facts::{IrqAsked, Manner, Seat};
 use layout::{ALL_LEVELS, LEVEL_RESERVED_AT, LEVEL_SIZE, LEVELS_AT, MARKED, MOST_SEATS};
-use seats::IrqSeat;
 
 // "without First Shared, all its grants go together with this manner": whether a grant of the manner held does.
 fn goes(asked: IrqAsked, held: Manner) -> bool
     ensures { Says result (Goes asked held) }
 {
-    if asked.first {
-        return false;
-    }
-    let manner = asked.manner;
-    irq_levels::together(held, manner)
+    !asked.first && irq_levels::together(held, asked.manner)
 }
 
 // The levels that grants hold, a bit for each: those where a grant stands in the way of the request, and those where one goes together with it. For a request
 // as dynamic level, where level 3 is held as exclusive and level 5 as dynamic level, the first set is 2^3, and the second 2^5.
-#[derive(Clone, Copy)]
+#[derive(Clone, Copy, Debug, PartialEq, Eq)]
 pub struct Levels {
     pub way: usize,
     pub together: usize,
@@ -38,23 +33,23 @@ fn levels_at(t: &[u8], asked: IrqAsked, s: Seat) -> Levels
     requires { Accepted t.now × (s.0 < Table.most_seats) }
     ensures { LevelsAt (facts_in t.now) asked s.0 result }
 {
-    let IrqSeat::Held(held) = seats::level_held(t, s) else {
+    let Some(held) = seats::level_held(t, s) else {
         return Levels {
             way: 0,
             together: 0,
         };
     };
     let level = 1 << held.level;
-    let manner = held.manner;
-    if goes(asked, manner) {
-        return Levels {
+    if goes(asked, held.manner) {
+        Levels {
             way: 0,
             together: level,
-        };
-    }
-    Levels {
-        way: level,
-        together: 0,
+        }
+    } else {
+        Levels {
+            way: level,
+            together: 0,
+        }
     }
 }
 
@@ -67,8 +62,8 @@ fn levels_held(t: &[u8], asked: IrqAsked) -> Levels
     let mut together = 0;
     for s in 0..MOST_SEATS {
         let here = levels_at(t, asked, Seat(s));
-        way = way | here.way;
-        together = together | here.together;
+        way |= here.way;
+        together |= here.together;
     }
     Levels { way, together }
 }
@@ -81,14 +76,11 @@ fn level_fits(t: &[u8], asked: IrqAsked, way: usize, l: usize) -> bool
     if table_read::byte(t, LEVELS_AT + l * LEVEL_SIZE) != MARKED {
         return false;
     }
-    if !table_read::is_set(asked.named, l) {
-        return false;
-    }
-    !table_read::is_set(way, l)
+    table_read::is_set(asked.named, l) && !table_read::is_set(way, l)
 }
 
 // The levels that fit, a bit for each: those that aren't reserved, and those that are.
-#[derive(Clone, Copy)]
+#[derive(Clone, Copy, Debug, PartialEq, Eq)]
 pub struct Fitting {
     pub unreserved: usize,
     pub reserved: usize,
@@ -107,14 +99,15 @@ fn fitting_at(t: &[u8], asked: IrqAsked, way: usize, l: usize) -> Fitting
     }
     let level = 1 << l;
     if table_read::byte(t, LEVELS_AT + l * LEVEL_SIZE + LEVEL_RESERVED_AT) == MARKED {
-        return Fitting {
+        Fitting {
             unreserved: 0,
             reserved: level,
-        };
-    }
-    Fitting {
-        unreserved: level,
-        reserved: 0,
+        }
+    } else {
+        Fitting {
+            unreserved: level,
+            reserved: 0,
+        }
     }
 }
 
@@ -127,8 +120,8 @@ fn levels_fitting(t: &[u8], asked: IrqAsked, way: usize) -> Fitting
     let mut reserved = 0;
     for l in 0..ALL_LEVELS {
         let here = fitting_at(t, asked, way, l);
-        unreserved = unreserved | here.unreserved;
-        reserved = reserved | here.reserved;
+        unreserved |= here.unreserved;
+        reserved |= here.reserved;
     }
     Fitting {
         unreserved,
@@ -136,42 +129,27 @@ fn levels_fitting(t: &[u8], asked: IrqAsked, way: usize) -> Fitting
     }
 }
 
-// The lowest of a set's levels: its trailing zeros. Of the levels 3 and 5, 28H, these are three.
-fn lowest(set: usize) -> u32
-    requires { set ≢ 0 }
-    ensures { LowestIn set result }
-{
-    usize::trailing_zeros(set)
-}
-
-// The level that a request takes, or none fits.
-#[derive(Clone, Copy)]
-pub enum TakenLevel {
-    Level(usize),
-    Nothing,
-}
-
 // "An unreserved level comes before a reserved one, then the lowest." Where each level that is named has a grant in the way, none fits, and no level is looked
-// at: of the levels 3 and 5, 28H, the set of those in the way has all, as 2BH has.
-fn first_fitting(t: &[u8], asked: IrqAsked, way: usize) -> TakenLevel
+// at: of the levels 3 and 5, 28H, the set of those in the way has all, as 2BH has. The lowest of a set is its trailing zeros: of 28H, these are three.
+fn first_fitting(t: &[u8], asked: IrqAsked, way: usize) -> Option<usize>
     requires { Accepted t.now × HasJust way (LevelBarred (facts_in t.now) asked) }
     ensures { FirstIs (facts_in t.now) asked result }
 {
     if asked.named & way == asked.named {
-        return TakenLevel::Nothing;
+        return None;
     }
     let fitting = levels_fitting(t, asked, way);
     if fitting.unreserved != 0 {
-        return TakenLevel::Level(lowest(fitting.unreserved) as usize);
+        return Some(fitting.unreserved.trailing_zeros() as usize);
     }
     if fitting.reserved != 0 {
-        return TakenLevel::Level(lowest(fitting.reserved) as usize);
+        return Some(fitting.reserved.trailing_zeros() as usize);
     }
-    TakenLevel::Nothing
+    None
 }
 
 // K1: "the lowest named level that already has grants of its manner; only if none exists, the old choice."
-pub fn choose(t: &[u8], asked: IrqAsked) -> TakenLevel
+pub fn choose(t: &[u8], asked: IrqAsked) -> Option<usize>
     requires { Accepted t.now }
     ensures { TakenIs t.now asked result }
 {
@@ -180,5 +158,5 @@ pub fn choose(t: &[u8], asked: IrqAsked) -> TakenLevel
     if joined == 0 {
         return first_fitting(t, asked, held.way);
     }
-    TakenLevel::Level(lowest(joined) as usize)
+    Some(joined.trailing_zeros() as usize)
 }

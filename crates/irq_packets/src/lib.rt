@@ -6,14 +6,13 @@ ghost use Rattle.facts.specs.Table;
 ghost use Rattle.facts.specs.Says.{Says};
 ghost use Rattle.facts.specs.Packets.{bit};
 ghost use Rattle.facts.specs.Levels.{exclusive_type, dynamic_type};
-ghost use Rattle.facts.specs.declared.Manner.TheVariants.{DynamicPulse};
+ghost use Rattle.facts.specs.declared.Code.TheVariants.{BadAttribute, BadArgs};
+ghost use Rattle.facts.specs.Checks.{RefusedIf};
 ghost use Rattle.facts.specs.Irq.{request_irq_length, attributes_of, info1, info2, type_asked_lem, level_asked_lem, manner_asked_lem, dynamic_of};
 ghost use Rattle.facts.specs.Irq.{levels_named_lem, irq_asked, with_pulse, assigning};
-ghost use Rattle.facts.specs.Irq.{ForcePulse, IrqFirstShared, Mask, LevelBit, PulseBit, ShareBit};
-ghost use Rattle.irq_packets.specs.Asking;
-ghost use Rattle.irq_packets.specs.Asking.{AttributesAre, InfoIs};
+ghost use Rattle.facts.specs.Irq.{ForcePulse, IrqFirstShared, IrqAttributesBad, IrqInfoBad, Mask, LevelBit, PulseBit, ShareBit};
 
-use facts::{IrqAsked, Manner};
+use facts::{Code, IrqAsked, Manner};
 use irq_levels::{DYNAMIC_TYPE, EXCLUSIVE_TYPE, TIME_MULTIPLEXED_TYPE};
 use layout::ALL_LEVELS;
 
@@ -48,13 +47,6 @@ const PULSE: usize = 6;
 
 const SHARE: usize = 7;
 
-// Whether two answers are both yes.
-fn both(a: bool, b: bool) -> bool
-    ensures { result ≡ Asking.both a b }
-{
-    if a { b } else { false }
-}
-
 fn attribute_set(p: &[u8], place: usize) -> bool
     requires { (3 < length p.now) × (place < 16) }
     ensures { Says result (bit (attributes_of p.now) place ≡ 1) }
@@ -88,7 +80,7 @@ fn first_exclusive(p: &[u8]) -> bool
     requires { length p.now ≡ request_irq_length }
     ensures { Says result (IrqFirstShared p.now × (type_asked_lem p.now ≡ exclusive_type)) }
 {
-    both(first_shared(p), type_asked(p) == EXCLUSIVE_TYPE)
+    first_shared(p) && type_asked(p) == EXCLUSIVE_TYPE
 }
 
 // "Force Pulse without the card's Pulse bit"
@@ -96,7 +88,7 @@ fn forced_unable(p: &[u8]) -> bool
     requires { length p.now ≡ request_irq_length }
     ensures { Says result (ForcePulse p.now × (PulseBit p.now → ⊥)) }
 {
-    both(attribute_set(p, FORCE_PULSE), !info_set(p, PULSE))
+    attribute_set(p, FORCE_PULSE) && !info_set(p, PULSE)
 }
 
 // "dynamic sharing without its Share bit"
@@ -104,36 +96,25 @@ fn dynamic_unable(p: &[u8]) -> bool
     requires { length p.now ≡ request_irq_length }
     ensures { Says result ((type_asked_lem p.now ≡ dynamic_type) × (ShareBit p.now → ⊥)) }
 {
-    both(type_asked(p) == DYNAMIC_TYPE, !info_set(p, SHARE))
+    type_asked(p) == DYNAMIC_TYPE && !info_set(p, SHARE)
 }
 
 // Whether the attributes are ones that a request may have.
-#[derive(Clone, Copy)]
-pub enum Attributes {
-    Good,
-    Bad,
-}
-
-pub fn attributes_asked(p: &[u8]) -> Attributes
+pub fn attributes_asked(p: &[u8]) -> Result<(), Code>
     requires { length p.now ≡ request_irq_length }
-    ensures { AttributesAre p.now result }
+    ensures { RefusedIf (IrqAttributesBad p.now) BadAttribute result }
 {
-    if type_asked(p) == RESERVED_TYPE {
-        return Attributes::Bad;
+    let kind = type_asked(p);
+    let attributes = table_read::word(p, ATTRIBUTES_AT);
+    if kind == RESERVED_TYPE
+        || ALL_ATTRIBUTES <= attributes
+        || first_exclusive(p)
+        || forced_unable(p)
+        || dynamic_unable(p)
+    {
+        return Err(Code::BadAttribute);
     }
-    if ALL_ATTRIBUTES <= table_read::word(p, ATTRIBUTES_AT) {
-        return Attributes::Bad;
-    }
-    if first_exclusive(p) {
-        return Attributes::Bad;
-    }
-    if forced_unable(p) {
-        return Attributes::Bad;
-    }
-    if dynamic_unable(p) {
-        return Attributes::Bad;
-    }
-    Attributes::Good
+    Ok(())
 }
 
 // "neither Level nor Pulse"
@@ -141,7 +122,7 @@ fn neither(p: &[u8]) -> bool
     requires { length p.now ≡ request_irq_length }
     ensures { Says result ((LevelBit p.now → ⊥) × (PulseBit p.now → ⊥)) }
 {
-    both(!info_set(p, LEVEL), !info_set(p, PULSE))
+    !info_set(p, LEVEL) && !info_set(p, PULSE)
 }
 
 fn level_asked(p: &[u8]) -> usize
@@ -156,7 +137,7 @@ fn mask_and_level(p: &[u8]) -> bool
     requires { length p.now ≡ request_irq_length }
     ensures { Says result (Mask p.now × (level_asked_lem p.now ≢ 0)) }
 {
-    both(info_set(p, MASK), level_asked(p) != 0)
+    info_set(p, MASK) && level_asked(p) != 0
 }
 
 // "or with IRQInfo2 0"
@@ -164,30 +145,18 @@ fn mask_of_none(p: &[u8]) -> bool
     requires { length p.now ≡ request_irq_length }
     ensures { Says result (Mask p.now × (info2 p.now ≡ 0)) }
 {
-    both(info_set(p, MASK), table_read::word(p, INFO_2_AT) == 0)
+    info_set(p, MASK) && table_read::word(p, INFO_2_AT) == 0
 }
 
 // Whether IRQInfo1 and IRQInfo2 are ones that a request may have.
-#[derive(Clone, Copy)]
-pub enum Info {
-    Good,
-    Bad,
-}
-
-pub fn info_asked(p: &[u8]) -> Info
+pub fn info_asked(p: &[u8]) -> Result<(), Code>
     requires { length p.now ≡ request_irq_length }
-    ensures { InfoIs p.now result }
+    ensures { RefusedIf (IrqInfoBad p.now) BadArgs result }
 {
-    if neither(p) {
-        return Info::Bad;
+    if neither(p) || mask_and_level(p) || mask_of_none(p) {
+        return Err(Code::BadArgs);
     }
-    if mask_and_level(p) {
-        return Info::Bad;
-    }
-    if mask_of_none(p) {
-        return Info::Bad;
-    }
-    Info::Good
+    Ok(())
 }
 
 // "Dynamic is pulse if Force Pulse is set or the card lacks Level."
@@ -209,8 +178,7 @@ fn manner_asked(p: &[u8]) -> Manner
     requires { length p.now ≡ request_irq_length }
     ensures { result ≡ manner_asked_lem p.now }
 {
-    let kind = type_asked(p);
-    match kind {
+    match type_asked(p) {
         EXCLUSIVE_TYPE => Manner::Exclusive,
         TIME_MULTIPLEXED_TYPE => Manner::TimeMultiplexed,
         _ => dynamic(p),
@@ -233,37 +201,22 @@ pub fn asked(p: &[u8]) -> IrqAsked
     requires { length p.now ≡ request_irq_length }
     ensures { result ≡ irq_asked p.now }
 {
-    let manner = manner_asked(p);
-    let named = levels_named(p);
-    let first = first_shared(p);
     IrqAsked {
-        manner,
-        named,
-        first,
+        manner: manner_asked(p),
+        named: levels_named(p),
+        first: first_shared(p),
     }
 }
 
 // "for dynamic pulse only, attribute bit 8"
-fn is_pulse(m: Manner) -> bool
-    ensures { Says result (m ≡ DynamicPulse) }
-{
-    match m {
-        Manner::Exclusive => false,
-        Manner::TimeMultiplexed => false,
-        Manner::DynamicLevel => false,
-        Manner::DynamicPulse => true,
-    }
-}
-
 fn show_pulse(p: &mut [u8], m: Manner)
     requires { length p.old ≡ request_irq_length }
     ensures { p.new ≡ with_pulse m p.old }
 {
-    if !is_pulse(m) {
-        return;
+    if m == Manner::DynamicPulse {
+        let attributes = table_read::word(p, ATTRIBUTES_AT);
+        table_write::put_word(p, ATTRIBUTES_AT, attributes + PULSE_ALLOCATED);
     }
-    let attributes = table_read::word(p, ATTRIBUTES_AT);
-    table_write::put_word(p, ATTRIBUTES_AT, attributes + PULSE_ALLOCATED);
 }
 
 // "Success writes AssignedIRQ and, for dynamic pulse only, attribute bit 8."

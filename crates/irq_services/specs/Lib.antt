@@ -1,3 +1,2 @@
 -- What the contracts of `irq_services` cite. Assumes nothing.
 pub mod Granting
-pub use Granting.{KindIs}

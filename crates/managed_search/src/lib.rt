@@ -42,14 +42,14 @@ fn search_from(t: &[u8], p: usize) -> usize
     ensures { Skipped t.now p result }
 {
     let ranges = table_read::byte(t, RANGES_IN);
-    let mut i = 0;
-    while i + STRIDE < ranges {
-        if p < table_read::word(t, RANGES_AT + (i + STRIDE) * RANGE_SIZE) {
-            return i;
+    let mut from = 0;
+    for i in (STRIDE..ranges).step_by(STRIDE) {
+        if p < table_read::word(t, RANGES_AT + i * RANGE_SIZE) {
+            break;
         }
-        i += STRIDE;
+        from = i;
     }
-    i
+    from
 }
 
 // Whether all the ports are managed: one pass over the ranges, which are in order. `p` is the first port that no range passed has; where a range

@@ -1,3 +1,3 @@
 -- What the contracts of `socket_masks` cite. Assumes nothing.
 pub mod Masks
-pub use Masks.{EventsAre, MaskIs}
+pub use Masks.{EventsAre}

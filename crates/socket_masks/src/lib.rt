@@ -8,12 +8,11 @@ ghost use Rattle.facts.specs.Sockets.{request_mask_length};
 ghost use Rattle.layout.specs.Layout.{table_size};
 ghost use Rattle.layout.specs.Reading.{mask_place};
 ghost use Rattle.layout.specs.Sound.{Accepted};
-ghost use Rattle.socket_masks.specs.Masks.{EventsAre, MaskIs, RequestServed, ReleaseServed};
+ghost use Rattle.socket_masks.specs.Masks.{EventsAre, RequestServed, ReleaseServed};
 
 use facts::{Code, Handle, Seat};
 use layout::{ALL_EVENTS, MASK_SIZE, MASKS_AT, MASKS_SIZE};
-use service_answers::Answer;
-use service_checks::{Begun, CardNeed};
+use service_checks::CardNeed;
 
 // The packet of RequestSocketMask (5.54) is 4 bytes, that of ReleaseSocketMask (5.46) is 2.
 const REQUEST_LENGTH: usize = 4;
@@ -23,39 +22,15 @@ const RELEASE_LENGTH: usize = 2;
 const EVENTS_AT: usize = 2;
 
 // The event mask that a request asks for: "bits 12 to 15 BAD_ATTRIBUTE".
-#[derive(Clone, Copy)]
-pub enum Events {
-    Allowed(usize),
-    Bad,
-}
-
-fn events_asked(p: &[u8]) -> Events
+fn events_asked(p: &[u8]) -> Result<usize, Code>
     requires { length p.now ≡ request_mask_length }
     ensures { EventsAre p.now result }
 {
     let events = table_read::word(p, EVENTS_AT);
     if events < ALL_EVENTS {
-        Events::Allowed(events)
+        Ok(events)
     } else {
-        Events::Bad
-    }
-}
-
-// Whether the client listed in the place `i` has a mask at the seat.
-#[derive(Clone, Copy)]
-pub enum SocketMask {
-    Held,
-    Free,
-}
-
-fn mask_of(t: &[u8], i: usize, seat: Seat) -> SocketMask
-    requires { (length t.now ≡ table_size) × (i < Table.most_clients) × (seat.0 < Table.most_seats) }
-    ensures { MaskIs t.now i seat.0 result }
-{
-    if client_record::mask_on(t, i, seat) {
-        SocketMask::Held
-    } else {
-        SocketMask::Free
+        Err(Code::BadAttribute)
     }
 }
 
@@ -64,44 +39,31 @@ fn write(t: &mut [u8], i: usize, seat: Seat, word: usize)
     requires { (length t.old ≡ table_size) × (i < Table.most_clients) × (seat.0 < Table.most_seats) }
     ensures { t.new ≡ with_word t.old (mask_place i seat.0) word }
 {
-    let number = seat.0;
-    let at = MASKS_AT + i * MASKS_SIZE + number * MASK_SIZE;
-    table_write::put_word(t, at, word);
+    table_write::put_word(t, MASKS_AT + i * MASKS_SIZE + seat.0 * MASK_SIZE, word);
 }
 
-pub fn request(t: &mut [u8], h: Handle, p: &[u8]) -> Answer
+pub fn request(t: &mut [u8], h: Handle, p: &[u8]) -> Result<Handle, Code>
     requires { Accepted t.old }
     ensures { RequestServed h.0 p.now t.old t.new result }
 {
-    let begun = service_checks::begin(t, h, p, REQUEST_LENGTH, CardNeed::Needed);
-    match begun {
-        Begun::At(i, seat) => {
-            let Events::Allowed(events) = events_asked(p) else {
-                return Answer::Refused(Code::BadAttribute);
-            };
-            let SocketMask::Free = mask_of(t, i, seat) else {
-                return Answer::Refused(Code::InUse);
-            };
-            write(t, i, seat, events + 1);
-            Answer::Done(h)
-        }
-        Begun::Refused(code) => Answer::Refused(code),
+    let (i, seat) = service_checks::begin(t, h, p, REQUEST_LENGTH, CardNeed::Needed)?;
+    let events = events_asked(p)?;
+    let held = client_record::mask_on(t, i, seat);
+    if held {
+        return Err(Code::InUse);
     }
+    write(t, i, seat, events + 1);
+    Ok(h)
 }
 
-pub fn release(t: &mut [u8], h: Handle, p: &[u8]) -> Answer
+pub fn release(t: &mut [u8], h: Handle, p: &[u8]) -> Result<Handle, Code>
     requires { Accepted t.old }
     ensures { ReleaseServed h.0 p.now t.old t.new result }
 {
-    let begun = service_checks::begin(t, h, p, RELEASE_LENGTH, CardNeed::Ignored);
-    match begun {
-        Begun::At(i, seat) => {
-            let SocketMask::Held = mask_of(t, i, seat) else {
-                return Answer::Refused(Code::BadSocket);
-            };
-            write(t, i, seat, 0);
-            Answer::Done(h)
-        }
-        Begun::Refused(code) => Answer::Refused(code),
+    let (i, seat) = service_checks::begin(t, h, p, RELEASE_LENGTH, CardNeed::Ignored)?;
+    if !client_record::mask_on(t, i, seat) {
+        return Err(Code::BadSocket);
     }
+    write(t, i, seat, 0);
+    Ok(h)
 }

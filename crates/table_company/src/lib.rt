@@ -12,9 +12,8 @@ ghost use Rattle.seats.specs.Sound.{PlacesSound};
 ghost use Rattle.table_company.specs.Answering.{BlocksWithin, AnswersInBlock, BlocksOf, CompaniesSound, SharedAt, AllShared};
 ghost use Rattle.table_company.specs.Rows.{held_room, NumbersAre, RowsAre, over_of, row_against_lem, RowsApart};
 
-use facts::Seat;
+use facts::{Ports, Seat};
 use layout::MOST_SEATS;
-use seats::IoSeat;
 
 // What the I/O grants hold stands in four rows of 16-bit numbers, one after the other, so that many seats are looked at side by side: the base; the last of
 // the numbers that the lines tell apart; the port count; and the port count again, or 0 where the grant is shared. A seat without a grant has 0 ports.
@@ -61,7 +60,7 @@ fn numbers_of(t: &[u8], s: Seat) -> Numbers
     requires { (length t.now ≡ table_size) × (s.0 < Table.most_seats) × IoPlaceSound t.now s.0 }
     ensures { NumbersAre t.now s.0 result }
 {
-    let IoSeat::Held(held) = seats::held(t, s) else {
+    let Some(held) = seats::held(t, s) else {
         return Numbers {
             base: 0,
             ones: 0,
@@ -69,10 +68,10 @@ fn numbers_of(t: &[u8], s: Seat) -> Numbers
             unshared: 0,
         };
     };
-    let ones = io_ranges::power(held.lines) - 1;
-    let count = held.count as u16;
+    let ones = io_ranges::power(held.ports.lines) - 1;
+    let count = held.ports.count as u16;
     Numbers {
-        base: held.base as u16,
+        base: held.ports.base as u16,
         ones: ones as u16,
         count,
         unshared: unshared_of(held.shared, count),
@@ -158,14 +157,14 @@ fn blocks_within(base: usize, count: usize) -> u64
 }
 
 // The blocks in which a card with these ports answers.
-fn blocks_of(base: usize, count: usize, lines: usize) -> u64
-    requires { (base < Table.all_ports) × (1 ≤ count) × (count ≤ Table.most_asked) }
-    ensures { Covers result (AnswersInBlock (record { base = base; count = count; lines = lines })) }
+fn blocks_of(ports: Ports) -> u64
+    requires { (ports.base < Table.all_ports) × (1 ≤ ports.count) × (ports.count ≤ Table.most_asked) }
+    ensures { Covers result (AnswersInBlock ports) }
 {
-    if lines < BLOCK_LINES {
+    if ports.lines < BLOCK_LINES {
         return ALL_BLOCKS;
     }
-    blocks_within(base, count)
+    blocks_within(ports.base, ports.count)
 }
 
 // The blocks of the I/O grant at the seat `s`.
@@ -173,10 +172,10 @@ pub fn io_blocks(t: &[u8], s: Seat) -> u64
     requires { (length t.now ≡ table_size) × (s.0 < Table.most_seats) × IoPlaceSound t.now s.0 }
     ensures { BlocksOf t.now s.0 result }
 {
-    let IoSeat::Held(held) = seats::held(t, s) else {
+    let Some(held) = seats::held(t, s) else {
         return 0;
     };
-    blocks_of(held.base, held.count, held.lines)
+    blocks_of(held.ports)
 }
 
 // Whether the seat `s` has no I/O grant but a shared one.
@@ -184,7 +183,7 @@ fn shared_at(t: &[u8], s: Seat) -> bool
     requires { (length t.now ≡ table_size) × (s.0 < Table.most_seats) }
     ensures { Says result (SharedAt t.now s.0) }
 {
-    let IoSeat::Held(held) = seats::held(t, s) else {
+    let Some(held) = seats::held(t, s) else {
         return true;
     };
     held.shared

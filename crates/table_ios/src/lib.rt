@@ -21,7 +21,7 @@ use io_answering::ROWS;
 use layout::{
     IO_SHARED_AT, IO_SIZE, IO_SPARE_AT, IOS_AT, MARKED, MOST_LINES, MOST_SEATS, SOCKETS_IN,
 };
-use seats::{HeldPorts, IoSeat};
+use seats::HeldPorts;
 use table_company::{companies_kept, io_blocks};
 
 // Where the records of the seats that can be used end.
@@ -29,23 +29,23 @@ const IOS_END: usize = IOS_AT + MOST_SEATS * IO_SIZE;
 
 // "granted .. ports are managed; an I/O grant has base 1 or more, lines 1 to 16 and a count RequestIO allows"; and wherever its card answers is managed (K2)
 fn ports_sound(t: &[u8], rows: &[u16; ROWS], near: usize, held: HeldPorts) -> bool
-    requires ranges { (length t.now ≡ table_size) × (ranges_in t.now ≤ Table.most_ranges) × RangesSound t.now × GapsAre t.now held.lines rows.now }
-    requires ports { (held.base < Table.all_ports) × (held.count ≤ Table.most_asked) × RangeHas t.now near (range held).ports }
-    ensures { Says result (PortsSound t.now (range held).ports) }
+    requires ranges { (length t.now ≡ table_size) × (ranges_in t.now ≤ Table.most_ranges) × RangesSound t.now × GapsAre t.now held.ports.lines rows.now }
+    requires ports { (held.ports.base < Table.all_ports) × (held.ports.count ≤ Table.most_asked) × RangeHas t.now near held.ports }
+    ensures { Says result (PortsSound t.now held.ports) }
 {
-    if held.base == 0 {
+    if held.ports.base == 0 {
         return false;
     }
-    if held.count == 0 {
+    if held.ports.count == 0 {
         return false;
     }
-    if held.lines == 0 {
+    if held.ports.lines == 0 {
         return false;
     }
-    if MOST_LINES < held.lines {
+    if MOST_LINES < held.ports.lines {
         return false;
     }
-    if io_ranges::power(held.lines) < held.count {
+    if io_ranges::power(held.ports.lines) < held.ports.count {
         return false;
     }
     ports_managed(t, rows, near, held)
@@ -58,7 +58,7 @@ fn io_place_sound(t: &[u8], rows: &[u16; ROWS], near: usize, s: Seat) -> bool
     ensures { Says result (IoPlaceSound t.now s.0) }
 {
     let at = seats::io_place(s);
-    let IoSeat::Held(held) = seats::held(t, s) else {
+    let Some(held) = seats::held(t, s) else {
         return table_read::zero(t, at, at + IO_SIZE);
     };
     if table_read::long(t, at + IO_SPARE_AT) != 0 {
@@ -78,10 +78,10 @@ fn lines_at(t: &[u8], s: Seat) -> usize
     requires { (length t.now ≡ table_size) × (s.0 < Table.most_seats) }
     ensures { LinesAt t.now s.0 result }
 {
-    let IoSeat::Held(held) = seats::held(t, s) else {
+    let Some(held) = seats::held(t, s) else {
         return MOST_LINES;
     };
-    held.lines
+    held.ports.lines
 }
 
 // The fewest lines that a card of any I/O grant decodes; all, where there is no grant.

@@ -13,7 +13,7 @@ ghost use Rattle.table_ios.specs.Parts.{InRange, RangeHas, RangeServes};
 use facts::Seat;
 use io_answering::ROWS;
 use layout::{MOST_LINES, MOST_RANGES, RANGE_COUNT_AT, RANGE_SIZE, RANGES_AT, RANGES_IN};
-use seats::{HeldPorts, IoSeat};
+use seats::HeldPorts;
 
 // Whether the ports lie within the managed range `i`.
 fn in_range(t: &[u8], i: usize, base: usize, count: usize) -> bool
@@ -38,18 +38,18 @@ fn in_range(t: &[u8], i: usize, base: usize, count: usize) -> bool
 // Whether the ports are managed, and every other where their card answers. One that decodes all lines answers nowhere else, so for it the range `near`
 // decides, if there is one: it has the ports.
 pub fn ports_managed(t: &[u8], rows: &[u16; ROWS], near: usize, held: HeldPorts) -> bool
-    requires ranges { (length t.now ≡ table_size) × (ranges_in t.now ≤ Table.most_ranges) × RangesSound t.now × GapsAre t.now held.lines rows.now }
-    requires ports { (held.base < Table.all_ports) × (1 ≤ held.count) × (held.count < 256) × (held.lines ≤ Table.most_lines) }
-    requires range_has { RangeHas t.now near (range held).ports }
-    ensures { Says result (AllManagedIn t.now (range held).ports) }
+    requires ranges { (length t.now ≡ table_size) × (ranges_in t.now ≤ Table.most_ranges) × RangesSound t.now × GapsAre t.now held.ports.lines rows.now }
+    requires ports { (held.ports.base < Table.all_ports) × (1 ≤ held.ports.count) × (held.ports.count < 256) × (held.ports.lines ≤ Table.most_lines) }
+    requires range_has { RangeHas t.now near held.ports }
+    ensures { Says result (AllManagedIn t.now held.ports) }
 {
-    if held.lines < MOST_LINES {
-        return io_answering::managed(t, rows, held.base, held.count, held.lines);
+    if held.ports.lines < MOST_LINES {
+        return io_answering::managed(t, rows, held.ports.base, held.ports.count, held.ports.lines);
     }
     if near < table_read::byte(t, RANGES_IN) {
         return true;
     }
-    io_answering::managed(t, rows, held.base, held.count, held.lines)
+    io_answering::managed(t, rows, held.ports.base, held.ports.count, held.ports.lines)
 }
 
 // The range at the place `middle`, where it starts at or before a port; else that at the place `low`.
@@ -103,11 +103,11 @@ pub fn range_near(t: &[u8], near: usize, s: Seat) -> usize
     requires { (length t.now ≡ table_size) × (s.0 < Table.most_seats) × (ranges_in t.now ≤ Table.most_ranges) × (near ≤ Table.most_ranges) }
     ensures { (result ≤ Table.most_ranges) × RangeServes t.now result s.0 }
 {
-    let IoSeat::Held(held) = seats::held(t, s) else {
+    let Some(held) = seats::held(t, s) else {
         return near;
     };
-    if held.lines < MOST_LINES {
+    if held.ports.lines < MOST_LINES {
         return near;
     }
-    range_with(t, near, held.base, held.count)
+    range_with(t, near, held.ports.base, held.ports.count)
 }

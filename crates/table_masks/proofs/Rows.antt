@@ -1,9 +1,8 @@
--- Masks within their limits are sound, and the other way round; and how many rows are over, as a loop counts them. Assumes nothing.
-use Rattle.facts.proofs.Words.{◌≡◌, inl, inr, ⊎_elim, by_cases, List, ◌++◌, ℕ, ◌+◌, ◌-◌, ◌≤◌, ◌<◌, dec_lt, arith, get_or}
-use Rattle.facts.proofs.Words.{replicate}
+-- Masks within their limits are sound, and the other way round; and the limits as they are written. Assumes nothing.
+use Rattle.std.proofs.lemmas.List.{places}
+use Rattle.facts.proofs.Words.{◌≡◌, inl, inr, ⊎_elim, by_cases, List, ◌++◌, ℕ, ◌+◌, ◌-◌, ◌≤◌, ◌<◌, dec_lt, arith, get_or, replicate}
 use Rattle.facts.specs.{all_events, most_sockets}
 use Rattle.layout.specs.{sockets_in, MasksSound, seat_room}
-use Rattle.std.proofs.lemmas.List.{places}
 use Rattle.table_masks.specs.{StepsAre, RowsUnder}
 
 -- the step that is the limit of the seat s, where there are so many sockets

@@ -32,13 +32,16 @@ fn row_flaws(t: &[u8], at: usize, steps: &[u16; STEPS], from: usize) -> u16
     flaws
 }
 
-// Whether no client has a word over its limit.
-fn rows_under(t: &[u8], steps: &[u16; STEPS], from: usize) -> bool
+// How many clients have a word over its limit: all are counted, with no early exit, so that the limits are read once for all rows.
+fn rows_over(t: &[u8], steps: &[u16; STEPS], from: usize) -> usize
     requires { (length t.now ≡ table_size) × (clients_in t.now ≤ Table.most_clients) × (from ≤ Table.most_sockets) }
-    ensures { Says result (RowsUnder t.now steps.now from) }
+    ensures { Says (eqb result 0) (RowsUnder t.now steps.now from) }
 {
-    let clients = table_read::byte(t, CLIENTS_IN);
-    (0..clients).all(|i| row_flaws(t, MASKS_AT + i * MASKS_SIZE, steps, from) == 0)
+    let mut over = 0;
+    for i in 0..table_read::byte(t, CLIENTS_IN) {
+        over += usize::from(row_flaws(t, MASKS_AT + i * MASKS_SIZE, steps, from) != 0);
+    }
+    over
 }
 
 // "a mask has .. a socket below the count": each client's mask at each seat is none, or one at a socket below the count.
@@ -49,7 +52,7 @@ pub fn masks_sound(t: &[u8]) -> bool
     let mut steps = [0; STEPS];
     steps[..MOST_SOCKETS].fill(ALL_EVENTS_U16);
     let sockets = table_read::byte(t, SOCKETS_IN);
-    rows_under(t, &steps, MOST_SOCKETS - sockets)
+    rows_over(t, &steps, MOST_SOCKETS - sockets) == 0
 }
 
 // Whether all bytes past the last client's masks are zero: so many that four quarters of them are whole.

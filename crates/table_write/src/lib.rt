@@ -51,7 +51,9 @@ pub fn make_room(t: &mut [u8], count: usize, at: usize, bytes: usize, end: usize
     requires { (count < at) × (at + bytes ≤ end) × (end ≤ length t.old) × (byte t.old count < 255) }
     ensures { RoomMade t.old t.new count at bytes end }
 {
-    t.copy_within(at..end - bytes, at + bytes);
+    for i in (at..end - bytes).rev() {
+        t[i + bytes] = t[i];
+    }
     t[count] += 1;
 }
 

@@ -1,30 +1,35 @@
 -- `client_services::register` meets its contract: each check's answer says which end of the rule it is.
 -- Assumes nothing.
 use Rattle.facts.proofs.Words.{refl, inl, arith}
+use Rattle.facts.proofs.{handed}
 use Rattle.layout.proofs.{size_in}
+use Rattle.client_services.specs.Clients.{RegisterServed}
 use Rattle.client_services.proofs.{register_refused, register_bad, register_full, register_done}
 use Rattle.client_services.proofs.register.Goals as goal
 
-pub returns-in_default : goal.returns-in_default
-returns-in_default c =
-    register_refused c.requires (inl (c.in_default.ensures, refl))
+pub returns-in_err-sized : goal.returns-in_err-sized
+returns-in_err-sized c =
+    handed (RegisterServed _ _ _) _ c.from_residual.ensures c.in_err-sized.ensures.0
+    (register_refused c.requires (inl (c.in_err-sized.ensures.1, refl)))
 
-pub returns-in_default-asks : goal.returns-in_default-asks
-returns-in_default-asks c =
-    register_bad c.requires c.in-Right.ensures c.in_default-asks.ensures
+pub returns-in_err-attributes : goal.returns-in_err-attributes
+returns-in_err-attributes c =
+    handed (RegisterServed _ _ _) _ c.from_residual-in_err-attributes.ensures c.in_err-attributes.ensures.0
+    (register_bad c.requires c.in_ok-sized.ensures c.in_err-attributes.ensures.1)
 
 pub next_place-requires : goal.next_place-requires
 next_place-requires c = size_in _ c.requires
 
-pub returns-in_default-next_place : goal.returns-in_default-next_place
-returns-in_default-next_place c =
-    register_full c.requires c.in-Right.ensures c.in-Good.ensures c.in_default-next_place.ensures
+pub returns-in_err-n : goal.returns-in_err-n
+returns-in_err-n c =
+    handed (RegisterServed _ _ _) _ c.from_residual-in_err-n.ensures c.in_err-n.ensures.0
+    (register_full c.requires c.in_ok-sized.ensures c.in_ok-attributes.ensures c.in_err-n.ensures.1)
 
 pub enter-requires : goal.enter-requires
 enter-requires c =
-    let few = c.in-Good.ensures.attributes_allowed.bits in
-    (size_in _ c.requires, c.in-Next.ensures.room, omega (arith, c.in-Good.ensures.attributes_are, few))
+    let asks = c.in_ok-attributes.ensures in
+    (size_in _ c.requires, c.in_ok-n.ensures.room, omega (arith, asks.attributes_are, asks.attributes_allowed.bits))
 
 pub returns : goal.returns
 returns c =
-    rw c.enter.ensures (register_done c.requires c.in-Right.ensures c.in-Good.ensures c.in-Next.ensures)
+    rw c.enter.ensures (register_done c.requires c.in_ok-sized.ensures c.in_ok-attributes.ensures c.in_ok-n.ensures)

@@ -8,10 +8,10 @@ use Rattle.io_bars.proofs.grant_bars.Goals as goal
 pub held-requires : goal.held-requires
 held-requires c = (size_in c.args.t.now c.requires.0, omega (arith, c.loop-s-test.true))
 
-pub seat_bar-requires : goal.seat_bar-requires
-seat_bar-requires c =
+pub bar_of-requires : goal.bar_of-requires
+bar_of-requires c =
     let pre = c.requires in (
-      seat_fits c.args.t.now c.loop-s.s (omega (arith, c.loop-s-test.true)) pre.0 c.held.result c.held.ensures,
+      rw c.ports_of-ports.ensures (seat_fits c.args.t.now c.loop-s.s (omega (arith, c.loop-s-test.true)) pre.0 c.held.result c.held.ensures),
       pre.1,
       pre.2,
       pre.3,

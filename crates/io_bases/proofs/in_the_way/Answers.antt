@@ -1,13 +1,20 @@
 -- `io_bases::in_the_way` meets its contract: what is held at some seat stands in the way, or at none.
 -- Assumes nothing.
-use Rattle.facts.proofs.Words.{arith}
+use Rattle.facts.proofs.Words.{refl, rules}
+use Rattle.facts.specs.{most_seats}
+use Rattle.layout.specs.{facts_in}
+use Rattle.io_bases.specs.{StandsAt}
+use Rattle.table_read.proofs.{any_says}
 use Rattle.io_bases.proofs.{way-said, said_way}
 use Rattle.io_bases.proofs.in_the_way.Goals as goal
 
-pub returns-then-stands : goal.returns-then-stands
-returns-then-stands c = λ b. way-said c.args.t.now c.args.asked b c.loop-s.s (c.stands.ensures.holds c.if-stands.true)
+pub returns-then-any : goal.returns-then-any
+returns-then-any c =
+    let some = any_says {P = StandsAt (facts_in c.args.t.now) c.args.asked} most_seats c.any.ensures.ran (λ x q k. search rules) (λ x q k. search rules) in
+    let x = some.holds c.if-any.true in
+    (refl, λ a. way-said c.args.t.now c.args.asked a x.0 x.2)
 
 pub returns : goal.returns
 returns c =
-    λ b w. let x = said_way c.args.t.now c.args.asked b w in
-    c.loop-s.invariant.each x.0 (omega (arith, x.1, c.loop-s-test.false)) x.2
+    let some = any_says {P = StandsAt (facts_in c.args.t.now) c.args.asked} most_seats c.any.ensures.ran (λ x q k. search rules) (λ x q k. search rules) in
+    λ a w. some.fails c.if-any.false (said_way c.args.t.now c.args.asked a w)

@@ -25,7 +25,7 @@ managed-requires-clause-ranges c =
 pub returns-then-not-managed : goal.returns-then-not-managed
 returns-then-not-managed c =
     let within : all_ports < c.args.asked.base + c.args.asked.count → ⊥ = λ l. omega (arith, c.if-base-count-gt-ALL_PORTS.false) in
-    λ a. unmanaged c.args.t.now c.args.asked a within (says_no c.managed.ensures c.if-not-managed.true)
+    (refl, λ a. unmanaged c.args.t.now c.args.asked a within (says_no c.managed.ensures c.if-not-managed.true))
 
 pub returns : goal.returns
 returns c =

@@ -13,12 +13,12 @@ returns-then-not-some_marked c =
 
 pub returns-then-is_some : goal.returns-then-is_some
 returns-then-is_some c =
-    first_by _ _ _ _ c.loop-most.most c.loop-most-test.true c.loop-most.invariant.0.each _ (sym c.is_some.ensures ∙ c.if-is_some.true)
+    first_by _ _ _ _ c.loop-most.most (omega (arith, c.loop-most-test.true)) c.loop-most.invariant.0.each _ (sym c.is_some.ensures ∙ c.if-is_some.true)
     c.first_of-found.ensures.lowest
 
 pub loop-most-preserved : goal.loop-most-preserved
 loop-most-preserved c = (
-  so_far_more c.loop-most.invariant.0 c.loop-most-test.true (none_found _ _ (sym c.is_some.ensures ∙ c.if-is_some.false) c.first_of-found.ensures.lowest),
+  so_far_more c.loop-most.invariant.0 (omega (arith, c.loop-most-test.true)) (none_found _ _ (sym c.is_some.ensures ∙ c.if-is_some.false) c.first_of-found.ensures.lowest),
   c.first_of-found.ensures.bars,
 )
 

@@ -14,8 +14,8 @@ word-requires c =
     let listed : c.args.j < ranges_in t = omega (arith, c.byte.ensures.0, c.if-byte-j.false) in
     omega (arith, range_placed t c.requires c.args.j listed, size_in t c.requires)
 
-pub byte-requires-2 : goal.byte-requires-2
-byte-requires-2 c =
+pub byte-requires-then-word-end : goal.byte-requires-then-word-end
+byte-requires-then-word-end c =
     let t = c.args.t.now in
     let listed : c.args.j < ranges_in t = omega (arith, c.byte.ensures.0, c.if-byte-j.false) in
     omega (arith, range_placed t c.requires c.args.j listed, size_in t c.requires)

@@ -19,8 +19,8 @@ returns-then-byte-eq-MARKED c =
     reserved_here _ _ _ (says_yes c.level_fits.ensures c.if-not-level_fits.false) _ (one_shifted _ 64 (omega (arith, c.requires.2)))
     (reserved ∙ eq-eqb _ 1 c.if-byte-eq-MARKED.true)
 
-pub returns : goal.returns
-returns c =
+pub returns-else-byte-eq-MARKED : goal.returns-else-byte-eq-MARKED
+returns-else-byte-eq-MARKED c =
     let reserved : let a = c.args in ((facts_in (a.t.now)).level a.l).reserved ≡ eqb c.byte.result 1 =
     reserved_read c.args.t.now c.args.l c.requires.2 ∙ ap marked (sym c.byte.ensures.0) in
     unreserved_here _ _ _ (says_yes c.level_fits.ensures c.if-not-level_fits.false) _ (one_shifted _ 64 (omega (arith, c.requires.2)))

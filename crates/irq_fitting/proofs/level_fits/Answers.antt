@@ -15,11 +15,11 @@ pub returns-then-byte-ne-MARKED : goal.returns-then-byte-ne-MARKED
 returns-then-byte-ne-MARKED c =
     says_false (λ x. c.if-byte-ne-MARKED.true (c.byte.ensures.0 ∙ eqb-true _ 1 (sym (managed_read c.args.t.now c.args.l c.requires.2) ∙ x.managed)))
 
-pub returns : goal.returns
-returns c =
+pub returns-then-is_set : goal.returns-then-is_set
+returns-then-is_set c =
     let b = c.args.t.now in
     let formed = formed_in b c.requires.0 in
-    says_as (says_not c.is_set-2.ensures)
-    (fits_said _ formed _ _ _ c.requires.1 (says_yes c.is_set.ensures c.if-not-is_set.false)
+    says_as (says_not c.is_set-then-is_set.ensures)
+    (fits_said _ formed _ _ _ c.requires.1 (says_yes c.is_set.ensures c.if-is_set.true)
     (managed_read b c.args.l c.requires.2 ∙ eq-eqb _ 1 (sym c.byte.ensures.0 ∙ c.if-byte-ne-MARKED.false)))
     (said_free _ formed _ _ _ c.requires.1)

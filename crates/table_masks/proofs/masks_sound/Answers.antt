@@ -9,4 +9,4 @@ pub returns : goal.returns
 returns c =
     let are = steps_are _ 64 (c.fill.ensures.after (λ y e. e)) refl in
     let few = c.requires.1.sockets_most in
-    says_as (rw c.byte-sockets.ensures.0 at c.rows_under.ensures) (under_sound _ are few) (sound_under _ are few)
+    says_as (rw c.byte-sockets.ensures.0 at c.rows_over.ensures) (under_sound _ are few) (sound_under _ are few)
