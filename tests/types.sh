@@ -53,7 +53,7 @@ refused keeper lib.rt 'irq_sharers::pack(irq_sharers::of_level(table, level))' \
 refused keeper lib.rt 'facts::number(socket_cards::card(table, socket, present))' \
     'service_answers::pack(socket_cards::card(table, socket, present))' Answer Code
 refused managed_holders lib.rt 'level_at(t, l, Seat(s))' 'level_at(t, l, s)' Seat usize
-refused managed_boot lib.rt 'return Booted::Stopped(place, code)' 'return Booted::Stopped(code, place)' usize Code
+refused managed_boot lib.rt 'return Err(Stopped { place, code })' 'return Err(Stopped { place: code, code: place })' usize Code
 refused keeper lib.rt 'managed_boot::pack(managed_boot::boot(table, records))' \
     'service_answers::pack(managed_boot::boot(table, records))' Answer Booted
 refused socket_masks lib.rt 'write(t, i, seat, 0)' 'write(t, seat, i, 0)' usize Seat
