@@ -41,7 +41,7 @@ refused() {
     esac
 }
 
-refused client_services lib.rt 'holds(t, i, h)' 'holds(t, i, i)' Handle usize
+refused client_services lib.rt 'holds_nothing(t, i, h)' 'holds_nothing(t, i, i)' Handle usize
 refused client_services lib.rt 'enter(t, n, handle,' 'enter(t, handle, n,' usize Handle
 refused client_services lib.rt 'grant_on(t, Seat(s), h)' 'grant_on(t, h, h)' Seat Handle
 refused table_company lib.rt 'enter(t, Seat(s), &mut held)' 'enter(t, s, &mut held)' Seat usize
@@ -57,9 +57,9 @@ refused managed_boot lib.rt 'return Err(Stopped { place, code })' 'return Err(St
 refused keeper lib.rt 'managed_boot::pack(managed_boot::boot(table, records))' \
     'service_answers::pack(managed_boot::boot(table, records))' Answer Booted
 refused socket_masks lib.rt 'write(t, i, seat, 0)' 'write(t, seat, i, 0)' usize Seat
-refused irq_services lib.rt 'grants::level_of(t, seat, h, level)' 'grants::level_of(t, h, seat, level)' Seat Handle
-refused irq_services lib.rt 'grants::enter_level(t, seat, h, level, irq_levels::manner_byte(manner))' \
-    'grants::enter_level(t, seat, level, h, irq_levels::manner_byte(manner))' Handle usize
+refused irq_services lib.rt 'grants::level_of(t, seat, h, ' 'grants::level_of(t, h, seat, ' Seat Handle
+refused irq_services lib.rt 'grants::enter_level(t, seat, h, level, irq_levels::manner_byte(asked.manner))' \
+    'grants::enter_level(t, seat, level, h, irq_levels::manner_byte(asked.manner))' Handle usize
 refused irq_fitting lib.rt 'levels_at(t, asked, Seat(s))' 'levels_at(t, asked, s)' Seat usize
 refused keeper lib.rt 'irq_services::request(table, h, packet)' \
     'irq_services::request(table, handle, packet)' Handle u16
