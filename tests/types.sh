@@ -41,33 +41,32 @@ refused() {
     esac
 }
 
-refused client_services lib.rt 'holds(t, i, h)' 'holds(t, i, i)' Handle usize
+refused client_services lib.rt 'holds_nothing(t, i, h)' 'holds_nothing(t, i, i)' Handle usize
 refused client_services lib.rt 'enter(t, n, handle,' 'enter(t, handle, n,' usize Handle
-refused client_services lib.rt 'grant_on(t, Seat(s), h)' 'grant_on(t, h, h)' Seat Handle
-refused table_company lib.rt 'enter(t, Seat(s), &mut held)' 'enter(t, s, &mut held)' Seat usize
-refused irq_sharers lib.rt 'sharer(t, level, Seat(s))' 'sharer(t, level, s)' Seat usize
+refused client_services lib.rt 'grant_on(t, Seat::new(s), h)' 'grant_on(t, h, h)' Seat Handle
+refused table_company lib.rt 'enter(t, Seat::new(s), &mut held)' 'enter(t, s, &mut held)' Seat usize
+refused irq_sharers lib.rt 'sharer(t, level, Seat::new(s))' 'sharer(t, level, s)' Seat usize
 refused keeper lib.rt 'client_services::deregister(table, h, packet)' \
     'client_services::deregister(table, Socket(3), packet)' Handle Socket
 refused keeper lib.rt 'irq_sharers::pack(irq_sharers::of_level(table, level))' \
-    'service_answers::pack(irq_sharers::of_level(table, level))' Answer SharerCount
-refused keeper lib.rt 'facts::number(socket_cards::card(table, socket, present))' \
-    'service_answers::pack(socket_cards::card(table, socket, present))' Answer Code
-refused managed_holders lib.rt 'level_at(t, l, Seat(s))' 'level_at(t, l, s)' Seat usize
-refused managed_boot lib.rt 'return Booted::Stopped(place, code)' 'return Booted::Stopped(code, place)' usize Code
+    'service_answers::pack(irq_sharers::of_level(table, level))' 'Result<Handle, Code>' 'Result<u16, Code>'
+refused keeper lib.rt 'number(card(table, Socket(socket as usize), true))' \
+    'service_answers::pack(card(table, Socket(socket as usize), true))' 'Result<Handle, Code>' 'Result<(), Code>'
+refused managed_holders lib.rt 'level_at(t, l, Seat::new(s))' 'level_at(t, l, s)' Seat usize
+refused managed_boot lib.rt 'return Err(Stopped { place, code })' 'return Err(Stopped { place: code, code: place })' usize Code
 refused keeper lib.rt 'managed_boot::pack(managed_boot::boot(table, records))' \
-    'service_answers::pack(managed_boot::boot(table, records))' Answer Booted
+    'service_answers::pack(managed_boot::boot(table, records))' 'Result<Handle, Code>' 'Result<usize, Stopped>'
 refused socket_masks lib.rt 'write(t, i, seat, 0)' 'write(t, seat, i, 0)' usize Seat
-refused irq_services lib.rt 'grants::level_of(t, seat, h, level)' 'grants::level_of(t, h, seat, level)' Seat Handle
-refused irq_services lib.rt 'grants::enter_level(t, seat, h, level, irq_levels::manner_byte(manner))' \
-    'grants::enter_level(t, seat, level, h, irq_levels::manner_byte(manner))' Handle usize
-refused irq_fitting lib.rt 'levels_at(t, asked, Seat(s))' 'levels_at(t, asked, s)' Seat usize
+refused irq_services lib.rt 'grants::level_of(t, seat, h, ' 'grants::level_of(t, h, seat, ' Seat Handle
+refused irq_services lib.rt 'grants::enter_level(t, seat, h, level, irq_levels::manner_byte(asked.manner))' \
+    'grants::enter_level(t, seat, level, h, irq_levels::manner_byte(asked.manner))' Handle usize
+refused irq_fitting lib.rt 'levels_at(t, asked, Seat::new(s))' 'levels_at(t, asked, s)' Seat usize
 refused keeper lib.rt 'irq_services::request(table, h, packet)' \
-    'irq_services::request(table, handle, packet)' Handle u16
-refused io_bars lib.rt 'seats::held(t, Seat(s))' 'seats::held(t, s)' Seat usize
-refused io_bases lib.rt 'stands(t, asked, Seat(s))' 'stands(t, asked, s)' Seat usize
-refused io_services lib.rt 'grants::ports_of(t, seat, h, base, count)' \
-    'grants::ports_of(t, h, seat, base, count)' Seat Handle
+    'irq_services::request(table, service, packet)' Handle u16
+refused io_bars lib.rt 'seats::held(t, Seat::new(s))' 'seats::held(t, s)' Seat usize
+refused io_bases lib.rt 'stands(t, asked, Seat::new(s))' 'stands(t, asked, s)' Seat usize
+refused io_services lib.rt 'grants::ports_of(t, seat, h, ' 'grants::ports_of(t, h, seat, ' Seat Handle
 refused io_services lib.rt 'enter_asked(t, seat, h, base, asked, p)' \
     'enter_asked(t, seat, base, h, asked, p)' Handle usize
 refused keeper lib.rt 'io_services::request(table, h, packet)' \
-    'io_services::request(table, handle, packet)' Handle u16
+    'io_services::request(table, service, packet)' Handle u16

@@ -23,7 +23,7 @@ module _ (F : Facts) (h s base count : ℕ) where
       says_as (says_both (says_both (says_eq _ _) (says_eq _ _)) (says_eq _ _))
       (λ z. record { range = y; held = e; client = z.0.0; base_is = z.0.1; count_is = z.1 })
       (λ x. subst (λ (z : HeldPorts). ((z.client ≡ h) × (z.ports.base ≡ base)) × (z.ports.count ≡ count))
-        (some-injective x.range y (sym x.held ∙ e)) ((x.client, x.base_is), x.count_is))
+      (some-injective x.range y (sym x.held ∙ e)) ((x.client, x.base_is), x.count_is))
 
 -- a record's writes, one after the other
 pub enters_level : (b b₁ : List ℕ) (at s client : ℕ) → at ≡ irq_place_lem s → b₁ ≡ with_word b at client → (level manner : ℕ)

@@ -27,7 +27,11 @@ fn bar_of(ports: Ports, count: usize, lines: usize) -> Bar
 {
     let start = (ports.base + ALL_PORTS + 1 - count) % ALL_PORTS;
     let ones = io_obstacles::limit_of(lines.min(ports.lines));
-    let width = if ports.count == 0 { 0 } else { ports.count + count - 1 };
+    let width = if ports.count == 0 {
+        0
+    } else {
+        ports.count + count - 1
+    };
     Bar {
         start: start as u16,
         ones,

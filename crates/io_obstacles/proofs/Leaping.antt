@@ -3,7 +3,7 @@ use Rattle.facts.proofs.Words.{◌≡◌, ap, sym, ◌∙◌, ◌⊎◌, inl, in
 use Rattle.facts.proofs.Words.{dec_lt, eq-or-lt_of_le, arith, bit_and, and_mask}
 use Rattle.facts.specs.{all_ports, most_lines}
 use Rattle.io_ranges.proofs.{all_ports_mod}
-use Rattle.io_obstacles.specs.{around, Power, Bar, Bars, LiesFrom, LiesInBar, LiesShort, bar_at, LiesInFirst, Leaps}
+use Rattle.io_obstacles.specs.{around, Power, Bar, Bars, LiesFrom, LiesShort, bar_at, LiesInFirst, Leaps}
 
 -- ones take the remainder by the period
 pub masked : (n ones : ℕ) → Power (ones + 1) → bit_and n ones ≡ n % (ones + 1)
@@ -12,7 +12,7 @@ masked n ones p =
     ap (bit_and n) e ∙ and_mask n p.lines ∙ ap (λ (m : ℕ). n % m) (sym p.is)
 
 -- what wraps around at all ports is the same modulo a period
-pub wrapped : (start x ones : ℕ) → start < all_ports → Power (ones + 1)
+wrapped : (start x ones : ℕ) → start < all_ports → Power (ones + 1)
     → bit_and ((x + (65536 - start)) % 65536) ones ≡ (x + around - start) % (ones + 1)
 wrapped start x ones low p =
     let more : most_lines ≡ most_lines - p.lines + p.lines = omega (arith, p.most) in
@@ -33,9 +33,12 @@ leaps start ones width x behind r near small b e =
         let less : (x + d + around - start) % (ones + 1) ≤ behind + d = rw (b, same, ← mod-add-mod) (mod-le ((x + around - start) % (ones + 1) + d) (ones + 1)) in
         omega (arith, less)
 
--- a bar whose period is not too long
-pub leaps_short : (bar : Bar) (limit x r : ℕ) → bar.ones ≤ limit → Leaps (LiesInBar bar) x r → Leaps (LiesShort bar limit) x r
-leaps_short bar limit x r short l = record { none = λ z h. l.none z h.1; each = λ d h. (short, l.each d h); most = l.most }
+-- so in a bar whose period is not too long
+pub leaps_bar : (bar : Bar) (limit x r : ℕ) → Power (bar.ones + 1) → bar.start < all_ports → bar.width < all_ports → bar.ones ≤ limit
+    → r ≡ bar.width - bit_and ((x + (65536 - bar.start)) % 65536) bar.ones → Leaps (LiesShort bar limit) x r
+leaps_bar bar limit x r p low small short e =
+    let l = leaps bar.start bar.ones bar.width x _ r (omega arith) (omega arith) (wrapped bar.start x bar.ones low p) e in
+    record { none = λ z h. l.none z h.1; each = λ d h. (short, l.each d h); most = l.most }
 
 -- the farthest of two: the first n bars, and one more
 module _ {N : ℕ} (bars : Bars N) (limit x : ℕ) where

@@ -3,14 +3,13 @@ use Rattle.facts.proofs.Words.{◌≡◌, refl, sym, ◌∙◌, inl, inr, ◌≢
 use Rattle.layout.proofs.Of
 use Rattle.facts.specs.{Code, Success, BadAttribute, BadBase, BadSize, InUse, Facts, with_word, ◌gives◌, FirstGiven, Passed, Leaves}
 use Rattle.facts.specs.{socket_of, request_io_length, release_io_length, base_asked_lem, count_asked_lem, lines_asked_lem, second_count, with_io, io_grant, GrantsIo, IoHeld}
-use Rattle.facts.specs.{IoAttributesBad, IoSizeBad, BaseTaken, own_io_checks, base_checks, RequestIo, ReleaseIo, most_lines, io_asked, IoAsked}
+use Rattle.facts.specs.{IoAttributesBad, IoSizeBad, BaseTaken, own_io_checks, base_checks, RequestIo, ReleaseIo, most_lines, io_asked}
 use Rattle.layout.specs.{io_in, Accepted, IoUsed, ServedBy, io_entered, facts_in}
 use Rattle.layout.proofs.{granted_image, released_image, left}
 use Rattle.service_checks.specs.{BegunAt}
 use Rattle.service_checks.specs.declared.CardNeed.{CardNeed}
 use Rattle.service_checks.specs.declared.CardNeed.TheVariants.{Needed, Ignored}
 use Rattle.service_checks.proofs.{seat_named, in_seats, Service, refused_own, done_own}
-use Rattle.io_bases.specs.{BaseIs}
 use Rattle.io_services.specs.{asked_entered}
 
 -- the two services

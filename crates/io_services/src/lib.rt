@@ -79,7 +79,9 @@ pub fn release(t: &mut [u8], h: Handle, p: &[u8]) -> Result<Handle, Code>
 {
     let (_, seat) = service_checks::begin(t, h, p, LENGTH, CardNeed::Ignored)?;
     io_packets::second_asked(p)?;
-    grants::ports_of(t, seat, h, io_packets::base_asked(p), io_packets::count_asked(p))?;
+    let base = io_packets::base_asked(p);
+    let count = io_packets::count_asked(p);
+    grants::ports_of(t, seat, h, base, count)?;
     grants::enter_ports(t, seat, NOBODY, NO_PORTS, 0);
     Ok(h)
 }

@@ -164,13 +164,11 @@ fn dynamic(p: &[u8]) -> Manner
     requires { length p.now ≡ request_irq_length }
     ensures { result ≡ dynamic_of (bit (attributes_of p.now) 2) (bit (info1 p.now) 5) }
 {
-    if attribute_set(p, FORCE_PULSE) {
-        return Manner::DynamicPulse;
+    if attribute_set(p, FORCE_PULSE) || !info_set(p, LEVEL) {
+        Manner::DynamicPulse
+    } else {
+        Manner::DynamicLevel
     }
-    if info_set(p, LEVEL) {
-        return Manner::DynamicLevel;
-    }
-    Manner::DynamicPulse
 }
 
 // The manner that a request asks for.

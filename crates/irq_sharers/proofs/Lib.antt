@@ -1,3 +1,3 @@
--- The number of sharers: one seat more, and the answer. Assumes nothing.
+-- The number of sharers is the answer. Assumes nothing.
 pub mod Counting
-pub use Counting.{sharers_more, sharers_done}
+pub use Counting.{sharers_done}

@@ -11,7 +11,7 @@ use Rattle.facts.specs.declared.Handle.{Handle}
 use Rattle.std.specs.Prelude.{Result}
 use Rattle.service_answers.specs.{handle_of}
 use Rattle.layout.proofs.{kept, stays}
-use Rattle.managed_boot.specs.declared.Booted.{Booted}
+use Rattle.managed_boot.specs.declared.Stopped.{Stopped}
 use Rattle.managed_boot.specs.{place_of, Boots}
 use Rattle.promises.specs.{CallAnswers, CardAnswers, SharersAnswers, BootAnswers}
 
@@ -92,10 +92,10 @@ by_service v b b' p p' n h a bytes i s =
     }
 
 -- a boot list
-pub boots : (records b b' : List ℕ) (x : Booted) (r : ℕ) → Boots records b b' x → r ≡ placed (boot.code_of x) (place_of x) → BootAnswers records b b' r
+pub boots : (records b b' : List ℕ) (x : Result ℕ Stopped) (r : ℕ) → Boots records b b' x → r ≡ placed (boot.code_of x) (place_of x) → BootAnswers records b b' r
 boots records b b' x r s e = record { code = boot.code_of x; place = place_of x; packs = e; permitted = inl s.0 }
 
 -- its place is low
-pub low_place : (records b b' : List ℕ) (x : Booted) → Boots records b b' x → place_of x ≤ all_levels + most_ranges
+pub low_place : (records b b' : List ℕ) (x : Result ℕ Stopped) → Boots records b b' x → place_of x ≤ all_levels + most_ranges
 low_place records b b' x s =
     host_laws.boot_most (end_of records) s.0.accepted.facts (records_of records) _ s.0.accepted.formed s.0.rule

@@ -9,7 +9,7 @@ ghost use Rattle.promises.specs.Entries.{CallAnswers, CardAnswers, SharersAnswer
 
 use facts::{Code, Handle, Socket};
 use layout::TABLE_SIZE;
-use managed_boot::Booted;
+use managed_boot::Stopped;
 
 // The services by their numbers (chapter 5 of the volume); every other number is refused.
 const DEREGISTER_CLIENT: u16 = 0x02;
@@ -114,7 +114,7 @@ pub fn cs_boot(table: &mut [u8], records: &[u8]) -> u64
     ensures { BootAnswers records.now table.old table.new result }
 {
     if let Err(code) = table_test::load(table) {
-        return managed_boot::pack(Booted::Stopped(0, code));
+        return managed_boot::pack(Err(Stopped { place: 0, code }));
     }
     managed_boot::pack(managed_boot::boot(table, records))
 }

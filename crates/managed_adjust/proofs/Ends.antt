@@ -16,7 +16,7 @@ use Rattle.managed_holders.specs.{HoldLevel, HoldRange, LevelHoldersAre, RangeHo
 use Rattle.managed_changes.specs.{Changes}
 use Rattle.managed_levels.specs.{NextLevelIs}
 use Rattle.managed_ranges.specs.{NextIs, NextRangeIs}
-use Rattle.managed_changes.proofs.{served_as}
+use Rattle.managed_changes.proofs.{served_as, type_refused}
 use Rattle.managed_packets.specs.declared.Action.{Action}
 use Rattle.managed_packets.specs.declared.Action.TheVariants.{First, Next}
 use Rattle.managed_packets.specs.{number_of, NamesBoth, FromIs, Written, attributes_shown_lem, handle_shown_lem}
@@ -114,6 +114,10 @@ module _ {b : List ℕ} (p : List ℕ) (a : Accepted b) {from : ℕ} where
 pub first_or_next : {n : ℕ} {a : Action} → number_of a ≡ n → (a ≡ First) ⊎ (a ≡ Next) → (n ≡ first) ⊎ (n ≡ next)
 first_or_next e = ⊎_elim (λ f. inl (sym e ∙ ap number_of f)) (λ f. inr (sym e ∙ ap number_of f))
 
+-- the length, which is the last check
+abbrev length_check : List ℕ → List Check
+length_check p = (WrongLength (resource_of p) (length p) gives BadArgLength) ∷ []
+
 -- refused by the head
 module _ {b p : List ℕ} (a : Accepted b) {h : ℕ} where
   refused : {k : Code} → FirstGiven (adjust_checks p) k → ServesBy AdjustResourceInfo h p p b b (Err k)
@@ -127,20 +131,12 @@ module _ {b p : List ℕ} (a : Accepted b) {h : ℕ} where
 
   -- the packet names an action of four and a resource
   module _ {action resource : ℕ} (reached : Reached p action resource) where
-    head_refused : {k : Code}
-        → FirstGiven (resource_checks (resource_of p) ((WrongLength (resource_of p) (length p) gives BadArgLength) ∷ [])) k
+    head_refused : {k : Code} → FirstGiven (resource_checks (resource_of p) (length_check p)) k
         → ServesBy AdjustResourceInfo h p p b b (Err k)
     head_refused g = refused (inr (omega arith, inr (omega arith, g)))
 
-    -- the resource's own checks, where they refuse it
     pub resource_refused : {k : Code} → FirstGiven (resource_checks resource []) k → ServesBy AdjustResourceInfo h p p b b (Err k)
-    resource_refused {k} g = head_refused (first_of (subst (λ (r : ℕ). FirstGiven (resource_checks r []) k) reached.names.resource_is g))
-      where
-        first_of : {k : Code} → FirstGiven (resource_checks (resource_of p) []) k
-            → FirstGiven (resource_checks (resource_of p) ((WrongLength (resource_of p) (length p) gives BadArgLength) ∷ [])) k
-        first_of (inl x) = inl x
-        first_of (inr (n, inl x)) = inr (n, inl x)
-        first_of (inr (n, inr x)) = absurd x.1
+    resource_refused g = head_refused (type_refused _ (length_check p) (rw reached.names.resource_is at g))
 
     pub wrong_length : 1 ≤ resource → resource ≤ 2 → WrongLength resource (length p)
         → ServesBy AdjustResourceInfo h p p b b (Err BadArgLength)

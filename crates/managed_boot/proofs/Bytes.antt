@@ -1,29 +1,8 @@
 -- Records read off the list's bytes. Assumes nothing.
-use Rattle.facts.proofs.Words.{◌≡◌, refl, ap, ap₂, sym, ◌∙◌, List, [], ◌∷◌, ◌++◌, ℕ, zero, suc, ◌+◌, ◌*◌, ◌≤◌, ◌<◌, add-zero, add-one}
-use Rattle.facts.proofs.Words.{add_assoc, suc-mul, add_comm, arith, length, take, drop, set, length-drop, get_or-drop, drop-drop, take-suc-set}
-use Rattle.facts.specs.{Record, byte, word, long, record_size, record_of, records_in, records_of, end_of}
+use Rattle.facts.proofs.Words.{◌≡◌, refl, ap, sym, ◌∙◌, List, [], ◌∷◌, ◌++◌, ℕ, zero, suc, ◌+◌, ◌*◌, ◌≤◌, ◌<◌, add-one}
+use Rattle.facts.proofs.Words.{suc-mul, add_comm, arith, length, take, drop, set, length-drop, drop-drop, take-suc-set}
+use Rattle.facts.specs.{Record, record_size, record_of, records_in, records_of, end_of}
 use Rattle.facts.proofs.{bytes_laws}
-
-module _ (b : List ℕ) (at : ℕ) where
-  byte_past : (j : ℕ) → byte b (at + j) ≡ byte (drop at b) j
-  byte_past j = sym (get_or-drop at b j 0)
-
-  word_past : (j : ℕ) → word b (at + j) ≡ word (drop at b) j
-  word_past j = ap₂ (λ (x y : ℕ). x + 256 * y) (byte_past j) (ap (byte b) (add_assoc at j 1) ∙ byte_past (j + 1))
-
-  long_past : (j : ℕ) → long b (at + j) ≡ long (drop at b) j
-  long_past j = ap₂ (λ (x y : ℕ). x + 65536 * y) (word_past j) (ap (word b) (add_assoc at j 2) ∙ word_past (j + 2))
-
-  pub record_read : {resource attributes base count : ℕ} → resource ≡ byte b at → attributes ≡ byte b (at + 1) → base ≡ long b (at + 2)
-      → count ≡ long b (at + 6)
-      → ◌≡◌ {A = Record} (record { resource = resource; attributes = attributes; base = base; count = count }) (record_of (drop at b))
-  record_read e f g h =
-      λ k. record {
-        resource = (e ∙ ap (byte b) (sym (add-zero at)) ∙ byte_past 0) k;
-        attributes = (f ∙ byte_past 1) k;
-        base = (g ∙ long_past 2) k;
-        count = (h ∙ long_past 6) k;
-      }
 
 -- past the first record and n more
 past_first : (n : ℕ) (b : List ℕ) → drop (n * record_size) (drop record_size b) ≡ drop (suc n * record_size) b

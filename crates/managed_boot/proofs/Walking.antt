@@ -9,16 +9,13 @@ use Rattle.facts.specs.{records_in, records_of, end_of, record_checks, most_line
 use Rattle.facts.specs.Boot.{Boot}
 use Rattle.facts.proofs.{is_built, boot_stays, record_no_success, first_not_success, boot_within, boot_success, records_length, bytes_laws}
 use Rattle.layout.specs.{Accepted}
-use Rattle.layout.specs.Served.{Served}
-use Rattle.layout.proofs.{image_size, size_in, one_set}
-use Rattle.managed_changes.specs.declared.Change.{Change}
-use Rattle.managed_changes.specs.declared.Change.TheVariants.{Made, Refused}
+use Rattle.layout.proofs.{one_set}
+use Rattle.std.specs.Prelude.{Result, Ok, Err}
 use Rattle.managed_changes.specs.{Changes}
 use Rattle.managed_levels.specs.{AddsLevel}
 use Rattle.managed_ranges.specs.{AddsRange}
 use Rattle.managed_changes.proofs.{served_as}
-use Rattle.managed_boot.specs.declared.Booted.{Booted}
-use Rattle.managed_boot.specs.declared.Booted.TheVariants.{All, Stopped}
+use Rattle.managed_boot.specs.declared.Stopped.{Stopped}
 use Rattle.managed_boot.specs.{AddsRecord, Refuses, Ends, BootsRecords, Boots, place_of, code_of}
 use Rattle.managed_boot.proofs.Bytes.{records_past, end_past}
 
@@ -35,25 +32,25 @@ module _ (r : Record) (b b' : List ℕ) where
     built : NotBuilt r.resource → ⊥
     built = is_built r.resource (omega arith) (omega arith) (omega arith)
 
-    own_adds : (c : Change) → Changes (Own io) (Added io) b b' c → AddsRecord r b b' c
-    own_adds Made =
+    own_adds : (c : Result (Unit {0}) Code) → Changes (Own io) (Added io) b b' c → AddsRecord r b b' c
+    own_adds (Ok x) =
         served_as
         (λ F G x. ((built, (omega arith, subst (λ (t : Bool). Passed (Own t F)) (sym is) x.0)), x.1 ∙ ap (λ (t : Bool). Added t F) (sym is)))
-    own_adds (Refused k) =
+    own_adds (Err k) =
         served_as (λ F G x. (inr (built, inr (omega arith, subst (λ (t : Bool). FirstGiven (Own t F) k) (sym is) x.0)), x.1))
 
-  pub range_adds : (c : Change) → r.resource ≡ io_range → AddsRange r.base r.count r.attributes most_lines b b' c → AddsRecord r b b' c
+  pub range_adds : (c : Result (Unit {0}) Code) → r.resource ≡ io_range → AddsRange r.base r.count r.attributes most_lines b b' c → AddsRecord r b b' c
   range_adds c e = own_adds true (eq-eqb r.resource io_range e) (omega (arith, e)) (omega (arith, e)) c
 
-  pub level_adds : (c : Change) → r.resource ≡ irq_level → AddsLevel r.base r.attributes b b' c → AddsRecord r b b' c
+  pub level_adds : (c : Result (Unit {0}) Code) → r.resource ≡ irq_level → AddsLevel r.base r.attributes b b' c → AddsRecord r b b' c
   level_adds c e = own_adds false (ne_eqb r.resource io_range (λ f. omega (arith, e, f))) (omega (arith, e)) (omega (arith, e)) c
 
 -- one record, lent as a list of one
 module _ {r : Record} {b b' : List ℕ} where
-  one_made : AddsRecord r b b' Made → BootsRecords (r ∷ []) b b' (All 1)
+  one_made : AddsRecord r b b' (Ok tt) → BootsRecords (r ∷ []) b b' (Ok 1)
   one_made s = (served_as (λ F G x. added x.0 (rw x.1 ended)) s, tt)
 
-  one_refused : {k : Code} → AddsRecord r b b' (Refused k) → BootsRecords (r ∷ []) b b' (Stopped 0 k)
+  one_refused : {k : Code} → AddsRecord r b b' (Err k) → BootsRecords (r ∷ []) b b' (Err (record { place = 0; code = k }))
   one_refused {k} s = (
     served_as (λ F G x. rw x.1 (refused x.0)) s,
     first_not_success (record_checks s.accepted.facts r) k (record_no_success s.accepted.facts r) s.rule.0,
@@ -79,7 +76,7 @@ module _ {e : Code} (left : List Record) (d : ℕ) where
   stops_within j (added p q) n = added p (later d j (stops_within (j + 1) q n))
 
 -- the list rs, where the code e is given at its end, ends so
-abbrev EndsAs : Code → List Record → List ℕ → List ℕ → Booted → Type 0
+abbrev EndsAs : Code → List Record → List ℕ → List ℕ → Result ℕ Stopped → Type 0
 EndsAs e rs = Ends (λ (F : Facts). Boot e F rs 0)
 
 -- a walk along the list `rs`, where the code e is given at its end, has come from the table b to the table b' and to a place, and these records are
@@ -92,15 +89,9 @@ pub record Walked (e : Code) (rs : List Record) (b b' : List ℕ) (place : ℕ) 
 pub walked_none : {e : Code} {rs : List Record} {b : List ℕ} → Accepted b → Walked e rs b b 0 rs
 walked_none a = record { first = a; here = a; goes_on = λ o r. r }
 
-pub ends_length : {R : Facts → Facts → Type 0} {b b' : List ℕ} → Served R b b' → length b' ≡ length b
-ends_length {b = b} s = ap length (sym s.table) ∙ image_size s.after ∙ sym (size_in b s.accepted)
-
 module _ {e : Code} {rs : List Record} {b b' : List ℕ} {place : ℕ} where
-  pub walked_length : {left : List Record} → Walked e rs b b' place left → length b' ≡ length b
-  walked_length w = size_in b' w.here ∙ sym (size_in b w.first)
-
   -- where none is left, the list ends
-  pub walked_all : (r : Booted) → Walked e rs b b' place [] → place_of r ≡ place → code_of r ≡ e → Refuses r → EndsAs e rs b b' r
+  pub walked_all : (r : Result ℕ Stopped) → Walked e rs b b' place [] → place_of r ≡ place → code_of r ≡ e → Refuses r → EndsAs e rs b b' r
   walked_all r w p k n = (
     record {
       accepted = w.first;
@@ -119,7 +110,7 @@ module _ {e : Code} {rs : List Record} {b b' : List ℕ} {place : ℕ} where
         w.goes_on o
         (rw (add-zero, one_set b' a.facts w.here.facts a.formed w.here.formed a.is w.here.is) at r)
 
-    pub walked_more : {b'' : List ℕ} {n : ℕ} → BootsRecords xs b' b'' (All n) → Walked e rs b b'' (place + n) left
+    pub walked_more : {b'' : List ℕ} {n : ℕ} → BootsRecords xs b' b'' (Ok n) → Walked e rs b b'' (place + n) left
     walked_more s =
         let t = s.0 in
         let formed = boot_stays _ _ _ _ _ t.accepted.formed t.rule in
@@ -129,7 +120,7 @@ module _ {e : Code} {rs : List Record} {b b' : List ℕ} {place : ℕ} where
           goes_on = λ o r. from t.accepted o (goes_past left place 0 t.rule refl r);
         }
 
-    pub walked_stopped : {b'' : List ℕ} {i : ℕ} {k : Code} → BootsRecords xs b' b'' (Stopped i k) → EndsAs e rs b b'' (Stopped (place + i) k)
+    pub walked_stopped : {b'' : List ℕ} {i : ℕ} {k : Code} → BootsRecords xs b' b'' (Err (record { place = i; code = k })) → EndsAs e rs b b'' (Err (record { place = place + i; code = k }))
     walked_stopped s =
         let t = s.0 in
         let rule = from t.accepted _ (stops_within left place 0 t.rule s.1) in
@@ -137,33 +128,35 @@ module _ {e : Code} {rs : List Record} {b b' : List ℕ} {place : ℕ} where
 
 -- a walk record by record: the rest of the list begins at the place
 module _ {rs : List Record} {b b' : List ℕ} {place : ℕ} (w : Walked Success rs b b' place (drop place rs)) where
-  pub walked_through : length rs ≤ place → BootsRecords rs b b' (All place)
-  walked_through l = walked_all (All place) (rw (drop_of_length-le rs l) at w) refl refl tt
+  pub walked_through : length rs ≡ place → BootsRecords rs b b' (Ok (length rs))
+  walked_through e =
+      let past : length rs ≤ place = omega (arith, e) in
+      walked_all (Ok (length rs)) (rw (drop_of_length-le rs past) at w) e refl tt
 
   module _ (d : Record) (l : place < length rs) where
     -- the record at the place, and those after it
     at : Walked Success rs b b' place ((get_or rs place d ∷ []) ++ drop (place + 1) rs)
     at = rw add-one (rw (drop-cons rs place d l) at w)
 
-    pub walked_one : {b'' : List ℕ} → AddsRecord (get_or rs place d) b' b'' Made → Walked Success rs b b'' (place + 1) (drop (place + 1) rs)
+    pub walked_one : {b'' : List ℕ} → AddsRecord (get_or rs place d) b' b'' (Ok tt) → Walked Success rs b b'' (place + 1) (drop (place + 1) rs)
     walked_one s = walked_more (get_or rs place d ∷ []) (drop (place + 1) rs) at (one_made s)
 
-    pub walked_refused : {b'' : List ℕ} {k : Code} → AddsRecord (get_or rs place d) b' b'' (Refused k) → BootsRecords rs b b'' (Stopped place k)
+    pub walked_refused : {b'' : List ℕ} {k : Code} → AddsRecord (get_or rs place d) b' b'' (Err k) → BootsRecords rs b b'' (Err (record { place = place; code = k }))
     walked_refused {b''} {k} s =
-        subst (λ (i : ℕ). EndsAs Success rs b b'' (Stopped i k)) (add-zero place)
+        subst (λ (i : ℕ). EndsAs Success rs b b'' (Err (record { place = i; code = k }))) (add-zero place)
         (walked_stopped (get_or rs place d ∷ []) (drop (place + 1) rs) at (one_refused s))
 
 -- a walk along a list's bytes, some records at a time: those left begin at the byte `at`
 module _ (bytes : List ℕ) {b b' : List ℕ} {place : ℕ} (at : ℕ)
     (w : Walked (end_of bytes) (records_of bytes) b b' place (records_of (drop at bytes))) where
-  pub bytes_all : at ≡ place * record_size → length bytes ≤ at → at ≤ length bytes → Boots bytes b b' (All place)
+  pub bytes_all : at ≡ place * record_size → length bytes ≤ at → at ≤ length bytes → Boots bytes b b' (Ok place)
   bytes_all e l m =
-      walked_all (All place) (subst (Walked _ _ b b' place) (bytes_laws.same_list (drop at bytes) 0 (omega (arith, length-drop at bytes))).0 w) refl
+      walked_all (Ok place) (subst (Walked _ _ b b' place) (bytes_laws.same_list (drop at bytes) 0 (omega (arith, length-drop at bytes))).0 w) refl
       (sym (bytes_laws.same_list bytes place (omega arith)).1) tt
 
-  pub bytes_broken : at ≡ place * record_size → at < length bytes → length bytes < at + record_size → Boots bytes b b' (Stopped place BadArgLength)
+  pub bytes_broken : at ≡ place * record_size → at < length bytes → length bytes < at + record_size → Boots bytes b b' (Err (record { place = place; code = BadArgLength }))
   bytes_broken e l m =
-      walked_all (Stopped place BadArgLength) (subst (Walked _ _ b b' place) few.0 w) refl
+      walked_all (Err (record { place = place; code = BadArgLength })) (subst (Walked _ _ b b' place) few.0 w) refl
       (sym (end_past place bytes (omega arith) ∙ ap (λ (n : ℕ). end_of (drop n bytes)) (sym e) ∙ few.1)) (λ f. omega (arith, ap number_of f))
     where
       few : (records_of (drop at bytes) ≡ []) × (end_of (drop at bytes) ≡ BadArgLength)
@@ -183,11 +176,11 @@ module _ (bytes : List ℕ) {b b' : List ℕ} {place : ℕ} (at : ℕ)
         (records_past n (drop at bytes) (omega (arith, length-drop at bytes))
         ∙ ap (λ (l : List ℕ). next ++ records_of l) (drop-drop (n * record_size) at bytes)) w
 
-    pub bytes_more : {b'' : List ℕ} {m : ℕ} → BootsRecords next b' b'' (All m) → Walked (end_of bytes) (records_of bytes) b b'' (place + n) after
+    pub bytes_more : {b'' : List ℕ} {m : ℕ} → BootsRecords next b' b'' (Ok m) → Walked (end_of bytes) (records_of bytes) b b'' (place + n) after
     bytes_more {b''} {m} s =
         let all : m ≡ n = omega (arith, (boot_success _ _ _ _ _ s.0.rule refl).1, records_length n (drop at bytes)) in
         subst (λ (k : ℕ). Walked (end_of bytes) (records_of bytes) b b'' (place + k) after) all (walked_more next after ahead s)
 
-    pub bytes_stopped : {b'' : List ℕ} {i : ℕ} {k : Code} → BootsRecords next b' b'' (Stopped i k) → (i ≤ n) × Boots bytes b b'' (Stopped (place + i) k)
+    pub bytes_stopped : {b'' : List ℕ} {i : ℕ} {k : Code} → BootsRecords next b' b'' (Err (record { place = i; code = k })) → (i ≤ n) × Boots bytes b b'' (Err (record { place = place + i; code = k }))
     bytes_stopped s =
         (omega (arith, boot_within _ _ _ _ _ s.0.rule, records_length n (drop at bytes)), walked_stopped next after ahead s)

@@ -9,9 +9,9 @@ ghost use Rattle.layout.specs.Sound.{Accepted};
 ghost use Rattle.facts.specs.Codes.{placed};
 ghost use Rattle.managed_boot.specs.Booting.{AddsRecord, BootsRecords, Boots, at_once, place_of, code_of};
 
-use facts::{Code, IO_RESOURCE, IRQ_RESOURCE, RangeAsked, Record};
+use facts::{Code, RangeAsked, Record};
 use layout::MOST_LINES;
-use managed_changes::Change;
+use managed_changes::Resource;
 
 // "A record has a resource type and attributes of one byte, a base or level and a port count of four".
 const RECORD_SIZE: usize = 10;
@@ -27,15 +27,11 @@ fn record_at(records: &[u8], at: usize) -> Record
     requires { at + record_size ≤ length records.now }
     ensures { result ≡ record_of (drop at records.now) }
 {
-    let resource = records[at];
-    let attributes = records[at + ATTRIBUTES_AT];
-    let base = table_read::long(records, at + BASE_AT) as u32;
-    let count = table_read::long(records, at + COUNT_AT) as u32;
     Record {
-        resource,
-        attributes,
-        base,
-        count,
+        resource: records[at],
+        attributes: records[at + ATTRIBUTES_AT],
+        base: table_read::long(records, at + BASE_AT) as u32,
+        count: table_read::long(records, at + COUNT_AT) as u32,
     }
 }
 
@@ -46,11 +42,7 @@ const AT_ONCE: usize = 8;
 fn next(left: usize) -> usize
     ensures { result ≡ min at_once (left / record_size) }
 {
-    let whole = left / RECORD_SIZE;
-    if AT_ONCE <= whole {
-        return AT_ONCE;
-    }
-    whole
+    AT_ONCE.min(left / RECORD_SIZE)
 }
 
 // The n records that begin at a byte of the list.
@@ -65,67 +57,55 @@ fn taken(records: &[u8], at: usize, n: usize) -> [Record; AT_ONCE]
         count: 0,
     };
     let mut all = [none; AT_ONCE];
-    let mut i = 0;
-    while i < n {
+    for i in 0..n {
         all[i] = record_at(records, at + i * RECORD_SIZE);
-        i += 1;
     }
     all
 }
 
 // One record is added, or refused: "it gets the code that Add's rules give those values".
-fn add(t: &mut [u8], r: Record) -> Change
+fn add(t: &mut [u8], r: Record) -> Result<(), Code>
     requires { Accepted t.old }
     ensures { AddsRecord r t.old t.new result }
 {
-    let resource = r.resource;
-    let base = r.base;
-    let count = r.count;
-    let attributes = r.attributes;
-    match resource {
-        IO_RESOURCE => managed_ranges::add(
+    match Resource::try_from(r.resource) {
+        Ok(Resource::Io) => managed_ranges::add(
             t,
             RangeAsked {
-                base,
-                count,
-                attributes,
+                base: r.base,
+                count: r.count,
+                attributes: r.attributes,
                 lines: MOST_LINES as u8,
             },
         ),
-        IRQ_RESOURCE => managed_levels::add(t, base, attributes),
-        0 | 3..=4 => Change::Refused(Code::UnsupportedService),
-        5..=0xFF => Change::Refused(Code::BadArgs),
+        Ok(Resource::Irq) => managed_levels::add(t, r.base, r.attributes),
+        Err(code) => Err(code),
     }
 }
 
-// Where a list ended: all of its records are added, or it stopped at a place with a code.
-#[derive(Clone, Copy)]
-pub enum Booted {
-    All(usize),
-    Stopped(usize, Code),
+// Where a list stopped: the place of the first record that is refused, and the code.
+#[derive(Clone, Copy, Debug, PartialEq, Eq)]
+pub struct Stopped {
+    pub place: usize,
+    pub code: Code,
 }
 
-// A list that is lent as a slice of records: "it stops at the first refused, answers its place (from 0) and code, and earlier ones stay".
-pub fn walk(t: &mut [u8], records: &[Record]) -> Booted
+// A list that is lent as a slice of records: "it stops at the first refused, answers its place (from 0) and code, and earlier ones stay". The answer is the
+// list's length, where all are added.
+pub fn walk(t: &mut [u8], records: &[Record]) -> Result<usize, Stopped>
     requires { Accepted t.old }
     ensures { BootsRecords records.now t.old t.new result }
 {
-    let mut place = 0;
-    while place < records.len() {
-        let change = add(t, records[place]);
-        match change {
-            Change::Made => {}
-            Change::Refused(code) => {
-                return Booted::Stopped(place, code);
-            }
+    for (place, record) in records.iter().enumerate() {
+        if let Err(code) = add(t, *record) {
+            return Err(Stopped { place, code });
         }
-        place += 1;
     }
-    Booted::All(place)
+    Ok(records.len())
 }
 
 // The n records that begin at a byte of the list are taken out, and lent as a slice.
-fn lent(t: &mut [u8], records: &[u8], at: usize, n: usize) -> Booted
+fn lent(t: &mut [u8], records: &[u8], at: usize, n: usize) -> Result<usize, Stopped>
     requires { Accepted t.old × (n ≤ at_once) × (at + n * record_size ≤ length records.now) }
     ensures { BootsRecords (records_in n (drop at records.now)) t.old t.new result }
 {
@@ -134,7 +114,7 @@ fn lent(t: &mut [u8], records: &[u8], at: usize, n: usize) -> Booted
 }
 
 // A list that is lent as bytes: "bytes too few for a record at the end are refused at its place". `first` is the place of the first record that is left.
-pub fn boot(t: &mut [u8], records: &[u8]) -> Booted
+pub fn boot(t: &mut [u8], records: &[u8]) -> Result<usize, Stopped>
     requires { Accepted t.old }
     ensures { Boots records.now t.old t.new result }
 {
@@ -143,31 +123,33 @@ pub fn boot(t: &mut [u8], records: &[u8]) -> Booted
     let mut at = 0;
     while RECORD_SIZE <= bytes - at {
         let n = next(bytes - at);
-        let some = lent(t, records, at, n);
-        match some {
-            Booted::All(_) => {}
-            Booted::Stopped(place, code) => {
-                return Booted::Stopped(first + place, code);
-            }
+        if let Err(stopped) = lent(t, records, at, n) {
+            return Err(Stopped {
+                place: first + stopped.place,
+                code: stopped.code,
+            });
         }
         first += n;
         at += n * RECORD_SIZE;
     }
     if at < bytes {
-        return Booted::Stopped(first, Code::BadArgLength);
+        return Err(Stopped {
+            place: first,
+            code: Code::BadArgLength,
+        });
     }
-    Booted::All(first)
+    Ok(first)
 }
 
 // code + 2^32 * place.
 const ABOVE_CODE: u64 = 4294967296;
 
-pub fn pack(b: Booted) -> u64
-    requires { place_of b ≤ Table.all_levels + Table.most_ranges }
-    ensures { result ≡ placed (code_of b) (place_of b) }
+pub fn pack(booted: Result<usize, Stopped>) -> u64
+    requires { place_of booted ≤ Table.all_levels + Table.most_ranges }
+    ensures { result ≡ placed (code_of booted) (place_of booted) }
 {
-    match b {
-        Booted::All(place) => ABOVE_CODE * (place as u64),
-        Booted::Stopped(place, code) => facts::number(code) as u64 + ABOVE_CODE * (place as u64),
+    match booted {
+        Ok(place) => ABOVE_CODE * (place as u64),
+        Err(stopped) => u64::from(u32::from(stopped.code)) + ABOVE_CODE * (stopped.place as u64),
     }
 }

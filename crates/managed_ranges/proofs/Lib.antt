@@ -1,5 +1,5 @@
 -- Where ranges stand, and the ways in which their changes end. Assumes nothing.
 pub mod Places
 pub mod Ends
-pub use Places.{Down, down_more, down_found, down_end, taken_before, taken_after, untaken, found_there, next_none, next_found}
+pub use Places.{Down, down_found, untaken, next_none, next_found}
 pub use Ends.{ports_wrong, own_change, put_taken, put_full, put_made, take_nowhere, take_held, take_made, enters}

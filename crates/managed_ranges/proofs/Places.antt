@@ -1,12 +1,12 @@
 -- Where a base belongs among the ranges; ports that are free, a range that is found, and the one that comes next. Assumes nothing.
-use Rattle.facts.proofs.Words.{◌≡◌, refl, ap, ◌∙◌, subst, inl, inr, ⊎_elim, ◌≢◌, List, ℕ, ◌+◌, ◌-◌, ◌≤◌, ◌<◌, dec_le, dec_lt, arith, eq-or-lt_of_le}
+use Rattle.facts.proofs.Words.{◌≡◌, refl, ap, ◌∙◌, inl, inr, ⊎_elim, List, ℕ, ◌+◌, ◌-◌, ◌≤◌, ◌<◌, dec_le, dec_lt, arith, eq-or-lt_of_le}
 use Rattle.layout.proofs.Of
 use Rattle.facts.proofs.{told}
-use Rattle.std.specs.Prelude.{Some, None, Err}
-use Rattle.facts.specs.{InUse, Range, ◌∈◌, Within, all_ports}
+use Rattle.std.specs.Prelude.{Some, None}
+use Rattle.facts.specs.{Range, ◌∈◌, Within}
 use Rattle.layout.specs.{ranges_in, range_in, Accepted, RangesSound, ManagedIn, range_base, range_count, end_before_lem}
 use Rattle.layout.proofs.{range_end, end_before, ends_before, bases_rise}
-use Rattle.managed_ranges.specs.{PlaceOf, StartIs, FreeAt, FreeIs, FoundAt, NextRangeIs}
+use Rattle.managed_ranges.specs.{PlaceOf, StartIs, FreeAt, NextRangeIs}
 
 -- no later range has a lower base
 rise : {b : List ℕ} → RangesSound b → (j i : ℕ) → j ≤ i → i < ranges_in b → range_base b j ≤ range_base b i
@@ -19,39 +19,13 @@ pub record Down (b : List ℕ) (from i : ℕ) : Type 0 where
   pub behind : (j : ℕ) → i ≤ j → j < ranges_in b → from ≤ range_base b j
 
 module _ {b : List ℕ} {from i : ℕ} (d : Down b from i) where
-  pub down_more : 0 < i → from ≤ range_base b (i - 1) → Down b from (i - 1)
-  down_more l h =
-      record {
-        within = omega (arith, d.within);
-        behind = λ j m n. ⊎_elim (λ e. subst (λ (k : ℕ). from ≤ range_base b k) e h) (λ x. d.behind j (omega arith) n) (eq-or-lt_of_le m);
-      }
-
   pub down_found : RangesSound b → 0 < i → range_base b (i - 1) < from → PlaceOf b from i
   down_found s l h =
       record { within = d.within; ahead = λ j m. omega (arith, rise s j (i - 1) (omega arith) (omega (arith, d.within))); behind = d.behind }
 
-  pub down_end : i ≡ 0 → PlaceOf b from 0
-  down_end e = record { within = omega arith; ahead = omega arith; behind = λ j m n. d.behind j (omega arith) n }
-
 module _ {b : List ℕ} (s : RangesSound b) where
   -- new ports and the ranges next to their place
   module _ {base count i : ℕ} (place : PlaceOf b base i) where
-    pub taken_before : 1 ≤ count → base < end_before_lem b i → FreeIs b base count (Err InUse)
-    taken_before c h =
-        let some : i ≢ 0 = λ e. omega (arith, ap (end_before_lem b) e) in
-        let held : Within base (range_base b (i - 1)) (range_count b (i - 1)) =
-        omega (arith, place.ahead (i - 1) (omega arith), end_before b i some) in
-        (refl, base, omega arith, (i - 1, omega (arith, place.within), held))
-
-    pub taken_after : {x : ℕ} → StartIs b i x → base + count ≤ all_ports → x < base + count → FreeIs b base count (Err InUse)
-    taken_after (inl y) w h = (
-      refl,
-      range_base b i,
-      record { from = place.behind i (omega arith) y.0; below = omega (arith, y.1) },
-      (i, y.0, omega (arith, (s i y.0).port)),
-    )
-    taken_after (inr y) w h = absurd (omega (arith, y.1))
-
     pub untaken : {x : ℕ} → end_before_lem b i ≤ base → StartIs b i x → base + count ≤ x → FreeAt b base count i
     untaken {x} before after h = record { place = place; free = λ p w m. below_or_not p w m (dec_lt m.0 i) after }
       where
@@ -66,16 +40,6 @@ module _ {b : List ℕ} (s : RangesSound b) where
         below_or_not p w m (yes l) y = omega (arith, ends m.0 l)
         below_or_not p w m (no l) (inl y) = omega (arith, y.1, rise s i m.0 (omega arith) m.1)
         below_or_not p w m (no l) (inr y) = omega (arith, y.0)
-
-  -- a range with that base and count is the one at the base's place
-  pub found_there : {base count i j : ℕ} → PlaceOf b base i → FoundAt b base count j → FoundAt b base count i
-  found_there {base} {count} {i} {j} place f = subst (FoundAt b base count) (below_or_above (dec_lt j i) (dec_lt i j)) f
-    where
-      below_or_above : Dec (j < i) → Dec (i < j) → j ≡ i
-      below_or_above (yes l) d = absurd (omega (arith, place.ahead j l, f.base_is))
-      below_or_above (no l) (yes m) =
-          absurd (omega (arith, f.base_is, place.behind i (omega arith) (omega (arith, f.listed)), bases_rise b s i j m f.listed))
-      below_or_above (no l) (no m) = omega arith
 
 -- the range that comes next
 module _ {b : List ℕ} {from i : ℕ} (place : PlaceOf b from i) where

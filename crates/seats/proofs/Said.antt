@@ -4,7 +4,7 @@ use Rattle.std.specs.Prelude.{Some, None}
 use Rattle.facts.proofs.Words.{◌≡◌, ◌≢◌, refl, ap, sym, ◌∙◌, List, Option, none, some, cond, eqb, by_cases, ℕ, ◌<◌, arith, ℕ_discrete, WellFormed, subst}
 use Rattle.facts.specs.{Facts, IoGrant, IrqGrant, most_seats, word}
 use Rattle.facts.proofs.{told}
-use Rattle.layout.specs.{Accepted, seat_room, facts_in, io_here, io_in, io_place_lem, irq_here, irq_in, irq_place_lem, IoUsed, IrqUsed}
+use Rattle.layout.specs.{Accepted, seat_room, facts_in, io_here, io_in, io_place_lem, irq_here, irq_in, irq_place_lem}
 use Rattle.layout.proofs.{below_in, zero_test, positive_test}
 use Rattle.layout.proofs.Of
 use Rattle.seats.specs.declared.HeldPorts.{HeldPorts}

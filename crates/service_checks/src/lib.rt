@@ -77,13 +77,7 @@ fn card_asked(t: &[u8], socket: Socket, need: CardNeed) -> Result<(), Code>
 
 // How a service on a socket begins: the client's place in the list and the seat of the socket that the packet names, or
 // the code of the first check that refuses.
-pub fn begin(
-    t: &[u8],
-    h: Handle,
-    p: &[u8],
-    n: usize,
-    need: CardNeed,
-) -> Result<(usize, Seat), Code>
+pub fn begin(t: &[u8], h: Handle, p: &[u8], n: usize, need: CardNeed) -> Result<(usize, Seat), Code>
     requires { Accepted t.now × (1 < n) }
     ensures { BegunIs t.now h.0 p.now n need result }
 {

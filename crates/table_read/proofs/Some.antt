@@ -8,7 +8,7 @@ use Rattle.std.specs.List.{AllWithin, HoldsAt, range_with_len}
 use Rattle.std.proofs.iter.Yields.{nat_range_steps}
 use Rattle.std.proofs.lemmas.Iterator.{cases_from_any, YieldsList-from_range}
 use Rattle.std.proofs.lemmas.List.FromFn.{length-range_with_len, get_or-range_with_len}
-use Rattle.facts.proofs.Words.{◌≡◌, refl, sym, ◌∙◌, subst, Bool, true, false, ℕ, ◌+◌, ◌≤◌, ◌<◌, arith, length, zero-add, Says}
+use Rattle.facts.proofs.Words.{◌≡◌, refl, sym, ◌∙◌, subst, Bool, true, false, ℕ, ◌<◌, arith, length, zero-add, Says}
 use Rattle.facts.proofs.{says_true, says_false}
 
 abbrev pub Some : ℕ → (ℕ → Type 0) → Type 0

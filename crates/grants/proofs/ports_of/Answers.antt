@@ -2,7 +2,6 @@
 -- Assumes nothing.
 use Rattle.std.specs.Prelude.{Some, None}
 use Rattle.facts.proofs.Words.{refl, ◌∙◌, sym}
-use Rattle.layout.specs.{facts_in}
 use Rattle.seats.proofs.{io_read}
 use Rattle.grants.proofs.{no_ports, ports_said}
 use Rattle.grants.proofs.ports_of.Goals as goal

@@ -1,7 +1,7 @@
 -- `io_bases::chosen` meets its contract: the first candidate, or there is none.
 -- Assumes nothing.
-use Rattle.facts.proofs.Words.{◌≡◌, ℕ, List, subst, sym}
-use Rattle.std.specs.Prelude.{Option, Some, None, Result, Ok, Err}
+use Rattle.facts.proofs.Words.{◌≡◌, ℕ, List}
+use Rattle.std.specs.Prelude.{Option, Some, None}
 use Rattle.std.specs.Option.{ok_or}
 use Rattle.facts.specs.{InUse, IoAsked}
 use Rattle.layout.specs.{Accepted}

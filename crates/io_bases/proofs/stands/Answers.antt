@@ -1,6 +1,6 @@
 -- `io_bases::stands` meets its contract: nothing is held there, it isn't met, or the two don't both share.
 -- Assumes nothing.
-use Rattle.facts.proofs.Words.{◌<◌, arith}
+use Rattle.facts.proofs.Words.{arith}
 use Rattle.std.specs.Prelude.{Some, None}
 use Rattle.facts.proofs.{says_false, says_false_by, says_yes}
 use Rattle.layout.proofs.{size_in}

@@ -25,7 +25,7 @@ ports_of-requires c = size_in _ c.requires
 pub returns-in_err-ports_of : goal.returns-in_err-ports_of
 returns-in_err-ports_of c =
     let unheld : IoHeld (facts_in c.args.t.now) c.args.h.0 _ (base_asked_lem c.args.p.now) (count_asked_lem c.args.p.now) → ⊥ =
-    rw (c.base_asked.ensures.0, c.count_asked.ensures.0) at c.in_err-ports_of.ensures.1 in
+    rw (c.base_asked-base.ensures.0, c.count_asked-count.ensures.0) at c.in_err-ports_of.ensures.1 in
     handed (ReleaseServed _ _ _ _) _ c.from_residual-in_err-ports_of.ensures c.in_err-ports_of.ensures.0
     (release_unheld c.requires c.in_ok-seat.ensures c.in_ok-second_asked.ensures unheld)
 
@@ -36,5 +36,5 @@ enter_ports-requires c =
 pub returns : goal.returns
 returns c =
     let held : IoHeld (facts_in c.args.t.now) c.args.h.0 _ (base_asked_lem c.args.p.now) (count_asked_lem c.args.p.now) =
-    rw (c.base_asked.ensures.0, c.count_asked.ensures.0) at c.in_ok-ports_of.ensures in
+    rw (c.base_asked-base.ensures.0, c.count_asked-count.ensures.0) at c.in_ok-ports_of.ensures in
     rw c.enter_ports.ensures (release_done c.requires c.in_ok-seat.ensures c.in_ok-second_asked.ensures held)

@@ -12,4 +12,4 @@ returns-then-joined-eq0 c =
 pub returns : goal.returns
 returns c =
     let low = and_le_l c.levels_held-held.result.together c.args.asked.named in
-    lowest_taken c.requires _ _ c.levels_held-held.ensures.together _ (trailing_lowest 64 _ c.if-joined-eq0.false (omega (arith, low)))
+    lowest_taken c.requires _ _ c.levels_held-held.ensures.together _ (trailing_lowest _ c.if-joined-eq0.false (omega (arith, low)))

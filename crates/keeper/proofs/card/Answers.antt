@@ -1,8 +1,7 @@
 -- `keeper::card` meets its contract: the table is not well formed, or the rule of card in and card out holds.
 -- Assumes nothing.
 use Rattle.facts.proofs.{handed}
-use Rattle.std.specs.Prelude.{Result}
-use Rattle.facts.specs.{Code, code_in, number_of}
+use Rattle.facts.specs.{code_in, number_of}
 use Rattle.promises.specs.{CardAnswers}
 use Rattle.keeper.proofs.{card_unformed}
 use Rattle.keeper.proofs.card.Goals as goal

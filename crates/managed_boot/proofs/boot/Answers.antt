@@ -11,19 +11,19 @@ loop-at-init c = (omega arith, refl, walked_none c.requires)
 pub overflow_add-result : goal.overflow_add-result
 overflow_add-result c =
     let full : c.loop-at.at + c.next-n.result * record_size ≤ length c.args.records.now = omega (arith, c.next-n.ensures, c.loop-at.invariant.0) in
-    let refusal = bytes_stopped c.args.records.now c.loop-at.at c.loop-at.invariant.2 c.next-n.result full c.in-Stopped.ensures in
+    let refusal = bytes_stopped c.args.records.now c.loop-at.at c.loop-at.invariant.2 c.next-n.result full c.in-Err.ensures in
     omega (arith, c.next-n.ensures, c.loop-at.invariant.1, refusal.0)
 
-pub returns-in-Stopped : goal.returns-in-Stopped
-returns-in-Stopped c =
+pub returns-in-Err : goal.returns-in-Err
+returns-in-Err c =
     let full : c.loop-at.at + c.next-n.result * record_size ≤ length c.args.records.now = omega (arith, c.next-n.ensures, c.loop-at.invariant.0) in
-    (bytes_stopped c.args.records.now c.loop-at.at c.loop-at.invariant.2 c.next-n.result full c.in-Stopped.ensures).1
+    (bytes_stopped c.args.records.now c.loop-at.at c.loop-at.invariant.2 c.next-n.result full c.in-Err.ensures).1
 
 pub loop-at-preserved : goal.loop-at-preserved
 loop-at-preserved c =
     let l = c.loop-at in
     let full : l.at + c.next-n.result * record_size ≤ length c.args.records.now = omega (arith, c.next-n.ensures, l.invariant.0) in
-    (full, omega (arith, l.invariant.1), bytes_more c.args.records.now l.at l.invariant.2 c.next-n.result full c.in-All.ensures)
+    (full, omega (arith, l.invariant.1), bytes_more c.args.records.now l.at l.invariant.2 c.next-n.result full c.in_default.ensures)
 
 pub returns-then-at-bytes : goal.returns-then-at-bytes
 returns-then-at-bytes c =

@@ -7,11 +7,11 @@ use Rattle.managed_boot.proofs.walk.Goals as goal
 pub loop-place-init : goal.loop-place-init
 loop-place-init c = (omega arith, walked_none c.requires)
 
-pub returns-in-Refused : goal.returns-in-Refused
-returns-in-Refused c = walked_refused c.loop-place.invariant.1 _ (omega arith) c.in-Refused.ensures
+pub returns-in-Err : goal.returns-in-Err
+returns-in-Err c = walked_refused c.loop-place.invariant.1 _ (omega arith) c.in-Err.ensures
 
 pub loop-place-preserved : goal.loop-place-preserved
-loop-place-preserved c = (omega arith, walked_one c.loop-place.invariant.1 _ (omega arith) c.in-Made.ensures)
+loop-place-preserved c = (omega arith, walked_one c.loop-place.invariant.1 _ (omega arith) c.in_default.ensures)
 
 pub returns : goal.returns
 returns c = walked_through c.loop-place.invariant.1 (omega arith)

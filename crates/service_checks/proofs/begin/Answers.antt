@@ -2,8 +2,6 @@
 -- Assumes nothing.
 use Rattle.facts.proofs.Words.{arith}
 use Rattle.facts.proofs.{handed, given, missing}
-use Rattle.facts.specs.{Live}
-use Rattle.layout.specs.{Accepted}
 use Rattle.layout.proofs.{size_in, sockets_in_lem, clients_in_lem}
 use Rattle.layout.proofs.Of.{live_listed}
 use Rattle.client_record.specs.{ListedAt, Finds}
@@ -31,7 +29,7 @@ returns-in_err-socket c =
     let found : ListedAt c.args.t.now c.args.h.0 c.in_ok-i.i = given (Finds _ _) _ _ c.ok_or.ensures.value c.in_ok-i.was c.client_at.ensures in
     handed (BegunIs _ _ _ _ _) _ c.from_residual-in_err-socket.ensures c.in_err-socket.ensures.0
     (λ a. by_socket a c.args.p.now c.args.n c.args.h.0 c.in_ok-sized.ensures (live_listed c.args.t.now a _ _ found.listed found.handle) c.args.need
-      c.in_err-socket.ensures.1)
+    c.in_err-socket.ensures.1)
 
 pub card_asked-requires : goal.card_asked-requires
 card_asked-requires c =
@@ -43,7 +41,7 @@ returns-in_err-card_asked c =
     let found : ListedAt c.args.t.now c.args.h.0 c.in_ok-i.i = given (Finds _ _) _ _ c.ok_or.ensures.value c.in_ok-i.was c.client_at.ensures in
     handed (BegunIs _ _ _ _ _) _ c.from_residual-in_err-card_asked.ensures c.in_err-card_asked.ensures.0
     (λ a. by_card a c.args.p.now c.args.n c.args.h.0 c.in_ok-sized.ensures (live_listed c.args.t.now a _ _ found.listed found.handle) c.in_ok-socket.ensures
-      c.args.need c.in_err-card_asked.ensures.1)
+    c.args.need c.in_err-card_asked.ensures.1)
 
 pub new-requires : goal.new-requires
 new-requires c =

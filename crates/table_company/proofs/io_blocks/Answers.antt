@@ -1,6 +1,6 @@
 -- `table_company::io_blocks` meets its contract: there is no grant, or its blocks are those of its ports.
 -- Assumes nothing.
-use Rattle.facts.proofs.Words.{subst, arith}
+use Rattle.facts.proofs.Words.{arith}
 use Rattle.std.specs.Prelude.{Some}
 use Rattle.seats.specs.{HeldIs}
 use Rattle.seats.proofs.{held_fits, held_port}

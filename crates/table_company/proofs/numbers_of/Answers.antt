@@ -1,6 +1,6 @@
 -- `table_company::numbers_of` meets its contract: there is no grant, or its numbers are read.
 -- Assumes nothing.
-use Rattle.facts.proofs.Words.{◌≡◌, ap, ◌∙◌, subst, cond, ◌+◌, ◌-◌, ◌^◌, ◌≤◌, ◌<◌, pow_pos, pow_mono, arith}
+use Rattle.facts.proofs.Words.{◌≡◌, ap, ◌∙◌, cond, ◌+◌, ◌-◌, ◌^◌, ◌≤◌, ◌<◌, pow_pos, pow_mono, arith}
 use Rattle.facts.specs.{IoGrant, all_ports, most_asked, most_lines}
 use Rattle.std.specs.Prelude.{Some}
 use Rattle.seats.specs.{HeldIs}
