@@ -1,9 +1,14 @@
 -- Numbers or-ed together are 0 exactly if each is: how a loop with no early exit finds whether some number below a bound is P. Assumes nothing.
-use Rattle.facts.proofs.Words.{subst, ◌⊎◌, inl, inr, ⊎_elim, ℕ, ◌+◌, eq-or-lt_of_le, ℕ_discrete, arith, by_cases, bit_or, eqb, eq-eqb, not, refl, Says}
+use Rattle.facts.proofs.Words.{subst, ◌⊎◌, inl, inr, ⊎_elim, ℕ, ◌+◌, eq-or-lt_of_le, ℕ_discrete, arith, by_cases, bit_or, bool_byte, Bool, true, false, eqb, eq-eqb, not, refl, Says}
 use Rattle.facts.proofs.{says_as, says_eq, says_not}
 use Rattle.table_read.proofs.{or_says, zero_where}
 use Rattle.table_read.proofs.Some.{Some}
 use Rattle.client_record.specs.Finding.{Tells}
+
+-- the number of a flag
+pub flag_tells : (b : Bool) {P : Type 0} → Says b P → Tells (bool_byte b) P
+flag_tells true s = record { none = λ e p. omega (arith, e); some = λ d. s.holds refl }
+flag_tells false s = record { none = λ e. s.fails refl; some = λ d. absurd (d refl) }
 
 tells_or : (x y : ℕ) {P Q : Type 0} → Tells x P → Tells y Q → Tells (bit_or x y) (P ⊎ Q)
 tells_or x y p q =

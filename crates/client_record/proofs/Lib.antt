@@ -1,3 +1,3 @@
 -- Laws of a search with no early exit. Assumes nothing.
 pub mod Gathering
-pub use Gathering.{some_none, some_more, tells_says}
+pub use Gathering.{flag_tells, some_none, some_more, tells_says}

@@ -8,7 +8,7 @@ ghost use Rattle.facts.specs.WellFormed.{AttributesAllowed};
 ghost use Rattle.layout.specs.Layout.{table_size};
 ghost use Rattle.layout.specs.Reading.{clients_in};
 ghost use Rattle.layout.specs.Sound.{LiveIn, MaskUsed};
-ghost use Rattle.client_record.specs.Finding.{Finds, ByNumber, Tells};
+ghost use Rattle.client_record.specs.Finding.{Finds, ByNumber};
 
 use facts::{Handle, Seat};
 use layout::{CLIENTS_IN, HANDLE_SIZE, HANDLES_AT, MASK_SIZE, MASKS_AT, MASKS_SIZE};
@@ -72,16 +72,6 @@ pub fn client_at(t: &[u8], h: Handle) -> Option<usize>
     search(t, h)
 }
 
-// Whether two handles are the same: 1, or 0.
-fn same(a: u16, b: u16) -> u16
-    ensures { Tells result (a ≡ b) }
-{
-    if a == b {
-        return 1;
-    }
-    0
-}
-
 // Whether the handle is that of a client listed: it is compared with all of them, with no early exit, so that many are looked at side by side. Client 5
 // among the clients 3, 5 and 9: the comparisons are 0, 1 and 0, or-ed together 1, which is yes. Client 4 among them: 0, 0 and 0, which is no.
 fn listed(t: &[u8], h: Handle) -> bool
@@ -92,8 +82,7 @@ fn listed(t: &[u8], h: Handle) -> bool
     let wanted = h.0;
     let mut some: u16 = 0;
     for i in 0..all {
-        let handle = table_read::word_u16(t, HANDLES_AT + i * HANDLE_SIZE);
-        some |= same(handle, wanted);
+        some |= u16::from(table_read::word_u16(t, HANDLES_AT + i * HANDLE_SIZE) == wanted);
     }
     some != 0
 }

@@ -72,7 +72,7 @@ fn serve(table: &mut [u8], service: u16, h: Handle, packet: &mut [u8]) -> Result
         REQUEST_SOCKET_MASK => socket_masks::request(table, h, packet),
         RELEASE_SOCKET_MASK => socket_masks::release(table, h, packet),
         ADJUST_RESOURCE_INFO => managed_adjust::adjust(table, h, packet),
-        _ => Err(Code::UnsupportedService),
+        0x0000..=0xFFFF => Err(Code::UnsupportedService),
     }
 }
 
