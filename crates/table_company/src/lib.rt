@@ -212,8 +212,9 @@ pub fn companies_kept(t: &[u8], sockets: usize) -> bool
     }
     let mut held: [u16; HELD] = [0; HELD];
     for s in 0..sockets {
-        enter(t, Seat::new(s), &mut held);
-        if !apart(&held, Seat::new(s)) {
+        let seat = Seat::new(s);
+        enter(t, seat, &mut held);
+        if !apart(&held, seat) {
             return false;
         }
     }

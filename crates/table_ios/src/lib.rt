@@ -117,11 +117,12 @@ pub fn ios_sound(t: &[u8]) -> bool
     let mut common: u64 = 0;
     let mut near = 0;
     for s in 0..sockets {
-        near = range_near(t, near, Seat::new(s));
-        if !io_place_sound(t, &rows, near, Seat::new(s)) {
+        let seat = Seat::new(s);
+        near = range_near(t, near, seat);
+        if !io_place_sound(t, &rows, near, seat) {
             return false;
         }
-        let own = io_blocks(t, Seat::new(s));
+        let own = io_blocks(t, seat);
         common = common | passed & own;
         passed = passed | own;
     }

@@ -12,19 +12,19 @@ use Rattle.table_company.proofs.companies_kept.Goals as goal
 pub returns-then-not-apart : goal.returns-then-not-apart
 returns-then-not-apart c =
     let company : Says c.apart.result (CompanySound (IoPairSound c.args.t.now) c.loop-s.s) =
-    apart_says _ c.enter.new.held _ c.enter.ensures.1 (λ u l. c.requires.2 u (omega (arith, c.loop-s-test.true)))
-    c.apart.ensures in
+    rw c.new-seat.ensures at
+    (apart_says _ c.enter.new.held _ c.enter.ensures.1 (λ u l. c.requires.2 u (omega (arith, c.loop-s-test.true, c.new-seat.ensures))) c.apart.ensures) in
     says_false_by company c.if-not-apart.true (λ all. all _ c.loop-s-test.true)
 
 pub loop-s-preserved : goal.loop-s-preserved
 loop-s-preserved c =
     let company : Says c.apart.result (CompanySound (IoPairSound c.args.t.now) c.loop-s.s) =
-    apart_says _ c.enter.new.held _ c.enter.ensures.1 (λ u l. c.requires.2 u (omega (arith, c.loop-s-test.true)))
-    c.apart.ensures in
+    rw c.new-seat.ensures at
+    (apart_says _ c.enter.new.held _ c.enter.ensures.1 (λ u l. c.requires.2 u (omega (arith, c.loop-s-test.true, c.new-seat.ensures))) c.apart.ensures) in
     let inv = c.loop-s.invariant in (
       so_far_more inv.0 c.loop-s-test.true (says_yes company c.if-not-apart.false),
       c.enter.ensures.0 ∙ inv.1,
-      c.enter.ensures.1,
+      rw c.new-seat.ensures at c.enter.ensures.1,
     )
 
 pub returns : goal.returns

@@ -9,5 +9,5 @@ returns c =
     let rows = a.held.now in
     let new = c.numbers_of-new in (
       (lengths rows a.s.number new.result).3,
-      entered_are rows a.s.number new.result c.requires.seat.1 c.requires.rows.0 (a.t.now) c.requires.rows.1 new.ensures,
+      entered_are rows a.s.number new.result a.s.in_table c.requires.rows.0 (a.t.now) c.requires.rows.1 new.ensures,
     )

@@ -1,6 +1,6 @@
 -- `table_company::io_blocks` meets its contract: there is no grant, or its blocks are those of its ports.
 -- Assumes nothing.
-use Rattle.facts.proofs.Words.{subst, arith}
+use Rattle.facts.proofs.Words.{arith}
 use Rattle.std.specs.Prelude.{Some}
 use Rattle.seats.specs.{HeldIs}
 use Rattle.seats.proofs.{held_fits, held_port}
@@ -10,4 +10,4 @@ pub blocks_of-requires : goal.blocks_of-requires
 blocks_of-requires c =
     let there : let a = c.args in HeldIs (a.t.now) a.s.number (Some c.in-Some.held) = c.in-Some.ensures in
     let fits = held_fits _ _ _ there (λ i. omega (arith, c.shared_slice_known-1.given i)) in
-    (fits.0, held_port _ _ _ there c.requires.2, fits.1)
+    (fits.0, held_port _ _ _ there c.requires.1, fits.1)

@@ -1,6 +1,6 @@
 -- `table_company::numbers_of` meets its contract: there is no grant, or its numbers are read.
 -- Assumes nothing.
-use Rattle.facts.proofs.Words.{◌≡◌, ap, ◌∙◌, subst, cond, ◌+◌, ◌-◌, ◌^◌, ◌≤◌, ◌<◌, pow_pos, pow_mono, arith}
+use Rattle.facts.proofs.Words.{◌≡◌, ap, ◌∙◌, cond, ◌+◌, ◌-◌, ◌^◌, ◌≤◌, ◌<◌, pow_pos, pow_mono, arith}
 use Rattle.facts.specs.{IoGrant, all_ports, most_asked, most_lines}
 use Rattle.std.specs.Prelude.{Some}
 use Rattle.seats.specs.{HeldIs}
@@ -10,7 +10,7 @@ use Rattle.table_company.proofs.numbers_of.Goals as goal
 pub power-ones-requires : goal.power-ones-requires
 power-ones-requires c =
     let there : let a = c.args in HeldIs (a.t.now) a.s.number (Some c.in-Some.held) = c.in-Some.ensures in
-    let lines : c.in-Some.held.ports.lines ≤ most_lines = held_lines _ _ _ there c.requires.2 in
+    let lines : c.in-Some.held.ports.lines ≤ most_lines = held_lines _ _ _ there c.requires.1 in
     lines
 
 pub overflow_cast-count : goal.overflow_cast-count
@@ -30,7 +30,7 @@ overflow_cast-result c =
 pub overflow_cast-result-2 : goal.overflow_cast-result-2
 overflow_cast-result-2 c =
     let there : let a = c.args in HeldIs (a.t.now) a.s.number (Some c.in-Some.held) = c.in-Some.ensures in
-    let lines : c.in-Some.held.ports.lines ≤ most_lines = held_lines _ _ _ there c.requires.2 in
+    let lines : c.in-Some.held.ports.lines ≤ most_lines = held_lines _ _ _ there c.requires.1 in
     let power : (1 ≤ c.power-ones.result) × (c.power-ones.result ≤ 65536) =
     (omega (arith, c.power-ones.ensures, pow_pos c.in-Some.held.ports.lines), omega (arith, c.power-ones.ensures, pow_mono lines)) in
     omega (arith, power.1)
@@ -40,7 +40,7 @@ returns c =
     let there : let a = c.args in HeldIs (a.t.now) a.s.number (Some c.in-Some.held) = c.in-Some.ensures in
     let fits : let x = c.in-Some.held in (x.ports.base < all_ports) × (x.ports.count ≤ most_asked) =
     held_fits _ _ _ there (λ i. omega (arith, c.shared_slice_known-1.given i)) in
-    let lines : c.in-Some.held.ports.lines ≤ most_lines = held_lines _ _ _ there c.requires.2 in
+    let lines : c.in-Some.held.ports.lines ≤ most_lines = held_lines _ _ _ there c.requires.1 in
     let power : (1 ≤ c.power-ones.result) × (c.power-ones.result ≤ 65536) =
     (omega (arith, c.power-ones.ensures, pow_pos c.in-Some.held.ports.lines), omega (arith, c.power-ones.ensures, pow_mono lines)) in
     let g = there in

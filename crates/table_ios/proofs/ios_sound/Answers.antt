@@ -7,7 +7,7 @@ use Rattle.facts.proofs.{says_true, says_as, says_yes, says_false_by}
 use Rattle.layout.specs.{Zero, ios_at, io_size, io_place_lem, IoPlaceSound, IoPairSound}
 use Rattle.table_read.proofs.{SoFar, so_far_more}
 use Rattle.seats.specs.{SeatSound, IosSound}
-use Rattle.table_company.specs.{CompaniesSound}
+use Rattle.table_company.specs.{CompaniesSound, BlocksOf}
 use Rattle.io_answering.specs.{most_gaps}
 use Rattle.io_answering.proofs.{none_yet}
 use Rattle.table_company.proofs.{blocks_more, companies_more}
@@ -47,9 +47,9 @@ io_place_sound-requires-clause-rows_serve c = (
 pub loop-s-preserved : goal.loop-s-preserved
 loop-s-preserved c =
     let inv = c.loop-s.invariant in
-    let own = c.io_blocks-own.ensures in
+    let own : BlocksOf c.args.t.now c.loop-s.s c.io_blocks-own.result = rw c.new-seat.ensures at c.io_blocks-own.ensures in
     record {
-      sound = so_far_more inv.sound c.loop-s-test.true (says_yes c.io_place_sound.ensures c.if-not-io_place_sound.false);
+      sound = so_far_more inv.sound c.loop-s-test.true (rw c.new-seat.ensures at (says_yes c.io_place_sound.ensures c.if-not-io_place_sound.false));
       blocks = blocks_more _ _ _ _ inv.blocks own;
       kept = companies_more _ _ _ _ _ inv.blocks own inv.kept;
       near_most = c.range_near-near.ensures.0;
