@@ -27,13 +27,13 @@ pub ports_sound-requires-clause-ranges : goal.ports_sound-requires-clause-ranges
 ports_sound-requires-clause-ranges c =
     let sound = c.requires.sound in
     let there = c.in-Some.ensures in
-    (sound.0, sound.2.ranges_most, sound.4, rw (lines_held _ _ _ there) (c.requires.rows_serve.0 _ sound.1 there.0))
+    (sound.0, sound.2.ranges_most, sound.4, rw (lines_held _ _ _ there) (c.requires.gaps_serve.0 _ sound.1 there.0))
 
 pub ports_sound-requires-clause-ports : goal.ports_sound-requires-clause-ports
 ports_sound-requires-clause-ports c =
     let there = c.in-Some.ensures in
     let fits = held_fits _ _ _ there (λ i. omega (arith, c.type_inv.t i)) in
-    (fits.0, fits.1, subst (λ (x : IoGrant). RangeHas c.args.t.now c.args.near x.ports) (sym there.1) (c.requires.rows_serve.1 there.0))
+    (fits.0, fits.1, subst (λ (x : IoGrant). RangeHas c.args.t.now c.args.near x.ports) (sym there.1) (c.requires.gaps_serve.1 there.0))
 
 pub returns : goal.returns
 returns c =
