@@ -56,10 +56,7 @@ fn io_place_sound(t: &[u8], gaps: &Gaps, near: usize, s: Seat) -> bool
     if MARKED < table_read::byte(t, at + IO_SHARED_AT) {
         return false;
     }
-    if !client_record::live(t, held.client) {
-        return false;
-    }
-    ports_sound(t, gaps, near, held.ports)
+    client_record::live(t, held.client) && ports_sound(t, gaps, near, held.ports)
 }
 
 // The lines that the card of the seat's I/O grant decodes; all, where there is no grant.

@@ -24,14 +24,8 @@ fn in_range(t: &[u8], i: usize, base: usize, count: usize) -> bool
     }
     let at = RANGES_AT + i * RANGE_SIZE;
     let from = table_read::word(t, at);
-    if base < from {
-        return false;
-    }
     let end = from + table_read::long(t, at + RANGE_COUNT_AT);
-    if end < base {
-        return false;
-    }
-    count <= end - base
+    from <= base && base <= end && count <= end - base
 }
 
 // Whether the ports are managed, and every other where their card answers. One that decodes all lines answers nowhere else, so for it the range `near`
