@@ -36,13 +36,8 @@ pub fn ports_managed(t: &[u8], gaps: &Gaps, near: usize, ports: Ports) -> bool
     requires range_has { RangeHas t.now near ports }
     ensures { Says result (AllManagedIn t.now ports) }
 {
-    if ports.lines < MOST_LINES {
-        return io_answering::managed(t, gaps, ports);
-    }
-    if near < table_read::byte(t, RANGES_IN) {
-        return true;
-    }
-    io_answering::managed(t, gaps, ports)
+    (ports.lines == MOST_LINES && near < table_read::byte(t, RANGES_IN))
+        || io_answering::managed(t, gaps, ports)
 }
 
 // The range at the place `middle`, where it starts at or before a port; else that at the place `low`.
