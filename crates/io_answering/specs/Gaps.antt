@@ -1,10 +1,18 @@
 -- The gaps between the managed ranges, and whether all places where a card answers are managed, said of the bytes. Assumes nothing.
-use Rattle.std.specs.Prelude.{List, ℕ, ◌-◌, ◌≤◌}
+use Rattle.std.specs.Prelude.{List, ℕ, ◌-◌, ◌^◌, ◌≤◌}
 use Rattle.facts.specs.Table
 use Rattle.facts.specs.declared.Ports.{Ports}
 use Rattle.facts.specs.Ports.{Within, Meet, Answers}
 use Rattle.layout.specs.Reading.{ranges_in, below}
 use Rattle.layout.specs.Sound.{ManagedIn, range_base, end_before_lem}
+
+-- room for all gaps: one before each range
+abbrev pub most_gaps : ℕ
+most_gaps = Table.most_ranges
+
+-- a gap counts up to so many ports: in one that has more, every card answers that doesn't decode all lines
+abbrev pub most_counted : ℕ
+most_counted = 2 ^ 15
 
 -- where the range in the place i starts; past the last one, one past FFFF
 abbrev pub start_at : List ℕ → ℕ → ℕ

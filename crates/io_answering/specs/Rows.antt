@@ -1,45 +1,31 @@
 -- The gaps between the managed ranges in rows. Assumes nothing.
-use Rattle.std.specs.Prelude.{◌≡◌, List, cond, ℕ, ◌+◌, ◌-◌, ◌%◌, ◌^◌, ◌≤◌, ◌<◌, eqb, length, get_or}
+use Rattle.std.specs.Prelude.{◌≡◌, List, cond, ℕ, ◌+◌, ◌-◌, ◌%◌, ◌^◌, ◌<◌, eqb, min, slice_index}
 use Rattle.facts.specs.Table
 use Rattle.facts.specs.declared.Ports.{Ports}
 use Rattle.facts.specs.Ports.{Meet}
-use Rattle.io_answering.specs.Gaps.{MeetsGap}
+use Rattle.io_answering.specs.declared.gaps.Gaps.{Gaps}
+use Rattle.io_answering.specs.Gaps.{most_gaps, most_counted, MeetsGap}
 
--- room for all gaps: one before each range
-abbrev pub most_gaps : ℕ
-most_gaps = Table.most_ranges
+-- the gap in the place i
+abbrev pub gap_at : Gaps → ℕ → Ports
+gap_at gaps i = record { base = slice_index gaps.starts i; count = slice_index gaps.ports i; lines = Table.most_lines }
 
--- a gap counts up to so many ports: in one that has more, every card answers that doesn't decode all lines
-abbrev pub most_counted : ℕ
-most_counted = 2 ^ 15
+-- a gap from the start on, modulo all ports, of so many ports, as far as they count
+abbrev pub counted : ℕ → ℕ → Ports
+counted start ports = record { base = start % Table.all_ports; count = min ports most_counted; lines = Table.most_lines }
 
--- rows that have room, and nothing yet
-pub record NoGaps (rows : List ℕ) : Type 0 where
-  pub room : most_gaps + most_gaps ≤ length rows
-  pub empty : (i : ℕ) → i < length rows → get_or rows i 0 ≡ 0
+-- the ports meet one of the gaps
+abbrev pub MeetsRows : Gaps → Ports → Type 0
+MeetsRows gaps a = (i : ℕ) × (i < most_gaps) × Meet a (gap_at gaps i)
 
--- the gap in the place i of the rows
-abbrev pub row_at : List ℕ → ℕ → Ports
-row_at rows i = record { base = get_or rows i 0; count = get_or rows (most_gaps + i) 0; lines = Table.most_lines }
+-- a card that doesn't decode all lines answers in one of the gaps exactly if it does in one of the table
+pub record RowsAre (b : List ℕ) (gaps : Gaps) : Type 0 where
+  pub has : (a : Ports) → a.lines < Table.most_lines → MeetsGap b a → MeetsRows gaps a
+  pub only : (a : Ports) → a.lines < Table.most_lines → MeetsRows gaps a → MeetsGap b a
 
--- numbers that a gap can have, in every place
-pub record RowsFit (rows : List ℕ) : Type 0 where
-  pub bases : (i : ℕ) → i < most_gaps → (row_at rows i).base ≤ Table.all_ports
-  pub counts : (i : ℕ) → i < most_gaps → (row_at rows i).count ≤ most_counted
-
--- the ports meet a gap in the rows
-abbrev pub MeetsRows : List ℕ → Ports → Type 0
-MeetsRows rows a = (i : ℕ) × (i < most_gaps) × Meet a (row_at rows i)
-
--- a card that doesn't decode all lines answers in a gap of the rows exactly if it does in one of the table
-pub record RowsAre (b rows : List ℕ) : Type 0 where
-  pub has : (a : Ports) → a.lines < Table.most_lines → MeetsGap b a → MeetsRows rows a
-  pub only : (a : Ports) → a.lines < Table.most_lines → MeetsRows rows a → MeetsGap b a
-
--- the rows serve cards of so many lines; those of one that decodes all may have anything that fits
-pub record GapsAre (b : List ℕ) (lines : ℕ) (rows : List ℕ) : Type 0 where
-  pub fits : RowsFit rows
-  pub are : lines < Table.most_lines → RowsAre b rows
+-- the gaps serve cards of so many lines; for one that decodes all they may be any
+abbrev pub GapsAre : List ℕ → ℕ → Gaps → Type 0
+GapsAre b lines gaps = lines < Table.most_lines → RowsAre b gaps
 
 -- so many lines' last number
 pub record LowBits (ones : ℕ) : Type 0 where

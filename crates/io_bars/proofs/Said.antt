@@ -6,7 +6,8 @@ use Rattle.layout.specs.{Accepted}
 use Rattle.seats.specs.{HeldIs, range}
 use Rattle.seats.specs.declared.HeldPorts as seats
 use Rattle.seats.proofs.{io_held_lem}
-use Rattle.io_answering.specs.{row_at, GapsAre, ports_from}
+use Rattle.io_answering.specs.declared.gaps.Gaps.{Gaps}
+use Rattle.io_answering.specs.{gap_at, RowsAre, ports_from}
 use Rattle.io_obstacles.specs.{Bar, Bars, bar_at, grant_places, gap_places}
 use Rattle.io_bars.specs.{BarIs, PortsFit, seat_ports, GrantBars, GapBars}
 
@@ -17,8 +18,8 @@ pub record OfSeat (b : List ℕ) (count lines s : ℕ) (bar : Bar) : Type 0 wher
   pub is : BarIs (seat_ports read) count lines bar
 
 -- the bar of a gap
-abbrev pub OfGap : List ℕ → ℕ → ℕ → ℕ → Bar → Type 0
-OfGap gaps count lines i = BarIs (row_at gaps i) count lines
+abbrev pub OfGap : Gaps → ℕ → ℕ → ℕ → Bar → Type 0
+OfGap gaps count lines i = BarIs (gap_at gaps i) count lines
 
 -- what is held begins at a port, and fits
 pub seat_below : (b : List ℕ) (s : ℕ) (l : s < most_seats) → Accepted b → (r : Option seats.HeldPorts) → HeldIs b s r → (seat_ports r).base < all_ports
@@ -61,15 +62,15 @@ module _ (b : List ℕ) (count lines : ℕ) where
           only = λ x l. let q = so l.place l.below in met_held l.place x l.below q.read q.held (q.is.only x l.lies);
         }
 
-  module _ (gaps : List ℕ) (are : GapsAre b lines gaps) (few : lines < most_lines) (bars : Bars gap_places)
+  module _ (gaps : Gaps) (are : RowsAre b gaps) (few : lines < most_lines) (bars : Bars gap_places)
       (so : (i : ℕ) → i < gap_places → OfGap gaps count lines i (bar_at bars i))
     where
       pub gaps_are : GapBars b count lines bars
       gaps_are =
           record {
             has = λ _ x m.
-                let met = (are.are few).has (ports_from count lines x) few m in
+                let met = are.has (ports_from count lines x) few m in
                 let q = so met.0 met.1 in
                 record { place = met.0; below = met.1; short = q.short; lies = q.has x met.2 };
-            only = λ _ x l. (are.are few).only (ports_from count lines x) few (l.place, l.below, (so l.place l.below).only x l.lies);
+            only = λ _ x l. are.only (ports_from count lines x) few (l.place, l.below, (so l.place l.below).only x l.lies);
           }

@@ -8,7 +8,7 @@ ghost use Rattle.layout.specs.Sound.{Accepted};
 ghost use Rattle.io_bars.specs.Bars.{BarIs, seat_ports, PortsFit, GrantBarsOf, GapBars};
 
 use facts::{Ports, Seat};
-use io_answering::ROWS;
+use io_answering::Gaps;
 use io_obstacles::{Bar, Bars, GAP_PLACES, GRANT_PLACES};
 use layout::{ALL_PORTS, MOST_LINES, MOST_SEATS};
 use seats::HeldPorts;
@@ -72,15 +72,9 @@ pub fn gap_bars(t: &[u8], count: usize, lines: usize) -> Bars<GAP_PLACES>
     if lines == MOST_LINES {
         return bars;
     }
-    let mut gaps: [u16; ROWS] = [0; ROWS];
-    io_answering::gap_rows(t, lines, &mut gaps);
+    let gaps = Gaps::between(t, lines);
     for i in 0..GAP_PLACES {
-        let ports = Ports {
-            base: gaps[i] as usize,
-            count: gaps[GAP_PLACES + i] as usize,
-            lines: MOST_LINES,
-        };
-        bars.enter(i, bar_of(ports, count, lines));
+        bars.enter(i, bar_of(gaps.at(i), count, lines));
     }
     bars
 }

@@ -9,7 +9,7 @@ ghost use Rattle.layout.specs.Sound.{Accepted};
 ghost use Rattle.io_bases.specs.Bases.{AskedFits, StandsAt, PortsAre, WayIs, BaseIs};
 
 use facts::{Code, IoAsked, Ports, Seat};
-use io_answering::ROWS;
+use io_answering::Gaps;
 use layout::{ALL_PORTS, MOST_SEATS};
 use seats::HeldPorts;
 
@@ -18,15 +18,16 @@ fn ports_asked(t: &[u8], asked: IoAsked) -> Result<(), Code>
     requires { Accepted t.now × AskedFits asked }
     ensures { PortsAre t.now asked result }
 {
-    let base = asked.base;
-    let count = asked.count;
-    let lines = asked.lines;
-    if ALL_PORTS < base + count {
+    let ports = Ports {
+        base: asked.base,
+        count: asked.count,
+        lines: asked.lines,
+    };
+    if ALL_PORTS < ports.base + ports.count {
         return Err(Code::BadBase);
     }
-    let mut rows: [u16; ROWS] = [0; ROWS];
-    io_answering::gap_rows(t, lines, &mut rows);
-    if !io_answering::managed(t, &rows, base, count, lines) {
+    let gaps = Gaps::between(t, ports.lines);
+    if !io_answering::managed(t, &gaps, ports) {
         return Err(Code::BadBase);
     }
     Ok(())

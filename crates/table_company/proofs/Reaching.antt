@@ -1,7 +1,7 @@
 -- What a grant reaches of another, by the numbers in the rows, is 0 exactly if the two keep company. Assumes nothing.
 use Rattle.facts.proofs.Words.{◌≡◌, refl, sym, ap, ap₂, ◌∙◌, subst, Bool, true, false, false≢true, cond, List, ℕ, ◌+◌, ◌-◌, ◌%◌, ◌^◌}
 use Rattle.facts.proofs.Words.{min-eq_left, min-eq_right, mod-eq_of_lt, mod-lt, mod-mod-pow, pow_pos, pow_mono, dec_le, ℕ_discrete, arith, bit_and, and_mask}
-use Rattle.facts.proofs.Words.{◌≤◌, ◌<◌, min, by_cases, eqb, eq-eqb, ne_eqb, get_or, Says}
+use Rattle.facts.proofs.Words.{◌≤◌, ◌<◌, min, by_cases, eqb, eq-eqb, ne_eqb, Says}
 use Rattle.facts.specs.declared.Ports.{Ports}
 use Rattle.facts.specs.{all_ports, most_lines, word, Meet, IoGrant}
 use Rattle.facts.proofs.{told, says_as, says_eq}
@@ -10,18 +10,9 @@ use Rattle.layout.proofs.{used_sound, ports_are}
 use Rattle.io_ranges.proofs.{mod_fewer, meet_near, near_meet}
 use Rattle.table_read.proofs.{zero_where}
 use Rattle.seats.specs.{CompanySound, PlacesSound}
-use Rattle.table_company.specs.{NumbersAre, RowsAre, numbers_at, counts_at, unshared_at, over_of, row_against_lem, reached, RowsApart}
-
--- what is reached, by the row that was chosen and the last port
-pub reached_by : (rows : List ℕ) (s u r row last : ℕ) → let x = numbers_at rows s in
-    let y = numbers_at rows u in
-    row ≡ row_against_lem x.unshared → last ≡ (x.base + (x.count - 1)) % all_ports
-    → r ≡ over_of y.base y.ones (get_or rows (row + u) 0) last x.ones (x.count - 1)
-    → r ≡ reached rows s u
-reached_by rows s u r row last e f is =
-    let x = numbers_at rows s in
-    let y = numbers_at rows u in
-    is ∙ ap₂ (λ (m n : ℕ). over_of y.base y.ones (get_or rows (m + u) 0) n x.ones (x.count - 1)) e f
+use Rattle.table_company.specs.declared.Numbers.{Numbers}
+use Rattle.table_company.specs.declared.Rows.{Rows}
+use Rattle.table_company.specs.{NumbersAre, RowsAre, numbers_at, over_of, reached, RowsApart}
 
 -- the low bits of both are the remainder by the fewer lines
 module _ (n i j ones ones' : ℕ) (e : ones + 1 ≡ 2 ^ i) (e' : ones' + 1 ≡ 2 ^ j) where
@@ -75,17 +66,17 @@ has_ports b s place used =
     (subst (λ (p : Ports). 1 ≤ p.count) are sound.port, subst (λ (p : Ports). p.lines ≤ most_lines) are sound.lines)
 
 -- the count that a shared grant may not reach, and one that isn't shared
-against : (rows : List ℕ) (u count unshared : ℕ) (shared : Bool) → 1 ≤ count → unshared ≡ cond shared 0 count
-    → get_or rows (row_against_lem unshared + u) 0 ≡ cond shared (numbers_at rows u).unshared (numbers_at rows u).count
-against rows u count unshared true l e = ap (λ (t : Bool). get_or rows (cond t unshared_at counts_at + u) 0) (eq-eqb unshared 0 e)
-against rows u count unshared false l e = ap (λ (t : Bool). get_or rows (cond t unshared_at counts_at + u) 0) (ne_eqb unshared 0 (λ z. omega (arith, z, e)))
+against : (x y : Numbers) (count : ℕ) (shared : Bool) → 1 ≤ count → x.unshared ≡ cond shared 0 count
+    → cond (eqb x.unshared 0) y.unshared y.count ≡ cond shared y.unshared y.count
+against x y count true l e = ap (λ (t : Bool). cond t y.unshared y.count) (eq-eqb x.unshared 0 e)
+against x y count false l e = ap (λ (t : Bool). cond t y.unshared y.count) (ne_eqb x.unshared 0 (λ z. omega (arith, z, e)))
 
 both_none : (t : Bool) (m n : ℕ) → m ≡ 0 → n ≡ 0 → cond t m n ≡ 0
 both_none true m n e f = e
 both_none false m n e f = f
 
--- the grant at the seat s, and the record of the seat u, by their numbers in the rows
-module _ (b rows : List ℕ) (s u : ℕ) (one : NumbersAre b s (numbers_at rows s)) (other : NumbersAre b u (numbers_at rows u)) (place : IoPlaceSound b s)
+-- the grant at the seat s, and the record of the seat u, by their numbers
+module _ (b : List ℕ) (s u : ℕ) (here there : Numbers) (one : NumbersAre b s here) (other : NumbersAre b u there) (place : IoPlaceSound b s)
     (place' : IoPlaceSound b u) (used : IoUsed b s) where
   abbrev x : IoGrant
   x = io_in b s
@@ -95,9 +86,7 @@ module _ (b rows : List ℕ) (s u : ℕ) (one : NumbersAre b s (numbers_at rows 
 
   -- what is reached of n ports
   abbrev over : ℕ → ℕ
-  over n =
-      let k = numbers_at rows s in
-      over_of (get_or rows u 0) (numbers_at rows u).ones n ((k.base + (k.count - 1)) % all_ports) k.ones (k.count - 1)
+  over n = over_of there.base there.ones n ((here.base + (here.count - 1)) % all_ports) here.ones (here.count - 1)
 
   abbrev Decides : ℕ → Type 0
   Decides n = Says (eqb (over n) 0) (IoPairSound b s u)
@@ -113,36 +102,36 @@ module _ (b rows : List ℕ) (s u : ℕ) (one : NumbersAre b s (numbers_at rows 
       (one.ones used) (other.ones used') in
       rw (e, one.base used, one.count used, other.base used') (says_as says (λ d v v' m. absurd (d m)) (λ p m. apart (p used used' m)))
 
-  by_marks : (p q : Bool) → x.shared ≡ p → y.shared ≡ q → IoUsed b u → Decides (cond p (numbers_at rows u).unshared (numbers_at rows u).count)
+  by_marks : (p q : Bool) → x.shared ≡ p → y.shared ≡ q → IoUsed b u → Decides (cond p there.unshared there.count)
   by_marks false q e f used' = all_ports_lem _ (other.count used') used' (λ m. false≢true (sym e ∙ m.0))
   by_marks true true e f used' =
       nothing _ (other.unshared used' ∙ ap (λ (t : Bool). cond t 0 y.ports.count) f) (λ v v' m. (e, f))
   by_marks true false e f used' =
       all_ports_lem _ (other.unshared used' ∙ ap (λ (t : Bool). cond t 0 y.ports.count) f) used' (λ m. false≢true (sym f ∙ m.1))
 
-  pub reached_says : Says (eqb (reached rows s u) 0) (IoPairSound b s u)
+  pub reached_says : Says (eqb (reached here there) 0) (IoPairSound b s u)
   reached_says =
       let free = other.free in
-      subst Decides (sym (against rows u x.ports.count _ x.shared (has_ports b s place used).0 (one.unshared used)))
+      subst Decides (sym (against here there x.ports.count x.shared (has_ports b s place used).0 (one.unshared used)))
       (by_cases (ℕ_discrete (word b (io_place_lem u)) 0)
       (λ z. let none = free (λ v. v z) in nothing _ (both_none x.shared _ _ none.1 none.0) (λ v v'. absurd (v' z)))
       (by_marks x.shared y.shared refl refl))
 
 -- so the grant at a seat reaches nothing of those below it exactly if it keeps company with them
-module _ (b rows : List ℕ) (s : ℕ) (are : RowsAre b rows (s + 1)) (places : PlacesSound (IoPlaceSound b) (s + 1)) where
-  abbrev pair : (u : ℕ) → u < s → IoUsed b s → Says (eqb (reached rows s u) 0) (IoPairSound b s u)
-  pair u l = reached_says b rows s u (are s (omega arith)) (are u (omega arith)) (places s (omega arith)) (places u (omega arith))
+module _ (b : List ℕ) (rows : Rows) (s : ℕ) (are : RowsAre b rows (s + 1)) (places : PlacesSound (IoPlaceSound b) (s + 1)) where
+  abbrev pair : (u : ℕ) → u < s → IoUsed b s → Says (eqb (reached (numbers_at rows s) (numbers_at rows u)) 0) (IoPairSound b s u)
+  pair u l = reached_says b s u (numbers_at rows s) (numbers_at rows u) (are s (omega arith)) (are u (omega arith)) (places s (omega arith)) (places u (omega arith))
 
   apart_company : RowsApart rows s → CompanySound (IoPairSound b) s
   apart_company a u l used =
       let has = has_ports b s (places s (omega arith)) used in
       let count = (are s (omega arith)).count used in
-      (pair u l used).holds (eq-eqb (reached rows s u) 0 (a (omega (arith, has.0, count)) u l)) used
+      (pair u l used).holds (eq-eqb (reached (numbers_at rows s) (numbers_at rows u)) 0 (a (omega (arith, has.0, count)) u l)) used
 
   company_apart : CompanySound (IoPairSound b) s → RowsApart rows s
   company_apart c one u l =
       by_cases (ℕ_discrete (word b (io_place_lem s)) 0) (λ z. absurd (omega (arith, ((are s (omega arith)).free (λ v. v z)).0, one)))
-      (λ used. zero_where (reached rows s u) (pair u l used) (c u l))
+      (λ used. zero_where (reached (numbers_at rows s) (numbers_at rows u)) (pair u l used) (c u l))
 
   pub apart_says : {r : Bool} → Says r (RowsApart rows s) → Says r (CompanySound (IoPairSound b) s)
   apart_says says = says_as says apart_company company_apart

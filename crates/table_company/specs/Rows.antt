@@ -5,24 +5,12 @@ use Rattle.facts.specs.Table.{Seat}
 use Rattle.layout.specs.Reading.{io_in}
 use Rattle.layout.specs.Sound.{IoUsed}
 use Rattle.table_company.specs.declared.Numbers.{Numbers}
-
--- where each row but the first, that of the bases, begins; and where the last one ends
-abbrev pub ones_at : ℕ
-ones_at = Table.most_seats
-
-abbrev pub counts_at : ℕ
-counts_at = ones_at + Table.most_seats
-
-abbrev pub unshared_at : ℕ
-unshared_at = counts_at + Table.most_seats
-
-abbrev pub held_room : ℕ
-held_room = unshared_at + Table.most_seats
+use Rattle.table_company.specs.declared.Rows.{Rows}
 
 -- the numbers of a seat in the rows
-abbrev pub numbers_at : List ℕ → Seat → Numbers
+abbrev pub numbers_at : Rows → Seat → Numbers
 numbers_at rows s =
-    record { base = slice_index rows s; ones = slice_index rows (ones_at + s); count = slice_index rows (counts_at + s); unshared = slice_index rows (unshared_at + s) }
+    record { base = slice_index rows.bases s; ones = slice_index rows.ones s; count = slice_index rows.counts s; unshared = slice_index rows.unshared s }
 
 -- the numbers say what the I/O grant at the seat s holds; where there is none, no ports
 pub record NumbersAre (b : List ℕ) (s : Seat) (x : Numbers) : Type 0 where
@@ -34,24 +22,17 @@ pub record NumbersAre (b : List ℕ) (s : Seat) (x : Numbers) : Type 0 where
   pub unshared : IoUsed b s → x.unshared ≡ cond (io_in b s).shared 0 (io_in b s).ports.count
 
 -- the rows say so of each seat below n
-abbrev pub RowsAre : List ℕ → List ℕ → ℕ → Type 0
+abbrev pub RowsAre : List ℕ → Rows → ℕ → Type 0
 RowsAre b rows n = (s : Seat) → s < n → NumbersAre b s (numbers_at rows s)
 
 -- how many of the count ports at a base are reached by ports of which the last is given, and how many there are before it
 abbrev pub over_of : ℕ → ℕ → ℕ → ℕ → ℕ → ℕ → ℕ
 over_of base ones count last own more = count - (bit_and (bit_and ((last + Table.all_ports - base) % Table.all_ports) own) ones - more)
 
--- the row of the counts that a grant with so many unshared ports may not reach
-abbrev pub row_against_lem : ℕ → ℕ
-row_against_lem unshared = cond (unshared == 0) unshared_at counts_at
-
--- what the grant at the seat s reaches of that at the seat u
-abbrev pub reached : List ℕ → Seat → Seat → ℕ
-reached rows s u =
-    let x = numbers_at rows s in
-    let y = numbers_at rows u in
-    over_of y.base y.ones (slice_index rows (row_against_lem x.unshared + u)) ((x.base + (x.count - 1)) % Table.all_ports) x.ones (x.count - 1)
+-- what the one grant reaches of the other: of all its ports, or, if the one is shared, of those that aren't
+abbrev pub reached : Numbers → Numbers → ℕ
+reached x y = over_of y.base y.ones (cond (x.unshared == 0) y.unshared y.count) ((x.base + (x.count - 1)) % Table.all_ports) x.ones (x.count - 1)
 
 -- the grant at the seat s, if there is one, reaches nothing of those below it
-abbrev pub RowsApart : List ℕ → Seat → Type 0
-RowsApart rows s = 1 ≤ (numbers_at rows s).count → (u : Seat) → u < s → reached rows s u ≡ 0
+abbrev pub RowsApart : Rows → Seat → Type 0
+RowsApart rows s = 1 ≤ (numbers_at rows s).count → (u : Seat) → u < s → reached (numbers_at rows s) (numbers_at rows u) ≡ 0

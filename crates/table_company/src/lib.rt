@@ -1,7 +1,7 @@
 // The I/O grants in rows, and the company that the grant at a seat keeps with those at the seats below it.
 #![tactic(auto)]
 
-ghost use Rattle.std.specs.Prelude.{◌≡◌, ◌+◌, ◌-◌, ◌^◌, ◌<◌, ◌≤◌, length, if◌then◌else◌};
+ghost use Rattle.std.specs.Prelude.{◌≡◌, ◌+◌, ◌-◌, ◌^◌, ◌<◌, ◌≤◌, length};
 ghost use Rattle.std.specs.Int.Bits.{bit_and};
 ghost use Rattle.facts.specs.Table;
 ghost use Rattle.facts.specs.Says.{Says};
@@ -10,20 +10,10 @@ ghost use Rattle.layout.specs.Sound.{IoPlaceSound};
 ghost use Rattle.table_read.specs.Sets.{Covers};
 ghost use Rattle.seats.specs.Sound.{PlacesSound};
 ghost use Rattle.table_company.specs.Answering.{BlocksWithin, AnswersInBlock, BlocksOf, CompaniesSound, SharedAt, AllShared};
-ghost use Rattle.table_company.specs.Rows.{held_room, NumbersAre, RowsAre, over_of, row_against_lem, RowsApart};
+ghost use Rattle.table_company.specs.Rows.{NumbersAre, over_of, RowsApart};
 
 use facts::{Ports, Seat};
 use layout::MOST_SEATS;
-
-// What the I/O grants hold stands in four rows of 16-bit numbers, one after the other, so that many seats are looked at side by side: the base; the last of
-// the numbers that the lines tell apart; the port count; and the port count again, or 0 where the grant is shared. A seat without a grant has 0 ports.
-const ONES: usize = MOST_SEATS;
-
-const COUNTS: usize = ONES + MOST_SEATS;
-
-const UNSHARED: usize = COUNTS + MOST_SEATS;
-
-const HELD: usize = UNSHARED + MOST_SEATS;
 
 // Ports stand in blocks of eight, which are counted modulo `BLOCKS`, so that a set of blocks has a bit for each: the ports from 2F8H on stand in block 31, and
 // so do those from 4F8H on. Grants with no block in common don't meet, and are not compared.
@@ -36,23 +26,14 @@ const ALL_BLOCKS: u64 = 18446744073709551615;
 // Ports that are equal modulo two to so many lines are in one block.
 const BLOCK_LINES: usize = 9;
 
-// The numbers of one seat.
+// The numbers of what a seat's I/O grant holds: the base; the last of the numbers that the lines tell apart; the port count; and the port count again, or 0
+// where the grant is shared. A seat without a grant has 0 ports.
 #[derive(Clone, Copy)]
 pub struct Numbers {
     pub base: u16,
     pub ones: u16,
     pub count: u16,
     pub unshared: u16,
-}
-
-// The ports that are not shared.
-fn unshared_of(shared: bool, count: u16) -> u16
-    ensures { result ≡ (if shared then 0 else count) }
-{
-    if shared {
-        return 0;
-    }
-    count
 }
 
 // The numbers of the I/O grant at the seat `s`.
@@ -70,26 +51,13 @@ fn numbers_of(t: &[u8], s: Seat) -> Numbers
     };
     let ones = io_ranges::power(held.ports.lines) - 1;
     let count = held.ports.count as u16;
+    let unshared = if held.shared { 0 } else { count };
     Numbers {
         base: held.ports.base as u16,
         ones: ones as u16,
         count,
-        unshared: unshared_of(held.shared, count),
+        unshared,
     }
-}
-
-// Puts the numbers of the I/O grant at the seat `s` in the rows, which have those of the seats below it.
-fn enter(t: &[u8], s: Seat, held: &mut [u16])
-    requires seat { (length t.now ≡ table_size) × IoPlaceSound t.now s.number }
-    requires rows { (held_room ≤ length held.old) × RowsAre t.now held.old s.number }
-    ensures { (length held.new ≡ length held.old) × RowsAre t.now held.new (s.number + 1) }
-{
-    let new = numbers_of(t, s);
-    let number = s.number;
-    held[number] = new.base;
-    held[ONES + number] = new.ones;
-    held[COUNTS + number] = new.count;
-    held[UNSHARED + number] = new.unshared;
 }
 
 // How far a grant's ports reach into the `count` ports of another from `base` on, by the lines that both decode; 0 where they don't meet. `last` is its last
@@ -103,34 +71,70 @@ fn over(base: u16, ones: u16, count: u16, last: u16, own: u16, more: u16) -> u16
     count.saturating_sub(past.saturating_sub(more))
 }
 
-// The row of the port counts that a grant may not reach: those of all grants, or, for one that is shared, those of the others that aren't.
-fn row_against(unshared: u16) -> usize
-    ensures { (result ≡ row_against_lem unshared) × (result + Table.most_seats ≤ held_room) }
-{
-    if unshared == 0 {
-        return UNSHARED;
-    }
-    COUNTS
+// The numbers of each seat, in rows, so that many seats are looked at side by side.
+#[derive(Drop)]
+pub struct Rows {
+    bases: [u16; MOST_SEATS],
+    ones: [u16; MOST_SEATS],
+    counts: [u16; MOST_SEATS],
+    unshared: [u16; MOST_SEATS],
 }
 
-// Whether the grant at the seat `s` reaches no ports of a seat below it that it may not: what it reaches of each, or-ed together with no early exit.
-fn apart(held: &[u16; HELD], s: Seat) -> bool
-    ensures { Says result (RowsApart held.now s.number) }
-{
-    let number = s.number;
-    let count = held[COUNTS + number];
-    if count == 0 {
-        return true;
+impl Rows {
+    ghost use Rattle.std.specs.Prelude.{◌≢◌, ◌==◌, cond, slice_index, ℕ};
+    ghost use Rattle.table_company.specs.Rows.{numbers_at};
+
+    // Rows without a port.
+    fn none() -> Self {
+        Rows {
+            bases: [0; MOST_SEATS],
+            ones: [0; MOST_SEATS],
+            counts: [0; MOST_SEATS],
+            unshared: [0; MOST_SEATS],
+        }
     }
-    let more = count - 1;
-    let last = held[number].wrapping_add(more);
-    let own = held[ONES + number];
-    let row = row_against(held[UNSHARED + number]);
-    let mut some: u16 = 0;
-    for u in 0..number {
-        some |= over(held[u], held[ONES + u], held[row + u], last, own, more);
+
+    // The numbers of the seat `s` are entered in the rows.
+    fn enter(&mut self, s: Seat, new: Numbers)
+        ensures here { numbers_at self.new s.number ≡ new }
+        ensures others { (j : ℕ) → j ≢ s.number → numbers_at self.new j ≡ numbers_at self.old j }
+    {
+        let number = s.number;
+        self.bases[number] = new.base;
+        self.ones[number] = new.ones;
+        self.counts[number] = new.count;
+        self.unshared[number] = new.unshared;
     }
-    some == 0
+
+    // The row of the port counts that a grant may not reach: those of all grants, or, for one that is shared, those of the others that aren't.
+    fn against(&self, unshared: u16) -> &[u16; MOST_SEATS]
+        ensures { (u : ℕ) → slice_index result.now u ≡ cond (unshared == 0) (slice_index self.now.unshared u) (slice_index self.now.counts u) }
+    {
+        if unshared == 0 {
+            return &self.unshared;
+        }
+        &self.counts
+    }
+
+    // Whether the grant at the seat `s` reaches no ports of a seat below it that it may not: what it reaches of each, or-ed together with no early exit.
+    fn apart(&self, s: Seat) -> bool
+        ensures { Says result (RowsApart self.now s.number) }
+    {
+        let number = s.number;
+        let count = self.counts[number];
+        if count == 0 {
+            return true;
+        }
+        let more = count - 1;
+        let last = self.bases[number].wrapping_add(more);
+        let own = self.ones[number];
+        let row = self.against(self.unshared[number]);
+        let mut some: u16 = 0;
+        for u in 0..number {
+            some |= over(self.bases[u], self.ones[u], row[u], last, own, more);
+        }
+        some == 0
+    }
 }
 
 // The first so many numbers, as a set.
@@ -210,10 +214,11 @@ pub fn companies_kept(t: &[u8], sockets: usize) -> bool
     if all_shared(t, sockets) {
         return true;
     }
-    let mut held: [u16; HELD] = [0; HELD];
+    let mut rows = Rows::none();
     for s in 0..sockets {
-        enter(t, Seat::new(s), &mut held);
-        if !apart(&held, Seat::new(s)) {
+        let seat = Seat::new(s);
+        rows.enter(seat, numbers_of(t, seat));
+        if !rows.apart(seat) {
             return false;
         }
     }

@@ -1,3 +1,3 @@
 -- What the contracts of `table_ios` cite. Assumes nothing.
 pub mod Parts
-pub use Parts.{InRange, RangeHas, RangeServes, PortsSound, LinesAt, FewestLines, RowsServe}
+pub use Parts.{InRange, RangeHas, RangeServes, PortsSound, LinesAt, FewestLines, GapsServe}

@@ -7,6 +7,7 @@ use Rattle.facts.specs.Packets.{byte}
 use Rattle.layout.specs.Layout
 use Rattle.layout.specs.Reading.{sockets_in, ranges_in, io_place_lem, io_in}
 use Rattle.layout.specs.Sound.{range_base, range_count, IoUsed}
+use Rattle.io_answering.specs.declared.gaps.Gaps.{Gaps}
 use Rattle.io_answering.specs.Gaps.{AllManagedIn}
 use Rattle.io_answering.specs.Rows.{GapsAre}
 
@@ -41,6 +42,6 @@ LinesAt b s r = IoUsed b s → r ≡ byte b (io_place_lem s + Layout.io_lines_at
 abbrev pub FewestLines : List ℕ → ℕ → Type 0
 FewestLines b r = (s : Seat) → socket_at s < sockets_in b → IoUsed b s → r ≤ byte b (io_place_lem s + Layout.io_lines_at)
 
--- the rows of the gaps serve the card of every I/O grant
-abbrev pub RowsServe : List ℕ → List ℕ → Type 0
-RowsServe b rows = (s : Seat) → socket_at s < sockets_in b → IoUsed b s → GapsAre b (byte b (io_place_lem s + Layout.io_lines_at)) rows
+-- the gaps serve the card of every I/O grant
+abbrev pub GapsServe : List ℕ → Gaps → Type 0
+GapsServe b gaps = (s : Seat) → socket_at s < sockets_in b → IoUsed b s → GapsAre b (byte b (io_place_lem s + Layout.io_lines_at)) gaps

@@ -13,48 +13,37 @@ ghost use Rattle.layout.specs.Sound.{RangesSound, IoPlaceSound, CountsSound, Cli
 ghost use Rattle.io_answering.specs.Rows.{GapsAre};
 ghost use Rattle.seats.specs.Seats.{range};
 ghost use Rattle.seats.specs.Sound.{IosSound};
-ghost use Rattle.table_ios.specs.Parts.{RangeHas, RangeServes, PortsSound, LinesAt, FewestLines, RowsServe};
+ghost use Rattle.table_ios.specs.Parts.{RangeHas, RangeServes, PortsSound, LinesAt, FewestLines, GapsServe};
 
 use crate::ranges::{ports_managed, range_near};
-use facts::Seat;
-use io_answering::ROWS;
+use facts::{Ports, Seat};
+use io_answering::Gaps;
 use layout::{
     IO_SHARED_AT, IO_SIZE, IO_SPARE_AT, IOS_AT, MARKED, MOST_LINES, MOST_SEATS, SOCKETS_IN,
 };
-use seats::HeldPorts;
 use table_company::{companies_kept, io_blocks};
 
 // Where the records of the seats that can be used end.
 const IOS_END: usize = IOS_AT + MOST_SEATS * IO_SIZE;
 
 // "granted .. ports are managed; an I/O grant has base 1 or more, lines 1 to 16 and a count RequestIO allows"; and wherever its card answers is managed (K2)
-fn ports_sound(t: &[u8], rows: &[u16; ROWS], near: usize, held: HeldPorts) -> bool
-    requires ranges { (length t.now ≡ table_size) × (ranges_in t.now ≤ Table.most_ranges) × RangesSound t.now × GapsAre t.now held.ports.lines rows.now }
-    requires ports { (held.ports.base < Table.all_ports) × (held.ports.count ≤ Table.most_asked) × RangeHas t.now near held.ports }
-    ensures { Says result (PortsSound t.now held.ports) }
+fn ports_sound(t: &[u8], gaps: &Gaps, near: usize, ports: Ports) -> bool
+    requires ranges { (length t.now ≡ table_size) × (ranges_in t.now ≤ Table.most_ranges) × RangesSound t.now × GapsAre t.now ports.lines gaps.now }
+    requires ports { (ports.base < Table.all_ports) × (ports.count ≤ Table.most_asked) × RangeHas t.now near ports }
+    ensures { Says result (PortsSound t.now ports) }
 {
-    if held.ports.base == 0 {
-        return false;
-    }
-    if held.ports.count == 0 {
-        return false;
-    }
-    if held.ports.lines == 0 {
-        return false;
-    }
-    if MOST_LINES < held.ports.lines {
-        return false;
-    }
-    if io_ranges::power(held.ports.lines) < held.ports.count {
-        return false;
-    }
-    ports_managed(t, rows, near, held)
+    ports.base != 0
+        && ports.count != 0
+        && ports.lines != 0
+        && ports.lines <= MOST_LINES
+        && ports.count <= io_ranges::power(ports.lines)
+        && ports_managed(t, gaps, near, ports)
 }
 
 // "every grant .. has a live client and a socket below the count": the I/O grant at a seat of such a socket, or a record that is all zero.
-fn io_place_sound(t: &[u8], rows: &[u16; ROWS], near: usize, s: Seat) -> bool
+fn io_place_sound(t: &[u8], gaps: &Gaps, near: usize, s: Seat) -> bool
     requires sound { (length t.now ≡ table_size) × (socket_at s.number < sockets_in t.now) × CountsSound t.now × ClientsSound t.now × RangesSound t.now }
-    requires rows_serve { RowsServe t.now rows.now × RangeServes t.now near s.number }
+    requires gaps_serve { GapsServe t.now gaps.now × RangeServes t.now near s.number }
     ensures { Says result (IoPlaceSound t.now s.number) }
 {
     let at = seats::io_place(s);
@@ -67,10 +56,7 @@ fn io_place_sound(t: &[u8], rows: &[u16; ROWS], near: usize, s: Seat) -> bool
     if MARKED < table_read::byte(t, at + IO_SHARED_AT) {
         return false;
     }
-    if !client_record::live(t, held.client) {
-        return false;
-    }
-    ports_sound(t, rows, near, held)
+    client_record::live(t, held.client) && ports_sound(t, gaps, near, held.ports)
 }
 
 // The lines that the card of the seat's I/O grant decodes; all, where there is no grant.
@@ -92,7 +78,7 @@ fn fewest_lines(t: &[u8]) -> usize
     let sockets = table_read::byte(t, SOCKETS_IN);
     let mut fewest = MOST_LINES;
     for s in 0..sockets {
-        fewest = io_ranges::smaller(fewest, lines_at(t, Seat::new(s)));
+        fewest = fewest.min(lines_at(t, Seat::new(s)));
     }
     fewest
 }
@@ -111,17 +97,17 @@ pub fn ios_sound(t: &[u8]) -> bool
     if !table_read::zero(t, IOS_AT + sockets * IO_SIZE, IOS_END) {
         return false;
     }
-    let mut rows: [u16; ROWS] = [0; ROWS];
-    io_answering::gap_rows(t, fewest_lines(t), &mut rows);
+    let gaps = Gaps::between(t, fewest_lines(t));
     let mut passed: u64 = 0;
     let mut common: u64 = 0;
     let mut near = 0;
     for s in 0..sockets {
-        near = range_near(t, near, Seat::new(s));
-        if !io_place_sound(t, &rows, near, Seat::new(s)) {
+        let seat = Seat::new(s);
+        near = range_near(t, near, seat);
+        if !io_place_sound(t, &gaps, near, seat) {
             return false;
         }
-        let own = io_blocks(t, Seat::new(s));
+        let own = io_blocks(t, seat);
         common = common | passed & own;
         passed = passed | own;
     }

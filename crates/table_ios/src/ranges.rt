@@ -10,10 +10,9 @@ ghost use Rattle.io_answering.specs.Rows.{GapsAre};
 ghost use Rattle.seats.specs.Seats.{range};
 ghost use Rattle.table_ios.specs.Parts.{InRange, RangeHas, RangeServes};
 
-use facts::Seat;
-use io_answering::ROWS;
+use facts::{Ports, Seat};
+use io_answering::Gaps;
 use layout::{MOST_LINES, MOST_RANGES, RANGE_COUNT_AT, RANGE_SIZE, RANGES_AT, RANGES_IN};
-use seats::HeldPorts;
 
 // Whether the ports lie within the managed range `i`.
 fn in_range(t: &[u8], i: usize, base: usize, count: usize) -> bool
@@ -25,31 +24,20 @@ fn in_range(t: &[u8], i: usize, base: usize, count: usize) -> bool
     }
     let at = RANGES_AT + i * RANGE_SIZE;
     let from = table_read::word(t, at);
-    if base < from {
-        return false;
-    }
     let end = from + table_read::long(t, at + RANGE_COUNT_AT);
-    if end < base {
-        return false;
-    }
-    count <= end - base
+    from <= base && base <= end && count <= end - base
 }
 
 // Whether the ports are managed, and every other where their card answers. One that decodes all lines answers nowhere else, so for it the range `near`
 // decides, if there is one: it has the ports.
-pub fn ports_managed(t: &[u8], rows: &[u16; ROWS], near: usize, held: HeldPorts) -> bool
-    requires ranges { (length t.now ≡ table_size) × (ranges_in t.now ≤ Table.most_ranges) × RangesSound t.now × GapsAre t.now held.ports.lines rows.now }
-    requires ports { (held.ports.base < Table.all_ports) × (1 ≤ held.ports.count) × (held.ports.count < 256) × (held.ports.lines ≤ Table.most_lines) }
-    requires range_has { RangeHas t.now near held.ports }
-    ensures { Says result (AllManagedIn t.now held.ports) }
+pub fn ports_managed(t: &[u8], gaps: &Gaps, near: usize, ports: Ports) -> bool
+    requires ranges { (length t.now ≡ table_size) × (ranges_in t.now ≤ Table.most_ranges) × RangesSound t.now × GapsAre t.now ports.lines gaps.now }
+    requires ports { (ports.base < Table.all_ports) × (1 ≤ ports.count) × (ports.count < 256) × (ports.lines ≤ Table.most_lines) }
+    requires range_has { RangeHas t.now near ports }
+    ensures { Says result (AllManagedIn t.now ports) }
 {
-    if held.ports.lines < MOST_LINES {
-        return io_answering::managed(t, rows, held.ports.base, held.ports.count, held.ports.lines);
-    }
-    if near < table_read::byte(t, RANGES_IN) {
-        return true;
-    }
-    io_answering::managed(t, rows, held.ports.base, held.ports.count, held.ports.lines)
+    (ports.lines == MOST_LINES && near < table_read::byte(t, RANGES_IN))
+        || io_answering::managed(t, gaps, ports)
 }
 
 // The range at the place `middle`, where it starts at or before a port; else that at the place `low`.

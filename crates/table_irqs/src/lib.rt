@@ -90,10 +90,11 @@ pub fn irqs_sound(t: &[u8]) -> bool
     }
     let mut held = 0;
     for s in 0..sockets {
-        if !irq_place_sound(t, Seat::new(s)) {
+        let seat = Seat::new(s);
+        if !irq_place_sound(t, seat) {
             return false;
         }
-        let holding = irq_holding(t, Seat::new(s));
+        let holding = irq_holding(t, seat);
         if held & holding.against != 0 {
             return false;
         }

@@ -1,21 +1,17 @@
 -- `io_bars::gap_bars` meets its contract: each gap passed has its bar.
 -- Assumes nothing.
-use Rattle.facts.proofs.Words.{refl, ◌<◌, arith}
+use Rattle.facts.proofs.Words.{◌<◌, arith}
 use Rattle.facts.specs.{most_lines}
 use Rattle.layout.proofs.{size_in, sound_in}
-use Rattle.io_answering.proofs.{none_yet}
 use Rattle.io_bars.proofs.{gaps_are}
 use Rattle.io_bars.proofs.gap_bars.Goals as goal
 
-pub gap_rows-requires-clause-ranges : goal.gap_rows-requires-clause-ranges
-gap_rows-requires-clause-ranges c =
+pub between-gaps-requires : goal.between-gaps-requires
+between-gaps-requires c =
     let b = c.args.t.now in
     let sound = sound_in b c.requires.0 in (size_in b c.requires.0, sound.ranges_most, sound.ranges)
-
-pub gap_rows-requires-clause-no_gaps : goal.gap_rows-requires-clause-no_gaps
-gap_rows-requires-clause-no_gaps c = none_yet 64 _ refl (omega arith)
 
 pub returns : goal.returns
 returns c =
     let few : c.args.lines < most_lines = omega (arith, c.if-lines-eq-MOST_LINES.false, c.requires.3) in
-    gaps_are c.args.t.now _ _ c.gap_rows.new.rows c.gap_rows.ensures few c.loop-i.bars (λ i l. c.loop-i.invariant i (omega (arith, c.loop-i-test.false)))
+    gaps_are c.args.t.now _ _ c.between-gaps.result (c.between-gaps.ensures few) few c.loop-i.bars (λ i l. c.loop-i.invariant i (omega (arith, c.loop-i-test.false)))

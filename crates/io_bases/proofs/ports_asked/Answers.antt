@@ -4,30 +4,25 @@ use Rattle.facts.proofs.Words.{refl, ◌+◌, ◌<◌, arith}
 use Rattle.facts.specs.{all_ports}
 use Rattle.facts.proofs.{says_yes, says_no}
 use Rattle.layout.proofs.{size_in, sound_in}
-use Rattle.io_answering.specs.{most_gaps}
-use Rattle.io_answering.proofs.{none_yet}
 use Rattle.io_bases.proofs.{all_managed}
 use Rattle.io_bases.proofs.Said.{unmanaged}
 use Rattle.io_bases.proofs.ports_asked.Goals as goal
 
-pub gap_rows-requires-clause-ranges : goal.gap_rows-requires-clause-ranges
-gap_rows-requires-clause-ranges c =
+pub between-gaps-requires : goal.between-gaps-requires
+between-gaps-requires c =
     let sound = sound_in c.args.t.now c.requires.0 in (size_in c.args.t.now c.requires.0, sound.ranges_most, sound.ranges)
-
-pub gap_rows-requires-clause-no_gaps : goal.gap_rows-requires-clause-no_gaps
-gap_rows-requires-clause-no_gaps c = none_yet (most_gaps + most_gaps) _ refl (omega arith)
 
 pub managed-requires-clause-ranges : goal.managed-requires-clause-ranges
 managed-requires-clause-ranges c =
     let sound = sound_in c.args.t.now c.requires.0 in
-    (size_in c.args.t.now c.requires.0, sound.ranges_most, sound.ranges, c.gap_rows.ensures)
+    (size_in c.args.t.now c.requires.0, sound.ranges_most, sound.ranges, c.between-gaps.ensures)
 
 pub returns-then-not-managed : goal.returns-then-not-managed
 returns-then-not-managed c =
-    let within : all_ports < c.args.asked.base + c.args.asked.count → ⊥ = λ l. omega (arith, c.if-base-count-gt-ALL_PORTS.false) in
+    let within : all_ports < c.args.asked.base + c.args.asked.count → ⊥ = λ l. omega (arith, c.if-ports-gt-ALL_PORTS.false) in
     (refl, λ a. unmanaged c.args.t.now c.args.asked a within (says_no c.managed.ensures c.if-not-managed.true))
 
 pub returns : goal.returns
 returns c =
-    let within : all_ports < c.args.asked.base + c.args.asked.count → ⊥ = λ l. omega (arith, c.if-base-count-gt-ALL_PORTS.false) in
+    let within : all_ports < c.args.asked.base + c.args.asked.count → ⊥ = λ l. omega (arith, c.if-ports-gt-ALL_PORTS.false) in
     λ a. all_managed c.args.t.now c.args.asked a within (says_yes c.managed.ensures c.if-not-managed.false)

@@ -9,5 +9,5 @@ use Rattle.table_company.proofs.io_blocks.Goals as goal
 pub blocks_of-requires : goal.blocks_of-requires
 blocks_of-requires c =
     let there : let a = c.args in HeldIs (a.t.now) a.s.number (Some c.in-Some.held) = c.in-Some.ensures in
-    let fits = held_fits _ _ _ there (λ i. omega (arith, c.shared_slice_known-1.given i)) in
-    (fits.0, held_port _ _ _ there c.requires.2, fits.1)
+    let fits = held_fits _ _ _ there (λ i. omega (arith, c.type_inv.t i)) in
+    (fits.0, held_port _ _ _ there c.requires.1, fits.1)

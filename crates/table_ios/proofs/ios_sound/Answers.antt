@@ -1,15 +1,13 @@
 -- `table_ios::ios_sound` meets its contract. The loop's invariant: the records of the seats passed are sound, the set has
 -- each block in which their grants answer, and where no block was in common they keep company.
 -- Assumes nothing.
-use Rattle.facts.proofs.Words.{refl, by_cases, dec_lt, List, ℕ, ◌+◌, ◌-◌, ◌/◌, ◌≤◌, ◌<◌, arith}
+use Rattle.facts.proofs.Words.{by_cases, dec_lt, List, ℕ, ◌-◌, ◌/◌, ◌≤◌, ◌<◌, arith}
 use Rattle.facts.specs.{most_seats}
 use Rattle.facts.proofs.{says_true, says_as, says_yes, says_false_by}
 use Rattle.layout.specs.{Zero, ios_at, io_size, io_place_lem, IoPlaceSound, IoPairSound}
 use Rattle.table_read.proofs.{SoFar, so_far_more}
 use Rattle.seats.specs.{SeatSound, IosSound}
-use Rattle.table_company.specs.{CompaniesSound}
-use Rattle.io_answering.specs.{most_gaps}
-use Rattle.io_answering.proofs.{none_yet}
+use Rattle.table_company.specs.{CompaniesSound, BlocksOf}
 use Rattle.table_company.proofs.{blocks_more, companies_more}
 use Rattle.seats.proofs.{zero_sound, sound_zero}
 use Rattle.table_ios.proofs.ios_sound.Goals as goal
@@ -34,22 +32,16 @@ returns-then-not-zero c =
     (sound_zero c.args.t.now _ _ io_size io_place_lem (λ i. (i - ios_at) / io_size)
     (λ i f l. (omega arith, omega arith, record { from = omega arith; below = omega arith })) (λ s g. omega (arith, g.socket, c.byte-sockets.ensures.0)))
 
-pub gap_rows-requires-clause-no_gaps : goal.gap_rows-requires-clause-no_gaps
-gap_rows-requires-clause-no_gaps c = none_yet (most_gaps + most_gaps) _ refl (omega arith)
-
-pub io_place_sound-requires-clause-rows_serve : goal.io_place_sound-requires-clause-rows_serve
-io_place_sound-requires-clause-rows_serve c = (
-  λ s l u. let fewer = c.fewest_lines.ensures s l u in
-      record { fits = c.gap_rows.ensures.fits; are = λ m. c.gap_rows.ensures.are (omega arith) },
-  c.range_near-near.ensures.1,
-)
+pub io_place_sound-requires-clause-gaps_serve : goal.io_place_sound-requires-clause-gaps_serve
+io_place_sound-requires-clause-gaps_serve c =
+    (λ s l u m. let fewer = c.fewest_lines.ensures s l u in c.between-gaps.ensures (omega arith), c.range_near-near.ensures.1)
 
 pub loop-s-preserved : goal.loop-s-preserved
 loop-s-preserved c =
     let inv = c.loop-s.invariant in
-    let own = c.io_blocks-own.ensures in
+    let own : BlocksOf c.args.t.now c.loop-s.s c.io_blocks-own.result = rw c.new-seat.ensures at c.io_blocks-own.ensures in
     record {
-      sound = so_far_more inv.sound c.loop-s-test.true (says_yes c.io_place_sound.ensures c.if-not-io_place_sound.false);
+      sound = so_far_more inv.sound c.loop-s-test.true (rw c.new-seat.ensures at (says_yes c.io_place_sound.ensures c.if-not-io_place_sound.false));
       blocks = blocks_more _ _ _ _ inv.blocks own;
       kept = companies_more _ _ _ _ _ inv.blocks own inv.kept;
       near_most = c.range_near-near.ensures.0;

@@ -12,7 +12,7 @@ pub returns : goal.returns
 returns c =
     let used : IrqUsed c.args.t.now c.args.s.number = λ e. c.if-word-eq0.false ((rw c.irq_place-at.ensures.0 at c.word.ensures.0) ∙ e) in
     let number : held_as c.byte-first.result c.byte-manner.result < 64 =
-    let g = used_sound c.args.t.now (irq_place_lem c.args.s.number) irq_size (omega arith) c.requires.2 used in
+    let g = used_sound c.args.t.now (irq_place_lem c.args.s.number) irq_size (omega arith) c.requires.1 used in
     omega (arith, g.level, g.manner, rw c.irq_place-at.ensures.0 at c.byte-first.ensures.0, rw c.irq_place-at.ensures.0 at c.byte-manner.ensures.0) in
     let manner = rw c.irq_place-at.ensures.0 at c.byte-manner.ensures.0 in
     let level = rw c.irq_place-at.ensures.0 at c.byte-first.ensures.0 in

@@ -22,16 +22,16 @@ returns-then-held-holding-ne0 c =
     let below : c.loop-s.s < sockets_in c.args.t.now = omega (arith, c.loop-s-test.true, c.byte-sockets.ensures.0) in
     let few : c.byte-sockets.result ≤ most_seats = omega (arith, c.byte-sockets.ensures.0, c.requires.1.sockets_most) in
     let company : Says (eqb (bit_and c.loop-s.held c.irq_holding-holding.result.against) 0) (CompanySound (IrqPairSound c.args.t.now) c.loop-s.s) =
-    held_says _ _ (λ u l. (c.loop-s.invariant.0.each u l).place) _ _ c.loop-s.invariant.1 c.irq_holding-holding.ensures.against in
+    held_says _ _ (λ u l. (c.loop-s.invariant.0.each u l).place) _ _ c.loop-s.invariant.1 (rw c.new-seat.ensures at c.irq_holding-holding.ensures.against) in
     says_false (λ all. company.fails (ne_eqb _ _ c.if-held-holding-ne0.true) (all _ (omega (arith, below, few))).company)
 
 pub loop-s-preserved : goal.loop-s-preserved
 loop-s-preserved c =
-    let place : IrqPlaceSound c.args.t.now c.loop-s.s = says_yes c.irq_place_sound.ensures c.if-not-irq_place_sound.false in
+    let place : IrqPlaceSound c.args.t.now c.loop-s.s = rw c.new-seat.ensures at (says_yes c.irq_place_sound.ensures c.if-not-irq_place_sound.false) in
     let company : Says (eqb (bit_and c.loop-s.held c.irq_holding-holding.result.against) 0) (CompanySound (IrqPairSound c.args.t.now) c.loop-s.s) =
-    held_says _ _ (λ u l. (c.loop-s.invariant.0.each u l).place) _ _ c.loop-s.invariant.1 c.irq_holding-holding.ensures.against in
+    held_says _ _ (λ u l. (c.loop-s.invariant.0.each u l).place) _ _ c.loop-s.invariant.1 (rw c.new-seat.ensures at c.irq_holding-holding.ensures.against) in
     let inv = c.loop-s.invariant in (
       so_far_more inv.0 c.loop-s-test.true
           (record { place = place; company = company.holds (eq-eqb _ _ c.if-held-holding-ne0.false) }),
-      exactly_more _ _ _ inv.1 c.irq_holding-holding.ensures.own,
+      exactly_more _ _ _ inv.1 (rw c.new-seat.ensures at c.irq_holding-holding.ensures.own),
     )
