@@ -1,7 +1,7 @@
 // Ports: when two ranges meet, and when they overlap.
 #![tactic(auto)]
 
-ghost use Rattle.std.specs.Prelude.{◌≡◌, ◌+◌, ◌^◌, ◌<◌, ◌≤◌, min, max};
+ghost use Rattle.std.specs.Prelude.{◌≡◌, ◌^◌, ◌<◌, ◌≤◌};
 ghost use Rattle.facts.specs.Says.{Says};
 ghost use Rattle.facts.specs.Table.{all_ports, most_lines};
 ghost use Rattle.facts.specs.Ports.{Meet, Overlap};
@@ -15,43 +15,6 @@ pub fn power(k: usize) -> usize
     ensures { result ≡ 2 ^ k }
 {
     1 << k
-}
-
-pub fn smaller(a: usize, b: usize) -> usize
-    ensures { result ≡ min a b }
-{
-    if a < b {
-        return a;
-    }
-    b
-}
-
-// The larger of two numbers, at each width: the narrow ones are for rows and stretches that the compiler looks at side by side.
-pub fn larger(a: usize, b: usize) -> usize
-    ensures { result ≡ max a b }
-{
-    if b < a {
-        return a;
-    }
-    b
-}
-
-pub fn larger_u32(a: u32, b: u32) -> u32
-    ensures { result ≡ max a b }
-{
-    if b < a {
-        return a;
-    }
-    b
-}
-
-pub fn larger_u16(a: u16, b: u16) -> u16
-    ensures { result ≡ max a b }
-{
-    if b < a {
-        return a;
-    }
-    b
 }
 
 // Whether the `count` ports from `base` on and the `count2` from `base2` on have one in common.
