@@ -1,8 +1,7 @@
 // The base that a request for I/O ports takes, on a table that is the image of a well-formed set: the one that it names, or the first candidate.
 #![tactic(auto)]
 
-ghost use Rattle.std.specs.Prelude.{◌≡◌, ◌≢◌, ◌<◌, ◌&&◌, ◌||◌, not};
-ghost use Rattle.facts.specs.Table;
+ghost use Rattle.std.specs.Prelude.{◌≡◌, ◌≢◌, ◌&&◌, ◌||◌, not};
 ghost use Rattle.facts.specs.Says.{Says};
 ghost use Rattle.layout.specs.Reading.{facts_in};
 ghost use Rattle.layout.specs.Sound.{Accepted};

@@ -2,7 +2,6 @@
 #![tactic(auto)]
 
 ghost use Rattle.std.specs.Prelude.{◌≡◌, ◌<◌, length};
-ghost use Rattle.facts.specs.Table;
 ghost use Rattle.facts.specs.Packets.{with_word};
 ghost use Rattle.facts.specs.Io.{request_io_length};
 ghost use Rattle.layout.specs.Layout.{table_size, mark};

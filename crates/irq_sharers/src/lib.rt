@@ -1,7 +1,7 @@
 // The number of sharers of an IRQ level, on a table that is the image of a well-formed set.
 #![tactic(auto)]
 
-ghost use Rattle.std.specs.Prelude.{◌≡◌, ◌≤◌, ◌<◌, length};
+ghost use Rattle.std.specs.Prelude.{◌≡◌, ◌≤◌, length};
 ghost use Rattle.facts.specs.Table;
 ghost use Rattle.facts.specs.Irq;
 ghost use Rattle.facts.specs.Codes.{packed};

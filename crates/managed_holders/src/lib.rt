@@ -1,8 +1,7 @@
 // Who holds a managed level, or a port of a managed range, on a table that is the image of a well-formed set.
 #![tactic(auto)]
 
-ghost use Rattle.std.specs.Prelude.{◌≡◌, ◌<◌, min, length};
-ghost use Rattle.facts.specs.Table;
+ghost use Rattle.std.specs.Prelude.{◌≡◌, length};
 ghost use Rattle.layout.specs.Layout.{table_size};
 ghost use Rattle.layout.specs.Reading.{facts_in};
 ghost use Rattle.layout.specs.Sound.{Accepted};

@@ -6,12 +6,12 @@ use Rattle.io_bars.proofs.{seat_fits, grants_are}
 use Rattle.io_bars.proofs.grant_bars.Goals as goal
 
 pub held-requires : goal.held-requires
-held-requires c = (size_in c.args.t.now c.requires.0, omega (arith, c.loop-s-test.true))
+held-requires c = size_in c.args.t.now c.requires.0
 
 pub bar_of-requires : goal.bar_of-requires
 bar_of-requires c =
     let pre = c.requires in (
-      rw c.ports_of-ports.ensures (seat_fits c.args.t.now c.loop-s.s (omega (arith, c.loop-s-test.true)) pre.0 c.held.result c.held.ensures),
+      rw c.ports_of-ports.ensures (seat_fits c.args.t.now c.new.result.number c.new.result.in_table pre.0 c.held.result c.held.ensures),
       pre.1,
       pre.2,
       pre.3,

@@ -6,19 +6,19 @@ use Rattle.irq_fitting.proofs.{none_at, held_below, goes_at, stands_at}
 use Rattle.irq_fitting.proofs.levels_at.Goals as goal
 
 pub level_held-requires : goal.level_held-requires
-level_held-requires c = (size_in c.args.t.now c.requires.0, c.requires.1)
+level_held-requires c = size_in c.args.t.now c.requires
 
 pub returns-in_default : goal.returns-in_default
-returns-in_default c = none_at c.requires.0 _ _ c.requires.1 c.in_default.ensures
+returns-in_default c = none_at c.requires _ _ c.args.s.in_table c.in_default.ensures
 
 pub overflow_shl-level : goal.overflow_shl-level
 overflow_shl-level c =
-    omega (arith, held_below c.requires.0 c.args.asked _ c.requires.1 c.in-Some.held c.in-Some.ensures)
+    omega (arith, held_below c.requires c.args.asked _ c.args.s.in_table c.in-Some.held c.in-Some.ensures)
 
 pub returns-then-goes : goal.returns-then-goes
 returns-then-goes c =
-    goes_at c.requires.0 _ _ c.requires.1 c.in-Some.held c.in-Some.ensures (c.goes.ensures.holds c.if-goes.true)
+    goes_at c.requires _ _ c.args.s.in_table c.in-Some.held c.in-Some.ensures (c.goes.ensures.holds c.if-goes.true)
 
 pub returns-else-goes : goal.returns-else-goes
 returns-else-goes c =
-    stands_at c.requires.0 _ _ c.requires.1 c.in-Some.held c.in-Some.ensures (c.goes.ensures.fails c.if-goes.false)
+    stands_at c.requires _ _ c.args.s.in_table c.in-Some.held c.in-Some.ensures (c.goes.ensures.fails c.if-goes.false)

@@ -7,4 +7,5 @@ use Rattle.irq_fitting.proofs.levels_held.Goals as goal
 pub loop-s-preserved : goal.loop-s-preserved
 loop-s-preserved c =
     let passed = c.loop-s.invariant in
-    (omega arith, exactly_more _ _ _ passed.1 c.levels_at-here.ensures.way, exactly_more _ _ _ passed.2 c.levels_at-here.ensures.together)
+    let here = rw c.new.ensures at c.levels_at-here.ensures in
+    (omega arith, exactly_more _ _ _ passed.1 here.way, exactly_more _ _ _ passed.2 here.together)

@@ -2,7 +2,8 @@
 -- Assumes nothing.
 use Rattle.facts.proofs.Words.{refl, arith}
 use Rattle.facts.proofs.{handed}
-use Rattle.service_checks.proofs.{in_table, refused_ahead}
+use Rattle.layout.proofs.{size_in}
+use Rattle.service_checks.proofs.{refused_ahead}
 use Rattle.irq_services.specs.Granting.{ReleaseServed}
 use Rattle.irq_services.proofs.{releasing, release_unheld, release_differs, release_done}
 use Rattle.irq_services.proofs.release.Goals as goal
@@ -13,7 +14,7 @@ returns-in_err-seat c =
     (refused_ahead releasing c.requires c.args.h.0 c.args.p.now _ (c.in_err-seat.ensures c.requires))
 
 pub level_of-requires : goal.level_of-requires
-level_of-requires c = in_table c.requires c.in_ok-seat.ensures
+level_of-requires c = size_in _ c.requires
 
 pub returns-in_err-manner : goal.returns-in_err-manner
 returns-in_err-manner c =
@@ -26,8 +27,7 @@ returns-in_err-same_type c =
     (release_differs c.requires c.in_ok-seat.ensures c.byte.ensures.0 _ c.in_ok-manner.ensures c.in_err-same_type.ensures.1)
 
 pub enter_level-requires : goal.enter_level-requires
-enter_level-requires c =
-    let t = in_table c.requires c.in_ok-seat.ensures in (t.0, t.1, omega arith, omega arith)
+enter_level-requires c = (size_in _ c.requires, omega arith, omega arith)
 
 pub returns : goal.returns
 returns c =

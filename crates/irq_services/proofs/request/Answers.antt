@@ -6,8 +6,8 @@ use Rattle.facts.proofs.Words.{◌≡◌, refl, ap, sym, ◌∙◌, List, ◌<�
 use Rattle.facts.proofs.{handed, given, missing, taken_fits}
 use Rattle.facts.specs.{Code, BadIrq, LevelTaken, all_levels, IrqAsked, irq_asked}
 use Rattle.layout.specs.{Accepted}
-use Rattle.layout.proofs.{manner_most}
-use Rattle.service_checks.proofs.{in_table, refused_ahead}
+use Rattle.layout.proofs.{size_in, manner_most}
+use Rattle.service_checks.proofs.{refused_ahead}
 use Rattle.irq_fitting.specs.{TakenIs}
 use Rattle.irq_services.specs.Granting.{RequestServed}
 use Rattle.irq_services.proofs.{requesting, request_attributes, request_info, request_held, request_none, request_done}
@@ -36,7 +36,7 @@ returns-in_err-info_asked c =
     (request_info c.requires c.in_ok-seat.ensures c.in_ok-attributes_asked.ensures c.in_err-info_asked.ensures.1)
 
 pub level_held-requires : goal.level_held-requires
-level_held-requires c = in_table c.requires c.in_ok-seat.ensures
+level_held-requires c = size_in _ c.requires
 
 pub returns-then-held : goal.returns-then-held
 returns-then-held c =
@@ -54,8 +54,7 @@ returns-in_err-level c =
 pub enter_level-requires : goal.enter_level-requires
 enter_level-requires c =
     let level = chosen c.args.p.now c.requires _ c.asked-asked.ensures c.choose.ensures c.ok_or.ensures.value c.in_ok-level.was in
-    let t = in_table c.requires c.in_ok-seat.ensures in
-    (t.0, t.1, level.1, omega (arith, c.manner_byte.ensures, manner_most c.asked-asked.result.manner))
+    (size_in _ c.requires, level.1, omega (arith, c.manner_byte.ensures, manner_most c.asked-asked.result.manner))
 
 pub assign-requires : goal.assign-requires
 assign-requires c =

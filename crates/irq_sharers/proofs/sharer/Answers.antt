@@ -6,7 +6,7 @@ use Rattle.seats.proofs.{irq_read}
 use Rattle.irq_sharers.proofs.sharer.Goals as goal
 
 pub returns-in_default : goal.returns-in_default
-returns-in_default c = (rw (irq_read c.args.t.now c.args.s.number c.requires.1 None c.in_default.ensures) refl, omega arith)
+returns-in_default c = (rw (irq_read c.args.t.now c.args.s.number c.args.s.in_table None c.in_default.ensures) refl, omega arith)
 
 pub returns : goal.returns
-returns c = (rw (irq_read c.args.t.now c.args.s.number c.requires.1 (Some c.in-Some.held) c.in-Some.ensures) (grind arith), grind arith)
+returns c = (rw (irq_read c.args.t.now c.args.s.number c.args.s.in_table (Some c.in-Some.held) c.in-Some.ensures) (grind arith), grind arith)

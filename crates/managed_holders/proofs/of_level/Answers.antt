@@ -11,14 +11,14 @@ use Rattle.managed_holders.proofs.{holders_more, level_shown}
 use Rattle.managed_holders.proofs.of_level.Goals as goal
 
 pub level_at-requires : goal.level_at-requires
-level_at-requires c = (size_in c.args.t.now c.requires, omega (arith, c.loop-s-test.true))
+level_at-requires c = size_in c.args.t.now c.requires
 
 pub loop-s-preserved : goal.loop-s-preserved
 loop-s-preserved c =
     let k = c.loop-s in
     let a = c.args in (
       omega arith,
-      rw c.joined-holders.ensures (holders_more k.s (LevelHolds (facts_in a.t.now) a.l) k.holders c.level_at.result k.invariant.1 c.level_at.ensures),
+      rw c.joined-holders.ensures (holders_more k.s (LevelHolds (facts_in a.t.now) a.l) k.holders c.level_at.result k.invariant.1 (rw c.new.ensures at c.level_at.ensures)),
     )
 
 pub returns : goal.returns

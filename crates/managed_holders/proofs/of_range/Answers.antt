@@ -11,7 +11,7 @@ use Rattle.managed_holders.proofs.{holders_more, range_shown}
 use Rattle.managed_holders.proofs.of_range.Goals as goal
 
 pub ports_at-requires : goal.ports_at-requires
-ports_at-requires c = (size_in c.args.t.now c.requires, omega (arith, c.loop-s-test.true))
+ports_at-requires c = size_in c.args.t.now c.requires
 
 pub loop-s-preserved : goal.loop-s-preserved
 loop-s-preserved c =
@@ -19,7 +19,7 @@ loop-s-preserved c =
     let a = c.args in
     let P : ℕ → ℕ → ℕ → Type 0 = PortsHold (facts_in a.t.now) a.base a.count in (
       omega arith,
-      rw c.joined-holders.ensures (holders_more k.s P k.holders c.ports_at.result k.invariant.1 c.ports_at.ensures),
+      rw c.joined-holders.ensures (holders_more k.s P k.holders c.ports_at.result k.invariant.1 (rw c.new.ensures at c.ports_at.ensures)),
     )
 
 pub returns : goal.returns

@@ -6,13 +6,13 @@ use Rattle.managed_holders.proofs.{ports_free, ports_other, ports_here}
 use Rattle.managed_holders.proofs.ports_at.Goals as goal
 
 pub returns-in_err-held : goal.returns-in_err-held
-returns-in_err-held c = rw c.from_residual.ensures (ports_free _ _ c.requires.1 c.args.base c.args.count c.in_err-held.ensures)
+returns-in_err-held c = rw c.from_residual.ensures (ports_free _ _ c.args.s.in_table c.args.base c.args.count c.in_err-held.ensures)
 
 pub returns-else-overlaps : goal.returns-else-overlaps
-returns-else-overlaps c = ports_other _ _ c.requires.1 _ _ _ c.in_ok-held.ensures (says_no c.overlaps.ensures c.if-overlaps.false)
+returns-else-overlaps c = ports_other _ _ c.args.s.in_table _ _ _ c.in_ok-held.ensures (says_no c.overlaps.ensures c.if-overlaps.false)
 
 pub returns-then-held : goal.returns-then-held
-returns-then-held c = ports_here _ _ c.requires.1 _ _ _ c.in_ok-held.ensures (says_yes c.overlaps.ensures c.if-overlaps.true) true c.if-held.true
+returns-then-held c = ports_here _ _ c.args.s.in_table _ _ _ c.in_ok-held.ensures (says_yes c.overlaps.ensures c.if-overlaps.true) true c.if-held.true
 
 pub returns-else-held : goal.returns-else-held
-returns-else-held c = ports_here _ _ c.requires.1 _ _ _ c.in_ok-held.ensures (says_yes c.overlaps.ensures c.if-overlaps.true) false c.if-held.false
+returns-else-held c = ports_here _ _ c.args.s.in_table _ _ _ c.in_ok-held.ensures (says_yes c.overlaps.ensures c.if-overlaps.true) false c.if-held.false
