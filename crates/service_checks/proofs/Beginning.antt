@@ -4,7 +4,7 @@ use Rattle.facts.proofs.Words.{eq-eqb, ne_eqb}
 use Rattle.layout.proofs.Of
 use Rattle.facts.specs.{Code, Success, BadArgLength, BadHandle, BadSocket, NoCard, Facts, Live, byte, Check, ◌gives◌, FirstGiven, Passed, Outcome, Ruled, Rule}
 use Rattle.facts.specs.{socket_of, BadSocketIn, release_checks, most_clients, most_seats, seat_of}
-use Rattle.layout.specs.{image, sockets_in, marked, Accepted, LiveIn, ServedBy, cards_at, table_size}
+use Rattle.layout.specs.{image, sockets_in, marked, Accepted, LiveIn, ServedBy, cards_at}
 use Rattle.layout.proofs.{live_positive, refused_by, done_by}
 use Rattle.service_checks.specs.{NamesSocket, CardEnough, checks_ahead, BegunAt}
 use Rattle.service_checks.specs.declared.CardNeed.{CardNeed}

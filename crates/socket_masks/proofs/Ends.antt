@@ -2,7 +2,7 @@
 use Rattle.facts.proofs.Words.{◌≡◌, refl, ap, sym, inl, inr, List, [], ◌∷◌, Option, none, some, ℕ, ◌+◌, ◌<◌, arith, length}
 use Rattle.layout.proofs.Of
 use Rattle.facts.specs.{Code, Success, BadAttribute, BadSocket, InUse, Facts, word, with_word, EventsAllowed, ◌gives◌, Leaves, with_clients, MaskHeld}
-use Rattle.facts.specs.{socket_of, with_mask, request_mask_length, release_mask_length, own_mask_checks, most_clients, most_seats}
+use Rattle.facts.specs.{socket_of, with_mask, request_mask_length, release_mask_length, own_mask_checks, most_clients}
 use Rattle.facts.specs.{RequestSocketMask, ReleaseSocketMask}
 use Rattle.layout.specs.{image, two, mask_bytes, mask_place, Accepted, MaskUsed, ServedBy, table_size}
 use Rattle.layout.proofs.{mask_said, said_mask, mask_written, left}
