@@ -44,7 +44,7 @@ refused() {
 refused client_services lib.rt 'holds_nothing(t, i, h)' 'holds_nothing(t, i, i)' Handle usize
 refused client_services lib.rt 'enter(t, n, handle,' 'enter(t, handle, n,' usize Handle
 refused client_services lib.rt 'grant_on(t, Seat::new(s), h)' 'grant_on(t, h, h)' Seat Handle
-refused table_company lib.rt 'enter(t, Seat::new(s), &mut held)' 'enter(t, s, &mut held)' Seat usize
+refused table_company lib.rt 'numbers_of(t, seat)' 'numbers_of(t, s)' Seat usize
 refused irq_sharers lib.rt 'sharer(t, level, Seat::new(s))' 'sharer(t, level, s)' Seat usize
 refused keeper lib.rt 'client_services::deregister(table, h, packet)' \
     'client_services::deregister(table, Socket(3), packet)' Handle Socket
