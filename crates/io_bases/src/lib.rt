@@ -39,7 +39,7 @@ fn apart(asked: IoAsked, held: HeldPorts) -> bool
     asked.first || !(asked.shared && held.shared)
 }
 
-// Whether what is held at the seat is in the way of a base that is named: the ports meet, and they aren't shared.
+// Whether what is held at the seat is in the way of a base that is named: the ports meet, and First Shared is set or the two don't both share.
 fn stands(t: &[u8], asked: IoAsked, s: Seat) -> bool
     requires { Accepted t.now × AskedFits asked }
     ensures { Says result (StandsAt (facts_in t.now) asked s.number) }

@@ -99,7 +99,7 @@ fn dynamic_unable(p: &[u8]) -> bool
     type_asked(p) == DYNAMIC_TYPE && !info_set(p, SHARE)
 }
 
-// Whether the attributes are ones that a request may have.
+// The attributes are ones that a request may have.
 pub fn attributes_asked(p: &[u8]) -> Result<(), Code>
     requires { length p.now ≡ request_irq_length }
     ensures { RefusedIf (IrqAttributesBad p.now) BadAttribute result }
@@ -148,7 +148,7 @@ fn mask_of_none(p: &[u8]) -> bool
     info_set(p, MASK) && table_read::word(p, INFO_2_AT) == 0
 }
 
-// Whether IRQInfo1 and IRQInfo2 are ones that a request may have.
+// IRQInfo1 and IRQInfo2 are ones that a request may have.
 pub fn info_asked(p: &[u8]) -> Result<(), Code>
     requires { length p.now ≡ request_irq_length }
     ensures { RefusedIf (IrqInfoBad p.now) BadArgs result }

@@ -30,7 +30,7 @@ const RELEASE_SOCKET_MASK: u16 = 0x2F;
 
 const ADJUST_RESOURCE_INFO: u16 = 0x35;
 
-// The code that ends a call without an answer of its own.
+// The number of a code, where a call answers nothing more: SUCCESS, or the code of the refusal.
 fn number(ended: Result<(), Code>) -> u32
     ensures { result ≡ number_of (code_in ended) }
 {
