@@ -52,6 +52,8 @@ refused keeper lib.rt 'irq_sharers::pack(irq_sharers::of_level(table, level))' \
     'service_answers::pack(irq_sharers::of_level(table, level))' 'Result<Handle, Code>' 'Result<u16, Code>'
 refused keeper lib.rt 'number(card(table, Socket(socket as usize), true))' \
     'service_answers::pack(card(table, Socket(socket as usize), true))' 'Result<Handle, Code>' 'Result<(), Code>'
+refused keeper lib.rt 'number(card(table, Socket(socket as usize), false))' \
+    'service_answers::pack(card(table, Socket(socket as usize), false))' 'Result<Handle, Code>' 'Result<(), Code>'
 refused managed_holders lib.rt 'level_at(t, l, Seat::new(s))' 'level_at(t, l, s)' Seat usize
 refused managed_boot lib.rt 'return Err(Stopped { place, code })' 'return Err(Stopped { place: code, code: place })' usize Code
 refused keeper lib.rt 'managed_boot::pack(managed_boot::boot(table, records))' \

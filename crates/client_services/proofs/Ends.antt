@@ -1,10 +1,10 @@
 -- Each way in which RegisterClient and DeregisterClient end is the rule's. Assumes nothing.
-use Rattle.facts.proofs.Words.{◌≡◌, refl, sym, ◌∙◌, ◌⊎◌, inl, inr, ⊎_elim, List, ℕ, ◌≤◌, ◌<◌, arith, length, Option, none, some}
+use Rattle.facts.proofs.Words.{◌≡◌, refl, sym, ◌∙◌, ◌⊎◌, inl, inr, ⊎_elim, List, ℕ, ◌-◌, ◌≤◌, ◌<◌, ap, arith, length, length-set, Option, none, some}
 use Rattle.layout.proofs.Of
 use Rattle.facts.specs.{Code, Success, BadAttribute, OutOfResource, AttributesAllowed, EventsAllowed, Facts, IoGrant, IrqGrant, word}
 use Rattle.facts.specs.{Live, Outcome, FirstGiven, register_checks, deregister_checks, Register, Deregister, register_length, deregister_length}
 use Rattle.facts.specs.{HoldsIo, HoldsIrq, HoldsMask, most_clients, most_issued, most_seats}
-use Rattle.layout.specs.{clients_in, issued_in, handle_in, Accepted, ServedBy}
+use Rattle.layout.specs.{head_clients, clients_in, issued_in, handle_in, Accepted, ServedBy}
 use Rattle.layout.specs.{entered, Withdrawn}
 use Rattle.layout.proofs.{entered_image, withdrawn_image, mask_socket, mask_said, said_mask, kept, left, stays, becomes}
 use Rattle.client_record.specs.{ListedAt}
@@ -17,6 +17,12 @@ Registers p F = Register F 0 p
 
 abbrev Deregisters : ℕ → List ℕ → Facts → Outcome → Type 0
 Deregisters h p F = Deregister F h p
+
+-- a client taken out of each row: the table keeps its size
+pub withdrawn_size : {b b' : List ℕ} {i : ℕ} → Withdrawn b b' i → length b' ≡ length b
+withdrawn_size {b} w =
+    ap length w.number ∙ length-set w.b₄ head_clients (clients_in b - 1) ∙ w.masks.size ∙ w.events.size ∙ w.attributes.size
+    ∙ w.handles.size
 
 module _ {b p : List ℕ} (a : Accepted b) where
   pub register_refused : {k : Code} → FirstGiven (register_checks a.facts p) k → ServedBy (Registers p) b b p k 0

@@ -1,9 +1,11 @@
--- The words of the libraries that proofs use, and two definitions that have the name of a file: this file only passes them on. Assumes nothing.
+-- The words of the libraries that proofs use, and three definitions that have the name of a file: this file only passes them on. Assumes nothing.
 pub use Prim.Native.Nat.{◌%◌, ◌*◌, ◌+◌, ◌-◌, ◌/◌, ◌<◌, ◌^◌, ◌≤◌, max, min, suc, zero, zero-le, ℕ}
 pub use borrow.Author.Rules.{rules}
 pub use borrow.Author.Tests.{eq-eqb, eqb-false, eqb-true, le-ltb, leb-false, leb-true, lt-ltb, ltb-false, ltb-true, ne_eqb, not-false, not-true}
 pub use lib.Arith.{bin_ind}
 pub use lib.Bits.{and_block, and_high, and_le_l, and_le_r, and_mask, and_shr, and_step, bit_and, bit_or, or_add_and, or_shr, or_step, shifted_even}
+pub use lib.Count.{under}
+unfoldable pub use lib.Count.{count_trailing_zeros}
 pub use lib.Dec.{T, eqb, eqb→eq, leb, lit<, ltb, ltb→lt, nltb→le}
 pub use lib.ListN.{get_or-append, get_or-eq_default, drop, drop_of_length-le, get_or, get_or-replicate, get_elem?, length, length-append}
 pub use lib.ListN.{length-drop, length-replicate, length-set, replicate, set, take, take-append-drop}
@@ -23,8 +25,9 @@ pub use native.Mathlib.Nat.{add_assoc, add_comm, add-mod-mod, add-mul, add-mul-m
 pub use native.Mathlib.Nat.{div-eq_of_lt, div-mul-le_self, div-one, eq-or-lt_of_le, le-mul_of_pos_right, le_of_suc-le-suc, le_refl, lt-div-mul-add}
 pub use native.Mathlib.Nat.{lt_of_mul-lt-mul_right, min_comm, min-eq_left, min-eq_right, mod-add-mod, mod-eq_of_lt, mod-le, mod-lt, mul_assoc}
 pub use native.Mathlib.Nat.{mul-le-mul_right, mul-mod_left, not-suc-le-zero, one-mul, pow-le-pow_right, pow-suc, pow-succ', suc-add, suc-mul}
-pub use native.Mathlib.Nat.{zero-add, zero-div, zero-mul}
+pub use native.Mathlib.Nat.{two-pow-succ, zero-add, zero-div, zero-mul}
 pub use native.Mathlib.Numerals.{add-one}
 pub use native.Mathlib.Omega.{arith}
 pub use Rattle.facts.specs.Says.{Says}
+pub use Rattle.facts.specs.declared.Ports.{Ports}
 pub use Rattle.facts.specs.WellFormed.{WellFormed}

@@ -1,5 +1,5 @@
--- The fifteen codes and their numbers (chapter 8 of the volume), and the numbers that C gets. Assumes nothing.
-use Rattle.std.specs.Prelude.{ℕ, ◌+◌, ◌*◌, ◌^◌}
+-- The fifteen codes, their numbers (chapter 8 of the volume) and their names, and the numbers that C gets. Assumes nothing.
+use Rattle.std.specs.Prelude.{List, ℕ, ◌+◌, ◌*◌, ◌^◌, codes}
 use Rattle.facts.specs.declared.Code.{Code}
 use Rattle.facts.specs.declared.Code.TheVariants.{Success, BadAttribute, BadBase, BadIrq, BadSize, BadSocket, NoCard, UnsupportedService}
 use Rattle.facts.specs.declared.Code.TheVariants.{GeneralFailure, BadArgLength, BadArgs, InUse, NoMoreItems, OutOfResource, BadHandle}
@@ -20,6 +20,24 @@ number_of InUse = 0x1E
 number_of NoMoreItems = 0x1F
 number_of OutOfResource = 0x20
 number_of BadHandle = 0x21
+
+-- the name of a code, as document 01 has it
+abbrev pub name_of : Code → List ℕ
+name_of Success = codes "SUCCESS"
+name_of BadAttribute = codes "BAD_ATTRIBUTE"
+name_of BadBase = codes "BAD_BASE"
+name_of BadIrq = codes "BAD_IRQ"
+name_of BadSize = codes "BAD_SIZE"
+name_of BadSocket = codes "BAD_SOCKET"
+name_of NoCard = codes "NO_CARD"
+name_of UnsupportedService = codes "UNSUPPORTED_SERVICE"
+name_of GeneralFailure = codes "GENERAL_FAILURE"
+name_of BadArgLength = codes "BAD_ARG_LENGTH"
+name_of BadArgs = codes "BAD_ARGS"
+name_of InUse = codes "IN_USE"
+name_of NoMoreItems = codes "NO_MORE_ITEMS"
+name_of OutOfResource = codes "OUT_OF_RESOURCE"
+name_of BadHandle = codes "BAD_HANDLE"
 
 -- code + 65536 * handle, or code + 65536 * count
 abbrev pub packed : Code → ℕ → ℕ

@@ -29,7 +29,7 @@ pub use declared.RangeAsked.{RangeAsked}
 pub use declared.Handle.{Handle}
 pub use declared.IoAsked.{IoAsked}
 pub use declared.IrqAsked.{IrqAsked}
-pub use Codes.{number_of, packed, placed}
+pub use Codes.{number_of, name_of, packed, placed}
 pub use Sets.{◌∈◌, without, put}
 pub use Choice.{Before, Chosen, Lowest}
 pub use Table.{most_sockets, most_clients, most_issued, all_levels, most_ranges, all_ports, most_lines, all_events, most_asked, Client, Level, Range, IoGrant, HeldPorts, Held}

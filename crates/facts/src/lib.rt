@@ -2,8 +2,8 @@
 // asks for and a boot record. What a table says, which sets of facts are well formed and what each call does with them is in specs/.
 #![tactic(auto)]
 
-ghost use Rattle.std.specs.Prelude.{◌≡◌, ◌<◌};
-ghost use Rattle.facts.specs.Codes.{number_of};
+ghost use Rattle.std.specs.Prelude.{◌≡◌, ◌<◌, Some};
+ghost use Rattle.facts.specs.Codes.{number_of, name_of};
 
 use std::error::Error;
 use std::fmt;
@@ -147,6 +147,8 @@ impl From<Code> for u32 {
 
 // A code's name, as document 01's table has it.
 impl fmt::Display for Code {
+    ghost output = { λ c. Some (name_of c) };
+
     fn fmt<W: fmt::Write>(&self, f: &mut fmt::Formatter<W>) -> fmt::Result {
         f.write_str(match self {
             Code::Success => "SUCCESS",

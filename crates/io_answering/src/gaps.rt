@@ -33,7 +33,7 @@ impl Gaps {
     ghost use Rattle.io_answering.specs.Rows.{gap_at, counted, MeetsRows, GapsAre};
 
     // No gaps.
-    fn none() -> Self
+    pub fn none() -> Self
         ensures { (i : ℕ) → (gap_at result i).count ≡ 0 }
     {
         Gaps {
@@ -64,26 +64,25 @@ impl Gaps {
         self.ports[i] = ports.min(MOST_COUNTED) as u16;
     }
 
-    // The gaps between the managed ranges, for cards of so many lines; none for one that decodes all, which answers at its own ports alone. `end` is where
-    // the ranges passed end, and the gap begins.
-    pub fn between(t: &[u8], lines: usize) -> Self
-        requires { (length t.now ≡ table_size) × (ranges_in t.now ≤ Table.most_ranges) × RangesSound t.now }
-        ensures { GapsAre t.now lines result }
+    // Where there are no gaps yet, those between the managed ranges are entered, for cards of so many lines; none for one that decodes all, which answers
+    // at its own ports alone. `end` is where the ranges passed end, and the gap begins.
+    pub fn fill(&mut self, t: &[u8], lines: usize)
+        requires ranges { (length t.now ≡ table_size) × (ranges_in t.now ≤ Table.most_ranges) × RangesSound t.now }
+        requires no_gaps { (i : ℕ) → (gap_at self.old i).count ≡ 0 }
+        ensures { GapsAre t.now lines self.new }
     {
-        let mut gaps = Gaps::none();
         if lines == MOST_LINES {
-            return gaps;
+            return;
         }
         let ranges = table_read::byte(t, RANGES_IN);
         let mut end = 0;
         for i in 0..ranges {
             let start = table_read::word(t, RANGES_AT + i * RANGE_SIZE);
-            gaps.enter(i, end, start - end);
+            self.enter(i, end, start - end);
             end = managed_search::range_end(t, i);
         }
-        let first = gaps.ports[0] as usize;
-        gaps.enter(0, end, ALL_PORTS - end + first);
-        gaps
+        let first = self.ports[0] as usize;
+        self.enter(0, end, ALL_PORTS - end + first);
     }
 
     // Whether a card with these ports answers in no gap: how far it is ahead of each, or-ed together with no early exit, so that many are looked at side by

@@ -49,32 +49,30 @@ fn ports_of(held: Option<HeldPorts>) -> Ports
     }
 }
 
-// The bars of the live grants.
-pub fn grant_bars(t: &[u8], count: usize, lines: usize) -> Bars<GRANT_PLACES>
+// The bars of the live grants are entered, each in the place of its seat.
+pub fn grant_bars(t: &[u8], count: usize, lines: usize, bars: &mut Bars<GRANT_PLACES>)
     requires { Accepted t.now × (1 ≤ count) × (count < 256) × (lines ≤ Table.most_lines) }
-    ensures { GrantBarsOf t.now count lines result }
+    ensures { GrantBarsOf t.now count lines bars.new }
 {
-    let mut bars = Bars::none();
     for s in 0..MOST_SEATS {
         let ports = ports_of(seats::held(t, Seat::new(s)));
         bars.enter(s, bar_of(ports, count, lines));
     }
-    bars
 }
 
-// The bars of the gaps, each in the place of its gap; none, for a card that decodes all lines, which answers at its own ports alone. A card that decodes
-// 10 lines and asks for four ports answers in a gap of 16 ports from 6F0H on at the bases 6EDH to 6FFH, and so at 2EDH to 2FFH: a bar of 4 + 16 - 1 bases.
-pub fn gap_bars(t: &[u8], count: usize, lines: usize) -> Bars<GAP_PLACES>
+// The bars of the gaps are entered, each in the place of its gap; for a card that decodes all lines, which answers at its own ports alone, the bars stay as
+// they are. A card that decodes 10 lines and asks for four ports answers in a gap of 16 ports from 6F0H on at the bases 6EDH to 6FFH, and so at 2EDH to 2FFH:
+// a bar of 4 + 16 - 1 bases.
+pub fn gap_bars(t: &[u8], count: usize, lines: usize, bars: &mut Bars<GAP_PLACES>)
     requires { Accepted t.now × (1 ≤ count) × (count < 256) × (lines ≤ Table.most_lines) }
-    ensures { GapBars t.now count lines result }
+    ensures { GapBars t.now count lines bars.new }
 {
-    let mut bars = Bars::none();
     if lines == MOST_LINES {
-        return bars;
+        return;
     }
-    let gaps = Gaps::between(t, lines);
+    let mut gaps = Gaps::none();
+    gaps.fill(t, lines);
     for i in 0..GAP_PLACES {
         bars.enter(i, bar_of(gaps.at(i), count, lines));
     }
-    bars
 }

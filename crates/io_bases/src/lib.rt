@@ -25,7 +25,8 @@ fn ports_asked(t: &[u8], asked: IoAsked) -> Result<(), Code>
     if ALL_PORTS < ports.base + ports.count {
         return Err(Code::BadBase);
     }
-    let gaps = Gaps::between(t, ports.lines);
+    let mut gaps = Gaps::none();
+    gaps.fill(t, ports.lines);
     if !io_answering::managed(t, &gaps, ports) {
         return Err(Code::BadBase);
     }
@@ -66,7 +67,9 @@ fn in_the_way(t: &[u8], asked: IoAsked) -> Result<(), Code>
     Ok(())
 }
 
-// "Base not 0": the base that is taken, or the code of why there is none.
+// "Base not 0": the base that is taken, or the code of why there is none. This and `chosen` stay out of line, so that each has a frame of its own on the
+// stack.
+#[inline(never)]
 pub fn named(t: &[u8], asked: IoAsked) -> Result<usize, Code>
     requires { Accepted t.now × AskedFits asked × (asked.base ≢ 0) }
     ensures { BaseIs t.now asked result }
@@ -77,9 +80,13 @@ pub fn named(t: &[u8], asked: IoAsked) -> Result<usize, Code>
 }
 
 // "Base 0: candidates .. none: IN_USE."
+#[inline(never)]
 pub fn chosen(t: &[u8], asked: IoAsked) -> Result<usize, Code>
     requires { Accepted t.now × AskedFits asked × (asked.base ≡ 0) }
     ensures { BaseIs t.now asked result }
 {
-    io_candidates::choose(t, asked).ok_or(Code::InUse)
+    let Some(base) = io_candidates::choose(t, asked) else {
+        return Err(Code::InUse);
+    };
+    Ok(base)
 }

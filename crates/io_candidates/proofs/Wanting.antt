@@ -3,7 +3,7 @@ use Rattle.facts.proofs.Words.{◌≡◌, refl, subst, inl, inr, Bool, true, fal
 use Rattle.std.specs.Prelude.{Option, Some, None}
 use Rattle.facts.specs.{IoAsked}
 use Rattle.layout.specs.{Accepted}
-use Rattle.io_obstacles.specs.{Stretch, Wanted, Bars, Lies, LiesInBars, Barring, grant_places, gap_places, BarredBy}
+use Rattle.io_obstacles.specs.{Stretch, Wanted, Bars, Lies, LiesInBars, Barring, grant_places, gap_places, BarredFor}
 use Rattle.io_obstacles.proofs.{bars_more}
 use Rattle.io_bars.specs.{GapBars}
 use Rattle.io_candidates.specs.{FirstIs, Wants, TakenIs}
@@ -29,7 +29,7 @@ module _ (b : List ℕ) (q : IoAsked) (grants : Bars grant_places) (w : Wanted) 
   -- and else what comes first past the bars of grants and gaps is
   module _ (gaps : Bars gap_places) (gap-bars : GapBars b q.count q.lines gaps) where
     abbrev Bar : ℕ → Type 0
-    Bar = BarredBy grants gaps w
+    Bar = BarredFor grants gaps w
 
     only : (a : Accepted b) → BarsOnly b a.facts q Bar
     only a x (inl l) = inl ((wants.grant_bars a).only x (bars_more grants _ _ (omega (arith, wants.limit_is)) x l))

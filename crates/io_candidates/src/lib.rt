@@ -159,7 +159,8 @@ fn past_bars(t: &[u8], asked: IoAsked, grants: &Bars<GRANT_PLACES>, wanted: Want
     if known.everywhere() {
         return None;
     }
-    let gaps = io_bars::gap_bars(t, asked.count, asked.lines);
+    let mut gaps = Bars::none();
+    io_bars::gap_bars(t, asked.count, asked.lines, &mut gaps);
     let search = Search {
         grants,
         gaps: &gaps,
@@ -179,7 +180,8 @@ pub fn choose(t: &[u8], asked: IoAsked) -> Option<usize>
 {
     let count = asked.count;
     let lines = asked.lines;
-    let grants = io_bars::grant_bars(t, count, lines);
+    let mut grants = Bars::none();
+    io_bars::grant_bars(t, count, lines, &mut grants);
     let limit = io_obstacles::limit_of(lines);
     let wanted = Wanted {
         count,

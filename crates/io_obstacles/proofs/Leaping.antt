@@ -1,5 +1,5 @@
 -- A base that lies in a bar or a stretch is followed by others up to its end: how far a search can leap. Assumes nothing.
-use Rattle.facts.proofs.Words.{◌≡◌, ap, sym, ◌∙◌, ◌⊎◌, inl, inr, ℕ, ◌+◌, ◌-◌, ◌%◌, ◌^◌, ◌≤◌, ◌<◌, max, mod-le, mod-add-mod, mod-mod-pow}
+use Rattle.facts.proofs.Words.{◌≡◌, ap, sym, ◌∙◌, ◌⊎◌, inl, inr, ℕ, ◌+◌, ◌-◌, ◌%◌, ◌^◌, ◌≤◌, ◌<◌, max, mod-le, mod-add-mod, mod-eq_of_lt, mod-mod-pow}
 use Rattle.facts.proofs.Words.{dec_lt, eq-or-lt_of_le, arith, bit_and, and_mask}
 use Rattle.facts.specs.{all_ports, most_lines}
 use Rattle.io_ranges.proofs.{all_ports_mod}
@@ -11,7 +11,27 @@ masked n ones p =
     let e : ones ≡ 2 ^ p.lines - 1 = omega (arith, p.is) in
     ap (bit_and n) e ∙ and_mask n p.lines ∙ ap (λ (m : ℕ). n % m) (sym p.is)
 
+-- a base that isn't barred is leapt over by nothing
+pub leap_over : (Bar : ℕ → Type 0) (x : ℕ) → (Bar x → ⊥) → Leaps Bar x 0
+leap_over Bar x n = record { none = λ _. n; each = λ e l. absurd (omega arith); most = omega arith }
+
 -- what wraps around at all ports is the same modulo a period
+pub wrapped_behind : (start x d ones : ℕ) → start < all_ports → x < all_ports → (d + start) % 2 ^ 16 ≡ x → Power (ones + 1) → d < all_ports
+    → bit_and d ones ≡ (x + around - start) % (ones + 1)
+wrapped_behind start x d ones low below e p small = masked d ones p ∙ rw p.is (below_or_not (dec_lt (d + start) all_ports))
+  where
+    again : (n : ℕ) → (n + all_ports) % 2 ^ p.lines ≡ n % 2 ^ p.lines
+    again = all_ports_mod p.lines p.most
+
+    below_or_not : Dec (d + start < all_ports) → d % 2 ^ p.lines ≡ (x + around - start) % 2 ^ p.lines
+    below_or_not (yes l) =
+        let twice : x + around - start ≡ d + all_ports + all_ports = omega (arith, e, mod-eq_of_lt l) in
+        sym (ap (λ (n : ℕ). n % 2 ^ p.lines) twice ∙ again (d + all_ports) ∙ again d)
+    below_or_not (no l) =
+        let once : x + around - start ≡ d + all_ports = omega (arith, e) in
+        sym (ap (λ (n : ℕ). n % 2 ^ p.lines) once ∙ again d)
+
+-- and so is a difference that is worked out
 wrapped : (start x ones : ℕ) → start < all_ports → Power (ones + 1)
     → bit_and ((x + (65536 - start)) % 65536) ones ≡ (x + around - start) % (ones + 1)
 wrapped start x ones low p =
@@ -42,6 +62,9 @@ leaps_bar bar limit x r p low small short e =
 
 -- the farthest of two: the first n bars, and one more
 module _ {N : ℕ} (bars : Bars N) (limit x : ℕ) where
+  pub leap_start : Leaps (LiesInFirst bars limit 0) x 0
+  leap_start = leap_over (LiesInFirst bars limit 0) x (λ l. omega (arith, l.below))
+
   pub leap_more : (n far d : ℕ) → Leaps (LiesInFirst bars limit n) x far → Leaps (LiesShort (bar_at bars n) limit) x d
       → Leaps (LiesInFirst bars limit (n + 1)) x (max far d)
   leap_more n far d first next = record { none = none; each = each; most = omega (arith, first.most, next.most) }

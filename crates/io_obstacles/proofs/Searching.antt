@@ -1,6 +1,6 @@
 -- A search from one multiple of the step to the next that may be free, whatever bars a base. Assumes nothing.
-use Rattle.facts.proofs.Words.{◌≡◌, subst, ℕ, ◌+◌, ◌-◌, ◌≤◌, ◌<◌, dec_lt, arith}
-use Rattle.io_obstacles.specs.{around, Multiple, FirstMultiple, Leaps, Opened}
+use Rattle.facts.proofs.Words.{◌≡◌, subst, inl, inr, ⊎_elim, Bool, true, ℕ, ◌+◌, ◌-◌, ◌≤◌, ◌<◌, dec_lt, arith}
+use Rattle.io_obstacles.specs.{around, Multiple, FirstMultiple, Bars, LiesInBars, grant_places, gap_places, BarredBy, Leaps, Opened}
 
 -- every multiple from one base on and before another is barred
 abbrev pub AllBarred : (ℕ → Type 0) → ℕ → ℕ → ℕ → Type 0
@@ -18,6 +18,9 @@ module _ (Bar : ℕ → Type 0) (step from : ℕ) where
     pub past : from ≤ base
     pub near : base ≤ around + around
     pub barred : AllBarred Bar step from base
+
+  pub gone_start : Multiple step from → from ≤ around + around → Gone from
+  gone_start m l = record { multiple = m; past = omega arith; near = l; barred = λ y n f h. absurd (omega arith) }
 
   module _ (base : ℕ) (g : Gone base) where
     -- from one that is barred, it leaps to the first past the end
@@ -58,3 +61,11 @@ module _ (Bar : ℕ → Type 0) (step from : ℕ) where
 -- what one predicate bars, another that says less bars too
 pub gone_as : {Bar Bar' : ℕ → Type 0} (step from base : ℕ) → ((x : ℕ) → Bar x → Bar' x) → Gone Bar step from base → Gone Bar' step from base
 gone_as step from base so g = record { multiple = g.multiple; past = g.past; near = g.near; barred = λ y m f l. so y (g.barred y m f l) }
+
+-- the farthest of the grants' bars, or else of the gaps'
+module _ {grants : Bars grant_places} (gaps : Bars gap_places) (counted : Bool) {limit x d : ℕ} (l : Leaps (LiesInBars grants limit) x d) where
+  pub leap_grants : (d ≡ 0 → ⊥) → Leaps (BarredBy grants gaps counted limit) x d
+  leap_grants n = record { none = λ z. absurd (n z); each = λ e h. inl (l.each e h); most = l.most }
+
+  pub leap_gaps : {r : ℕ} → d ≡ 0 → Leaps (λ y. (counted ≡ true) × LiesInBars gaps limit y) x r → Leaps (BarredBy grants gaps counted limit) x r
+  leap_gaps z m = record { none = λ q. ⊎_elim (l.none z) (m.none q); each = λ e h. inr (m.each e h); most = m.most }

@@ -11,5 +11,5 @@ pub use declared.Wanted.{Wanted}
 pub use declared.Search.{Search}
 pub use Powers.{around, Power, Multiple, FirstMultiple, Period, LiesFrom, Leaps}
 pub use Rows.{LiesInBar, LiesShort, bar_at, LiesInFirst, LiesInBars}
-pub use Stretches.{Lies, Barring, Repeats, StretchBetween, LearntIs, Everywhere}
-pub use Searches.{grant_places, gap_places, BarredBy, Barred, Opened, OpenedIs}
+pub use Stretches.{Lies, StretchFits, Barring, Repeats, StretchBetween, LearntIs, Everywhere}
+pub use Searches.{grant_places, gap_places, BarredBy, BarredFor, Barred, Opened, OpenedIs}

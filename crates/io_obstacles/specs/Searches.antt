@@ -1,5 +1,5 @@
 -- The search past the bars of grants and gaps. Assumes nothing.
-use Rattle.std.specs.Prelude.{◌≡◌, ℕ, ◌+◌, ◌<◌, ◌≤◌, ◌⊎◌, true}
+use Rattle.std.specs.Prelude.{◌≡◌, ℕ, ◌+◌, ◌<◌, ◌≤◌, ◌⊎◌, Bool, true}
 use Rattle.facts.specs.Table
 use Rattle.io_obstacles.specs.declared.rows.Bars.{Bars}
 use Rattle.io_obstacles.specs.declared.Wanted.{Wanted}
@@ -16,12 +16,15 @@ grant_places = Table.most_seats
 abbrev pub gap_places : ℕ
 gap_places = Table.most_ranges
 
--- a grant's bar has the base, or, if gaps count, a gap's: of those that count
-abbrev pub BarredBy : Bars grant_places → Bars gap_places → Wanted → ℕ → Type 0
-BarredBy grants gaps w x = LiesInBars grants w.limit x ⊎ ((w.gaps ≡ true) × LiesInBars gaps w.limit x)
+-- a grant's bar has the base, or, if gaps count, a gap's: of those whose periods are at most limit + 1
+abbrev pub BarredBy : Bars grant_places → Bars gap_places → Bool → ℕ → ℕ → Type 0
+BarredBy grants gaps counted limit x = LiesInBars grants limit x ⊎ ((counted ≡ true) × LiesInBars gaps limit x)
+
+abbrev pub BarredFor : Bars grant_places → Bars gap_places → Wanted → ℕ → Type 0
+BarredFor grants gaps w = BarredBy grants gaps w.gaps w.limit
 
 abbrev pub Barred : Search → ℕ → Type 0
-Barred s = BarredBy s.grants.now s.gaps.now s.wanted
+Barred s = BarredFor s.grants.now s.gaps.now s.wanted
 
 -- the search from one multiple of the step on: every multiple before r is barred, and r isn't where its ports end at or before `end`
 pub record Opened (Bar : ℕ → Type 0) (step count from end r : ℕ) : Type 0 where

@@ -2,15 +2,22 @@
 -- Assumes nothing.
 use Rattle.std.specs.Prelude.{◌≡◌, ℕ, ◌+◌, ◌%◌, ◌≤◌, Bool, true, ◌⊎◌}
 use Rattle.facts.specs.Table
-use Rattle.io_obstacles.specs.Powers.{Multiple, LiesFrom}
+use Rattle.io_obstacles.specs.Powers.{around, Power, Multiple, LiesFrom}
 use Rattle.io_obstacles.specs.declared.stretches.Stretch.{Stretch}
 
 -- the base x lies in the stretch
 abbrev pub Lies : Stretch → ℕ → Type 0
 Lies s = LiesFrom s.start s.ones s.width
 
+-- a stretch whose period is a power of two, and whose numbers are not too large
+pub record StretchFits (s : Stretch) : Type 0 where
+  pub start : s.start ≤ around
+  pub period : Power (s.ones + 1)
+  pub width : s.width ≤ around
+
 -- a stretch in which every multiple of the step is barred
 pub record Barring (Bar : ℕ → Type 0) (step : ℕ) (known : Stretch) : Type 0 where
+  pub fits : StretchFits known
   pub barred : (x : ℕ) → Multiple step x → Lies known x → Bar x
 
 -- what is barred is so again after each period

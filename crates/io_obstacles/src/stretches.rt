@@ -1,8 +1,4 @@
 // Stretches of bases that a search knows to be barred.
-ghost use Rattle.std.specs.Prelude.{◌≡◌, ◌+◌, ◌≤◌};
-ghost use Rattle.io_obstacles.specs.Powers.{around, Power};
-ghost use Rattle.io_obstacles.specs.Unique.{Power-prop};
-
 use layout::ALL_PORTS;
 
 // Twice all ports: a multiple of every period, from which a start is taken away.
@@ -11,21 +7,20 @@ const AROUND: u32 = 131072;
 // A stretch of bases: so many from a start on, and again after each period. The period is a power of two; less one, its bits are all ones.
 #[derive(Clone, Copy)]
 pub struct Stretch {
-    start: u32,
-    ones: u32,
-    width: u32,
-    ghost power: { Power (ones + 1) } by { Power-prop (ones + 1) },
-    ghost near: { (start ≤ around) × (width ≤ around) },
+    pub start: u32,
+    pub ones: u32,
+    pub width: u32,
 }
 
 impl Stretch {
+    ghost use Rattle.std.specs.Prelude.{◌≡◌, ◌≤◌};
     ghost use Rattle.facts.specs.Table;
-    ghost use Rattle.io_obstacles.specs.Powers.{Leaps};
-    ghost use Rattle.io_obstacles.specs.Stretches.{Lies, LearntIs, Everywhere};
+    ghost use Rattle.io_obstacles.specs.Powers.{Power, Leaps};
+    ghost use Rattle.io_obstacles.specs.Stretches.{Lies, StretchFits, LearntIs, Everywhere};
 
     // The stretch that has no base.
     pub(crate) fn nowhere() -> Self
-        ensures { result.width ≡ 0 }
+        ensures { (result.start ≡ 0) × (result.ones ≡ 0) × (result.width ≡ 0) }
     {
         Stretch {
             start: 0,
@@ -44,7 +39,7 @@ impl Stretch {
     // How far the end of the stretch lies ahead of a base in it; 0 where the base isn't. Of 10 bases from 2FD on, again after each 400H, the base 700H lies 3
     // past the start: 700H + 20000H - 2FDH is 20403H, and its low ten bits are 3. So the end lies 10 - 3 bases ahead, at 707H.
     pub(crate) fn ahead(self, base: usize) -> usize
-        requires { base ≤ Table.all_ports }
+        requires { StretchFits self × (base ≤ Table.all_ports) }
         ensures { Leaps (Lies self) base result }
     {
         let behind = (base as u32 + AROUND - self.start) & self.ones;

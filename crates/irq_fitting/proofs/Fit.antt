@@ -1,12 +1,12 @@
 -- A level fits exactly if it is named, managed and has no grant in the way; and the lowest of the unreserved ones that fit is taken, or of the
 -- reserved ones. Assumes nothing.
-use Rattle.facts.proofs.Words.{◌≡◌, refl, sym, ◌∙◌, subst, ◌⊎◌, inl, inr, ◌≢◌, Bool, true, false, true≢false, ℕ, ◌*◌, ◌^◌, ◌%◌, ◌<◌, ap, bit_and, arith, WellFormed}
+use Rattle.facts.proofs.Words.{◌≡◌, refl, sym, ◌∙◌, subst, ◌⊎◌, inl, inr, ◌≢◌, Bool, true, false, true≢false, ℕ, ◌^◌, ◌<◌, ap, bit_and, arith, WellFormed}
 use Rattle.facts.proofs.Words.{some}
 use Rattle.facts.specs.{Facts, IrqAsked, IrqGrant, bit, Holds, Together, Named, Fits, FirstFitting, NoLevelFits, all_levels, most_seats}
 use Rattle.facts.proofs.{chosen_first, chosen_then, says_dec}
 use Rattle.irq_levels.proofs.{rule_says}
 use Rattle.table_read.specs.{HasJust, SomeBelow}
-use Rattle.table_read.proofs.{one_shifted, exactly_none, exactly_empty, exactly_one, exactly_as, bit_and_lem}
+use Rattle.table_read.proofs.{exactly_none, exactly_empty, exactly_one, exactly_as, bit_and_lem}
 use Rattle.irq_fitting.specs.declared.Fitting.{Fitting}
 use Rattle.irq_fitting.specs.{Goes, LevelBarred, FitsAs, FitsHere, FittingAt, LevelsFitting, LowestIn}
 use Rattle.irq_fitting.proofs.Bits.{lowest_said}
@@ -93,16 +93,17 @@ module _ (F : Facts) (q : IrqAsked) where
       pub none_fits : r.reserved ≡ 0 → NoLevelFits F q
       none_fits e = exactly_empty late e
 
-  -- the set of a level that fits
-  module _ (l : ℕ) (below : l < all_levels) (fits : Fits F q l) where
-    abbrev level : ℕ
-    level = 1 * 2 ^ l % 2 ^ 64
+  -- the set of a level that fits, or of none
+  module _ (l : ℕ) where
+    pub none_here : (Fits F q l → ⊥) → FittingAt F q l (record { unreserved = 0; reserved = 0 })
+    none_here n = record { unreserved = exactly_none (λ k x. n x.0.0); reserved = exactly_none (λ k x. n x.0.0) }
 
-    level_set : {reserved : Bool} → (F.level l).reserved ≡ reserved → HasJust level (FitsHere F q reserved l)
-    level_set e = rw (one_shifted l 64 (omega (arith, below))) (exactly_one l ((fits, e), refl) (λ k x. x.1))
+    module _ (fits : Fits F q l) (set : ℕ) (one : set ≡ 2 ^ l) where
+      level_set : {reserved : Bool} → (F.level l).reserved ≡ reserved → HasJust set (FitsHere F q reserved l)
+      level_set e = rw one (exactly_one l ((fits, e), refl) (λ k x. x.1))
 
-    pub unreserved_here : (F.level l).reserved ≡ false → FittingAt F q l (record { unreserved = level; reserved = 0 })
-    unreserved_here e = record { unreserved = level_set e; reserved = exactly_none (λ k x. true≢false (sym x.0.1 ∙ e)) }
+      pub unreserved_here : (F.level l).reserved ≡ false → FittingAt F q l (record { unreserved = set; reserved = 0 })
+      unreserved_here e = record { unreserved = level_set e; reserved = exactly_none (λ k x. true≢false (sym x.0.1 ∙ e)) }
 
-    pub reserved_here : (F.level l).reserved ≡ true → FittingAt F q l (record { unreserved = 0; reserved = level })
-    reserved_here e = record { unreserved = exactly_none (λ k x. true≢false (sym e ∙ x.0.1)); reserved = level_set e }
+      pub reserved_here : (F.level l).reserved ≡ true → FittingAt F q l (record { unreserved = 0; reserved = set })
+      reserved_here e = record { unreserved = exactly_none (λ k x. true≢false (sym e ∙ x.0.1)); reserved = level_set e }

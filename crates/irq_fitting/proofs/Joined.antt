@@ -3,10 +3,9 @@ use Rattle.std.specs.Prelude.{Option, Some, None}
 use Rattle.facts.proofs.Words.{◌≡◌, sym, ◌∙◌, subst, inl, inr, List, true, ℕ, bit_and, WellFormed}
 use Rattle.layout.proofs.Of
 use Rattle.facts.specs.{Facts, IrqAsked, Named, Joins, Together}
-use Rattle.layout.specs.{Accepted, facts_in}
+use Rattle.layout.specs.{facts_in}
 use Rattle.table_read.specs.{HasJust}
 use Rattle.table_read.proofs.{exactly_empty, exactly_both, exactly_as}
-use Rattle.seats.proofs.{formed_in}
 use Rattle.irq_fitting.specs.{InCompany, LowestIn, FirstIs, TakenIs}
 use Rattle.irq_fitting.proofs.Bits.{lowest_said}
 use Rattle.irq_fitting.proofs.Fit.{seat_below}
@@ -30,18 +29,15 @@ module _ (F : Facts) (formed : WellFormed F) (q : IrqAsked) where
       let together : Together j.grant.manner q.manner = record { equal = j.manner; shares = λ e. j.joining.shares (sym j.manner ∙ e) } in
       ((j.seat, seat_below F formed j.seat j.grant j.holds.live, (j.grant, j.holds, record { not_first = j.joining.not_first; together = together })), j.named)
 
-  joined_said : (set : ℕ) → HasJust set (InCompany F q) → HasJust (bit_and set q.named) (Joins F q)
+  pub joined_said : (set : ℕ) → HasJust set (InCompany F q) → HasJust (bit_and set q.named) (Joins F q)
   joined_said set is =
       exactly_as (exactly_both set q.named is (record { has = λ k n. n; only = λ k n. n })) company_joins joins_company
 
 -- the lowest is taken; or there is none, and the first that fits is
-module _ {b : List ℕ} (a : Accepted b) (q : IrqAsked) (together : ℕ) (is : HasJust together (InCompany (facts_in b) q)) where
-  joined : HasJust (bit_and together q.named) (Joins (facts_in b) q)
-  joined = joined_said (facts_in b) (formed_in b a) q together is
+module _ (b : List ℕ) (q : IrqAsked) (set : ℕ) (is : HasJust set (Joins (facts_in b) q)) where
+  pub lowest_taken : (l : ℕ) → LowestIn set l → TakenIs b q (Some l)
+  lowest_taken l low a = rw (Of.facts_in_lem b a) (inl (lowest_said is low))
 
-  pub lowest_taken : (l : ℕ) → LowestIn (bit_and together q.named) l → TakenIs b q (Some l)
-  lowest_taken l low a = rw (Of.facts_in_lem b a) (inl (lowest_said joined low))
-
-  pub first_is_taken : bit_and together q.named ≡ 0 → (r : Option ℕ) → FirstIs (facts_in b) q r → TakenIs b q r
-  first_is_taken e (Some l) first = λ a. rw (Of.facts_in_lem b a) (inr (exactly_empty joined e, first))
+  pub first_is_taken : set ≡ 0 → (r : Option ℕ) → FirstIs (facts_in b) q r → TakenIs b q r
+  first_is_taken e (Some l) first = λ a. rw (Of.facts_in_lem b a) (inr (exactly_empty is e, first))
   first_is_taken e None none = λ a. rw (Of.facts_in_lem b a) none

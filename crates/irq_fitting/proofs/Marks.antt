@@ -14,7 +14,7 @@ module _ (b : List ℕ) (l : ℕ) (h : l < all_levels) where
   unfolding level_in
   managed_read = ap (λ (v : Level). v.managed) level_read
 
-  reserved_read : ((facts_in b).level l).reserved ≡ marked (byte b (level_place l + level_reserved_at))
+  pub reserved_read : ((facts_in b).level l).reserved ≡ marked (byte b (level_place l + level_reserved_at))
   unfolding level_in
   reserved_read = ap (λ (v : Level). v.reserved) level_read
 

@@ -30,6 +30,9 @@ const RELEASE_SOCKET_MASK: u16 = 0x2F;
 
 const ADJUST_RESOURCE_INFO: u16 = 0x35;
 
+// What every entry answers where no well-formed set has the table's bytes.
+const UNFORMED: Code = Code::GeneralFailure;
+
 // The number of a code, where a call answers nothing more: SUCCESS, or the code of the refusal.
 fn number(ended: Result<(), Code>) -> u32
     ensures { result ≡ number_of (code_in ended) }
@@ -45,7 +48,7 @@ fn fresh(table: &mut [u8], sockets: u32) -> Result<(), Code>
 {
     let n = socket_cards::socket_count(sockets)?;
     if table.len() != TABLE_SIZE {
-        return Err(Code::GeneralFailure);
+        return Err(UNFORMED);
     }
     table_write::make_fresh(table, n);
     Ok(())
@@ -61,7 +64,9 @@ pub fn cs_fresh(table: &mut [u8], sockets: u32) -> u32
 fn serve(table: &mut [u8], service: u16, h: Handle, packet: &mut [u8]) -> Result<Handle, Code>
     ensures { CallAnswers service h.0 table.old table.new packet.old packet.new (packed (code_in result) (handle_of result)) }
 {
-    table_test::load(table)?;
+    let Ok(()) = table_test::load(table) else {
+        return Err(UNFORMED);
+    };
     match service {
         DEREGISTER_CLIENT => client_services::deregister(table, h, packet),
         REGISTER_CLIENT => client_services::register(table, packet),
@@ -85,7 +90,9 @@ pub fn cs_call(table: &mut [u8], service: u16, handle: u16, packet: &mut [u8]) -
 fn card(table: &mut [u8], socket: Socket, present: bool) -> Result<(), Code>
     ensures { CardAnswers present socket.0 table.old table.new (number_of (code_in result)) }
 {
-    table_test::load(table)?;
+    let Ok(()) = table_test::load(table) else {
+        return Err(UNFORMED);
+    };
     socket_cards::card(table, socket, present)
 }
 
@@ -104,17 +111,20 @@ pub fn cs_card_out(table: &mut [u8], socket: u32) -> u32
 pub fn cs_sharers(table: &[u8], level: u32) -> u32
     ensures { SharersAnswers level table.now result }
 {
-    if let Err(code) = table_test::load(table) {
-        return u32::from(code);
-    }
+    let Ok(()) = table_test::load(table) else {
+        return u32::from(UNFORMED);
+    };
     irq_sharers::pack(irq_sharers::of_level(table, level))
 }
 
 pub fn cs_boot(table: &mut [u8], records: &[u8]) -> u64
     ensures { BootAnswers records.now table.old table.new result }
 {
-    if let Err(code) = table_test::load(table) {
-        return managed_boot::pack(Err(Stopped { place: 0, code }));
-    }
+    let Ok(()) = table_test::load(table) else {
+        return managed_boot::pack(Err(Stopped {
+            place: 0,
+            code: UNFORMED,
+        }));
+    };
     managed_boot::pack(managed_boot::boot(table, records))
 }

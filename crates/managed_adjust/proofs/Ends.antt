@@ -1,6 +1,6 @@
 -- Each way in which AdjustResourceInfo ends is the rule's. Assumes nothing.
 use Rattle.std.specs.Prelude.{Option, Some, None, Ok, Err}
-use Rattle.facts.proofs.Words.{◌≡◌, refl, ap, sym, ◌∙◌, subst, ◌⊎◌, inl, inr, ⊎_elim, List, [], ◌∷◌, ℕ, ◌≤◌, ◌<◌, arith, length}
+use Rattle.facts.proofs.Words.{◌≡◌, refl, ap, sym, ◌∙◌, subst, ◌⊎◌, inl, inr, ⊎_elim, List, [], ◌∷◌, ℕ, ◌≤◌, ◌<◌, ℕ_discrete, arith, by_cases, length}
 use Rattle.facts.specs.{Code, Success, BadSize, BadArgLength, BadArgs, NoMoreItems, Handle, Width, Short, Wide, Facts, Range, ◌∈◌, Lowest}
 use Rattle.facts.specs.{Check, ◌gives◌, FirstGiven, Leaves, Ruled, first, next, io_range, irq_level, action_of, resource_of, ByResource}
 use Rattle.facts.specs.{irq_adjust_length, io_adjust_length, WrongLength, adjust_checks, level_given, base_given, Follows, LevelFollows}
@@ -20,7 +20,7 @@ use Rattle.managed_changes.proofs.{served_as, type_refused}
 use Rattle.managed_packets.specs.declared.Action.{Action}
 use Rattle.managed_packets.specs.declared.Action.TheVariants.{First, Next}
 use Rattle.managed_packets.specs.{number_of, NamesBoth, FromIs, Written, attributes_shown_lem, handle_shown_lem}
-use Rattle.managed_adjust.specs.{ServesBy, Reached}
+use Rattle.managed_adjust.specs.{ServesBy, Reached, Shows}
 
 -- a change that is made or refused is served as its rule says, and the packet stays
 module _ {after : Facts → Facts} {b b' p : List ℕ} {h : ℕ} (checks : Facts → List Check) where
@@ -113,6 +113,10 @@ module _ {b : List ℕ} (p : List ℕ) (a : Accepted b) {from : ℕ} where
 -- First or Next
 pub first_or_next : {n : ℕ} {a : Action} → number_of a ≡ n → (a ≡ First) ⊎ (a ≡ Next) → (n ≡ first) ⊎ (n ≡ next)
 first_or_next e = ⊎_elim (λ f. inl (sym e ∙ ap number_of f)) (λ f. inr (sym e ∙ ap number_of f))
+
+-- what a contract of those two asks of the action says so, too
+pub shows_either : {p : List ℕ} {action : ℕ} → Shows p action → (action_of p ≡ first) ⊎ (action_of p ≡ next)
+shows_either {p} s = by_cases (ℕ_discrete (action_of p) first) inl (λ d. inr (omega arith))
 
 -- the length, which is the last check
 abbrev length_check : List ℕ → List Check

@@ -39,7 +39,7 @@ fn show_level(t: &[u8], p: &mut [u8], action: Action) -> Result<Handle, Code>
     requires { Accepted t.now × (length p.old ≡ Resources.irq_adjust_length) × Shows p.old (number_of action) }
     ensures { ServesBy ShowLevel 0 p.old p.new t.now t.now result }
 {
-    let from = managed_packets::from(action, u32::from(p[LEVEL_AT]));
+    let from = managed_packets::from(u8::from(action), u32::from(p[LEVEL_AT]));
     let l = managed_levels::next(t, from).ok_or(Code::NoMoreItems)?;
     let holders = managed_holders::of_level(t, l);
     p[LEVEL_ATTRIBUTES_AT] = managed_packets::attributes_shown(holders);
@@ -67,7 +67,7 @@ fn show_range(t: &[u8], p: &mut [u8], w: Width, action: Action) -> Result<Handle
     requires { Accepted t.now × (length p.old ≡ Resources.io_adjust_length w) × Shows p.old (number_of action) }
     ensures { ServesBy (ShowRange w) 0 p.old p.new t.now t.now result }
 {
-    let from = managed_packets::from(action, managed_packets::asked(p, w).base);
+    let from = managed_packets::from(u8::from(action), managed_packets::asked(p, w).base);
     let (base, count) = managed_ranges::next(t, from).ok_or(Code::NoMoreItems)?;
     managed_packets::can_show(w, count)?;
     let holders = managed_holders::of_range(t, base, count);
@@ -111,9 +111,9 @@ pub fn adjust(t: &mut [u8], h: Handle, p: &mut [u8]) -> Result<Handle, Code>
 {
     let (action, resource) = managed_packets::named(p)?;
     let action = Action::try_from(action)?;
-    let resource = Resource::try_from(resource)?;
-    match resource {
-        Resource::Io => adjust_io(t, h, p, action),
-        Resource::Irq => adjust_irq(t, h, p, action),
+    match Resource::try_from(resource) {
+        Ok(Resource::Io) => adjust_io(t, h, p, action),
+        Ok(Resource::Irq) => adjust_irq(t, h, p, action),
+        Err(code) => Err(code),
     }
 }

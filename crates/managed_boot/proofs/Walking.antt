@@ -9,12 +9,13 @@ use Rattle.facts.specs.{records_in, records_of, end_of, record_checks, most_line
 use Rattle.facts.specs.Boot.{Boot}
 use Rattle.facts.proofs.{is_built, boot_stays, record_no_success, first_not_success, boot_within, boot_success, records_length, bytes_laws}
 use Rattle.layout.specs.{Accepted}
-use Rattle.layout.proofs.{one_set}
+use Rattle.layout.specs.Served.{Served}
+use Rattle.layout.proofs.{image_size, size_in, one_set, stays}
 use Rattle.std.specs.Prelude.{Result, Ok, Err}
-use Rattle.managed_changes.specs.{Changes}
+use Rattle.managed_changes.specs.{Changes, ResourceIs}
 use Rattle.managed_levels.specs.{AddsLevel}
 use Rattle.managed_ranges.specs.{AddsRange}
-use Rattle.managed_changes.proofs.{served_as}
+use Rattle.managed_changes.proofs.{served_as, type_refused}
 use Rattle.managed_boot.specs.declared.Stopped.{Stopped}
 use Rattle.managed_boot.specs.{AddsRecord, Refuses, Ends, BootsRecords, Boots, place_of, code_of}
 use Rattle.managed_boot.proofs.Bytes.{records_past, end_past}
@@ -44,6 +45,10 @@ module _ (r : Record) (b b' : List ℕ) where
 
   pub level_adds : (c : Result (Unit {0}) Code) → r.resource ≡ irq_level → AddsLevel r.base r.attributes b b' c → AddsRecord r b b' c
   level_adds c e = own_adds false (ne_eqb r.resource io_range (λ f. omega (arith, e, f))) (omega (arith, e)) (omega (arith, e)) c
+
+-- and where the type is refused nothing is
+pub type_stays : (r : Record) (b : List ℕ) (k : Code) → Accepted b → ResourceIs r.resource (Err k) → AddsRecord r b b (Err k)
+type_stays r b k a over = stays _ _ a (type_refused _ _ over, refl)
 
 -- one record, lent as a list of one
 module _ {r : Record} {b b' : List ℕ} where
@@ -89,7 +94,13 @@ pub record Walked (e : Code) (rs : List Record) (b b' : List ℕ) (place : ℕ) 
 pub walked_none : {e : Code} {rs : List Record} {b : List ℕ} → Accepted b → Walked e rs b b 0 rs
 walked_none a = record { first = a; here = a; goes_on = λ o r. r }
 
+pub ends_length : {R : Facts → Facts → Type 0} {b b' : List ℕ} → Served R b b' → length b' ≡ length b
+ends_length {b = b} s = ap length (sym s.table) ∙ image_size s.after ∙ sym (size_in b s.accepted)
+
 module _ {e : Code} {rs : List Record} {b b' : List ℕ} {place : ℕ} where
+  pub walked_length : {left : List Record} → Walked e rs b b' place left → length b' ≡ length b
+  walked_length w = size_in b' w.here ∙ sym (size_in b w.first)
+
   -- where none is left, the list ends
   pub walked_all : (r : Result ℕ Stopped) → Walked e rs b b' place [] → place_of r ≡ place → code_of r ≡ e → Refuses r → EndsAs e rs b b' r
   walked_all r w p k n = (
@@ -128,10 +139,8 @@ module _ {e : Code} {rs : List Record} {b b' : List ℕ} {place : ℕ} where
 
 -- a walk record by record: the rest of the list begins at the place
 module _ {rs : List Record} {b b' : List ℕ} {place : ℕ} (w : Walked Success rs b b' place (drop place rs)) where
-  pub walked_through : length rs ≡ place → BootsRecords rs b b' (Ok (length rs))
-  walked_through e =
-      let past : length rs ≤ place = omega (arith, e) in
-      walked_all (Ok (length rs)) (rw (drop_of_length-le rs past) at w) e refl tt
+  pub walked_through : length rs ≤ place → BootsRecords rs b b' (Ok place)
+  walked_through l = walked_all (Ok place) (rw (drop_of_length-le rs l) at w) refl refl tt
 
   module _ (d : Record) (l : place < length rs) where
     -- the record at the place, and those after it

@@ -64,6 +64,7 @@ fn taken(records: &[u8], at: usize, n: usize) -> [Record; AT_ONCE]
 }
 
 // One record is added, or refused: "it gets the code that Add's rules give those values".
+#[tactic(auto, using(crate::proofs::Walking::type_stays))]
 fn add(t: &mut [u8], r: Record) -> Result<(), Code>
     requires { Accepted t.old }
     ensures { AddsRecord r t.old t.new result }

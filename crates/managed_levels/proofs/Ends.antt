@@ -18,8 +18,8 @@ module _ {b : List ℕ} (a : Accepted b) {l : ℕ} (low : l < all_levels) where
   pub managed_said : {r : Bool} → Says r (byte b (level_place l) ≡ 1) → (a.facts.level l).managed ≡ r
   managed_said s = managed_as ∙ sym (says_eqb _ (byte b (level_place l)) 1 s)
 
-  marked : (a.facts.level l).managed ≡ true → byte b (level_place l) ≡ 1
-  marked e = eqb-true (byte b (level_place l)) 1 (sym managed_as ∙ e)
+  pub managed_marked : (a.facts.level l).managed ≡ true → byte b (level_place l) ≡ 1
+  managed_marked e = eqb-true (byte b (level_place l)) 1 (sym managed_as ∙ e)
 
 pub held_said : {F : Facts} {l : ℕ} (r : Option Holders) → HoldLevel F l r → Says (is_some r) (LevelHeld F l)
 held_said (Some x) h = says_true h.0
@@ -30,9 +30,9 @@ pub next_is : {b : List ℕ} (a : Accepted b) (from : ℕ) (r : Option ℕ)
     → MatchOption r ((l : ℕ) → from ≤ l → l < all_levels → byte b (level_place l) ≢ 1)
     (λ l. (from ≤ l) × (l < all_levels) × (byte b (level_place l) ≡ 1) × ((k : ℕ) → from ≤ k → k < l → byte b (level_place k) ≢ 1))
     → NextLevelIs b from r
-next_is _ from None none = λ a k x h. let low = a.formed.levels k x in none k h low (marked a low x)
+next_is _ from None none = λ a k x h. let low = a.formed.levels k x in none k h low (managed_marked a low x)
 next_is _ from (Some l) (h, low, e, none) = λ a.
     record {
       fits = (managed_said a low (says_true e), h);
-      least = λ k x. told (dec_le l k) (λ n. none k x.1 (omega (arith, n)) (marked a (a.formed.levels k x.0) x.0));
+      least = λ k x. told (dec_le l k) (λ n. none k x.1 (omega (arith, n)) (managed_marked a (a.formed.levels k x.0) x.0));
     }

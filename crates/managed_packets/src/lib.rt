@@ -38,6 +38,25 @@ impl TryFrom<u8> for Action {
     }
 }
 
+// An action's number.
+impl From<Action> for u8 {
+    ghost from_gives = { λ a n. n ≡ number_of a };
+
+    fn from(action: Action) -> u8
+        ensures { result ≡ number_of action }
+    {
+        match action {
+            Action::Remove => 0,
+            Action::Add => 1,
+            Action::First => FIRST,
+            Action::Next => 3,
+        }
+    }
+}
+
+// First shows the lowest of what is managed.
+const FIRST: u8 = 2;
+
 // The fields that every packet has.
 const ACTION_AT: usize = 0;
 
@@ -111,10 +130,10 @@ pub fn asked(p: &[u8], w: Width) -> RangeAsked
 }
 
 // The number from which First or Next looks.
-pub fn from(action: Action, given: u32) -> usize
-    ensures { FromIs (number_of action) given result }
+pub fn from(action: u8, given: u32) -> usize
+    ensures { FromIs action given result }
 {
-    if action == Action::First {
+    if action == FIRST {
         0
     } else {
         given as usize + 1

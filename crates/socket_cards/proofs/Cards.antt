@@ -1,10 +1,15 @@
 -- Each way in which card in and card out end is the rule's. Assumes nothing.
-use Rattle.facts.proofs.Words.{refl, inl, inr, List, Bool, ℕ, ◌+◌, ◌≤◌, ◌<◌, arith, set}
+use Rattle.facts.proofs.Words.{◌≡◌, refl, inl, inr, List, Bool, true, false, ℕ, ◌+◌, ◌≤◌, ◌<◌, arith, set, bool_byte}
 use Rattle.layout.proofs.Of
 use Rattle.facts.specs.{Code, Success, BadSocket, Facts, CardTo, with_card, most_sockets}
 use Rattle.layout.specs.{mark, sockets_in, Accepted, cards_at}
 use Rattle.layout.specs.Served.{Served}
 use Rattle.layout.proofs.{card_written, stays, becomes}
+
+-- the byte of a truth value is its mark
+pub mark_byte : (t : Bool) → bool_byte t ≡ mark t
+mark_byte true = refl
+mark_byte false = refl
 
 abbrev Cards : Bool → ℕ → Code → Facts → Facts → Type 0
 Cards present s code F G = CardTo present F s (record { code = code; facts = G })

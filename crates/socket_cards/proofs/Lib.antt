@@ -1,2 +1,2 @@
 pub mod Cards
-pub use Cards.{in_table, card_past, card_done}
+pub use Cards.{mark_byte, in_table, card_past, card_done}

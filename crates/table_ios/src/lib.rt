@@ -97,7 +97,8 @@ pub fn ios_sound(t: &[u8]) -> bool
     if !table_read::zero(t, IOS_AT + sockets * IO_SIZE, IOS_END) {
         return false;
     }
-    let gaps = Gaps::between(t, fewest_lines(t));
+    let mut gaps = Gaps::none();
+    gaps.fill(t, fewest_lines(t));
     let mut passed: u64 = 0;
     let mut common: u64 = 0;
     let mut near = 0;

@@ -43,15 +43,17 @@ module _ (b : List ℕ) where
         ends (suc k) l = (s k (omega arith)).within
 
     -- each but the last ends at or before a port, since another follows it
-    pub passed_says : {r : Bool} → i ≡ ranges_in b → Bytes b → flaws ≡ 0 → Says r (low ≤ all_ports) → Says r (RangesSound b)
-    passed_says e known none s =
-        let marked = p.marked.says.holds (eq-eqb flaws 0 none) in
-        says_as s
-        (λ h k l. let f = p.follow k (omega arith) in record { from = f.from; port = f.port; within = ends h k l; mark = marked k (omega arith) })
-        sound_within
+    pub flawless_says_sound : i ≡ ranges_in b → Bytes b → low ≤ all_ports → Says (eqb flaws 0) (RangesSound b)
+    flawless_says_sound e known h =
+        says_as p.marked.says
+        (λ m k l. let f = p.follow k (omega arith) in record { from = f.from; port = f.port; within = ends k l; mark = m k (omega arith) })
+        (λ s k l. (s k (omega arith)).mark)
       where
-        ends : low ≤ all_ports → (k : ℕ) → k < ranges_in b → range_base b k + range_count b k ≤ all_ports
-        ends h k l =
+        ends : (k : ℕ) → k < ranges_in b → range_base b k + range_count b k ≤ all_ports
+        ends k l =
             by_cases (dec_lt (k + 1) i)
             (λ n. omega (arith, end_next b k, (p.follow (k + 1) n).from, known (range_place (k + 1)), known (range_place (k + 1) + 1)))
             (λ n. let at : k + 1 ≡ i = omega arith in omega (arith, end_next b k, ap (end_before_lem b) at, p.last, h))
+
+    pub passed_says : {r : Bool} → i ≡ ranges_in b → Bytes b → flaws ≡ 0 → Says r (low ≤ all_ports) → Says r (RangesSound b)
+    passed_says e known none s = says_as s (λ h. (flawless_says_sound e known h).holds (eq-eqb flaws 0 none)) sound_within

@@ -2,4 +2,4 @@
 pub mod Cards
 pub mod Seats
 pub use Cards.{sound_end, marked_sound, Marked, mark_says}
-pub use Seats.{sockets_of, rest_of, parts_sound}
+pub use Seats.{io_places, irq_places, io_pairs, irq_pairs, no_seats, sockets_of, rest_of, parts_sound}

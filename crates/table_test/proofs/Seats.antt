@@ -9,28 +9,28 @@ use Rattle.seats.specs.{IosSound, IrqsSound}
 use Rattle.table_test.specs.{ListsSound, RestSound, SocketsSound}
 
 module _ {b : List ℕ} where
-  io_places : IosSound b → SeatsEnd b → (s : ℕ) → s < seat_room → IoPlaceSound b s
+  pub io_places : IosSound b → SeatsEnd b → (s : ℕ) → s < seat_room → IoPlaceSound b s
   io_places sound end s l =
       by_cases (dec_lt s most_seats) (λ m. (sound s m).place) (λ m. inl (λ q h k. end.ios q (omega arith) (omega arith)))
 
-  irq_places : IrqsSound b → SeatsEnd b → (s : ℕ) → s < seat_room → IrqPlaceSound b s
+  pub irq_places : IrqsSound b → SeatsEnd b → (s : ℕ) → s < seat_room → IrqPlaceSound b s
   irq_places sound end s l =
       by_cases (dec_lt s most_seats) (λ m. (sound s m).place) (λ m. inl (λ q h k. end.irqs q (omega arith) (omega arith)))
 
   -- a seat that no socket has keeps company with all
-  io_pairs : IosSound b → SeatsEnd b → (s t : ℕ) → s < seat_room → t < s → IoPairSound b s t
+  pub io_pairs : IosSound b → SeatsEnd b → (s t : ℕ) → s < seat_room → t < s → IoPairSound b s t
   io_pairs sound end s t l m =
       by_cases (dec_lt s most_seats) (λ h. (sound s h).company t m)
       (λ h used _. absurd (used (omega (arith, end.ios (io_place_lem s) (omega arith) (omega arith), end.ios (io_place_lem s + 1) (omega arith) (omega arith)))))
 
-  irq_pairs : IrqsSound b → SeatsEnd b → (s t : ℕ) → s < seat_room → t < s → IrqPairSound b s t
+  pub irq_pairs : IrqsSound b → SeatsEnd b → (s t : ℕ) → s < seat_room → t < s → IrqPairSound b s t
   irq_pairs sound end s t l m =
       by_cases (dec_lt s most_seats) (λ h. (sound s h).company t m)
       (λ h used _. absurd
       (used (omega (arith, end.irqs (irq_place_lem s) (omega arith) (omega arith), end.irqs (irq_place_lem s + 1) (omega arith) (omega arith)))))
 
 -- a sound table has no grant at a seat that no socket has
-no_seats : {b : List ℕ} → Sound b → SeatsEnd b
+pub no_seats : {b : List ℕ} → Sound b → SeatsEnd b
 no_seats {b} s =
     record {
       ios = λ q l m. let t = (q - ios_at) / io_size in io_free t (omega arith) (omega arith) q (omega arith) (omega arith);

@@ -8,14 +8,14 @@ use Rattle.io_bases.proofs.{all_managed}
 use Rattle.io_bases.proofs.Said.{unmanaged}
 use Rattle.io_bases.proofs.ports_asked.Goals as goal
 
-pub between-gaps-requires : goal.between-gaps-requires
-between-gaps-requires c =
+pub fill-requires-clause-ranges : goal.fill-requires-clause-ranges
+fill-requires-clause-ranges c =
     let sound = sound_in c.args.t.now c.requires.0 in (size_in c.args.t.now c.requires.0, sound.ranges_most, sound.ranges)
 
 pub managed-requires-clause-ranges : goal.managed-requires-clause-ranges
 managed-requires-clause-ranges c =
     let sound = sound_in c.args.t.now c.requires.0 in
-    (size_in c.args.t.now c.requires.0, sound.ranges_most, sound.ranges, c.between-gaps.ensures)
+    (size_in c.args.t.now c.requires.0, sound.ranges_most, sound.ranges, c.fill.ensures)
 
 pub returns-then-not-managed : goal.returns-then-not-managed
 returns-then-not-managed c =

@@ -10,8 +10,8 @@ returns-then-everywhere c =
 
 pub returns-then-everywhere-2 : goal.returns-then-everywhere-2
 returns-then-everywhere-2 c =
-    found_taken c.args.t.now _ _ _ c.requires.1 c.gap_bars-gaps.result c.gap_bars-gaps.ensures None
+    found_taken c.args.t.now _ _ _ c.requires.1 c.gap_bars.new.bars c.gap_bars.ensures None
     (λ y free. free.free.unbarred (c.swept-swept.ensures.barred y free.free.multiple (c.everywhere-2.ensures c.if-everywhere-2.true y)))
 
 pub returns : goal.returns
-returns c = found_taken c.args.t.now _ _ _ c.requires.1 c.gap_bars-gaps.result c.gap_bars-gaps.ensures c.first.result c.first.ensures
+returns c = found_taken c.args.t.now _ _ _ c.requires.1 c.gap_bars.new.bars c.gap_bars.ensures c.first.result c.first.ensures

@@ -11,8 +11,8 @@ returns-then-asked-way c =
 
 pub returns-then-fitting-ne0 : goal.returns-then-fitting-ne0
 returns-then-fitting-ne0 c =
-    unreserved_taken _ _ _ c.levels_fitting-fitting.ensures _ (trailing_lowest _ c.if-fitting-ne0.true (omega arith))
+    unreserved_taken _ _ _ c.levels_fitting-fitting.ensures _ (trailing_lowest 64 _ c.if-fitting-ne0.true (omega arith))
 
 pub returns-then-fitting-ne0-2 : goal.returns-then-fitting-ne0-2
 returns-then-fitting-ne0-2 c =
-    reserved_taken _ _ _ c.levels_fitting-fitting.ensures c.if-fitting-ne0.false _ (trailing_lowest _ c.if-fitting-ne0-2.true (omega arith))
+    reserved_taken _ _ _ c.levels_fitting-fitting.ensures c.if-fitting-ne0.false _ (trailing_lowest 64 _ c.if-fitting-ne0-2.true (omega arith))

@@ -3,9 +3,8 @@
 use Rattle.keeper.proofs.{boot_unformed, low_place}
 use Rattle.keeper.proofs.cs_boot.Goals as goal
 
-pub returns-in-Err : goal.returns-in-Err
-returns-in-Err c =
-    boot_unformed c.args.table.now c.in-Err.ensures.1 c.args.records.now c.pack.result (rw c.in-Err.ensures.0 at c.pack.ensures)
+pub returns-in_default : goal.returns-in_default
+returns-in_default c = boot_unformed c.args.table.now c.in_default.ensures.1 c.args.records.now c.pack.result c.pack.ensures
 
 pub pack-requires-2 : goal.pack-requires-2
 pack-requires-2 c =

@@ -1,23 +1,15 @@
 -- `keeper::serve` meets its contract: the table is not well formed, or the service rules, or the number is no service's.
 -- Assumes nothing.
 use Rattle.facts.proofs.Words.{rules, arith}
-use Rattle.facts.proofs.{handed}
-use Rattle.std.specs.Prelude.{Result}
-use Rattle.facts.specs.declared.Handle.{Handle}
-use Rattle.facts.specs.{Code, code_in, packed}
-use Rattle.service_answers.specs.{handle_of}
-use Rattle.promises.specs.{CallAnswers}
 use Rattle.facts.specs.{Bytes, register_client, deregister_client, adjust_resource_info, request_irq, release_irq, request_io, release_io, request_socket_mask}
 use Rattle.facts.specs.{release_socket_mask}
 use Rattle.keeper.proofs.{NoService, call_unformed, unsupported, by_service}
 use Rattle.keeper.proofs.serve.Goals as goal
 
-pub returns-in_err-load : goal.returns-in_err-load
-returns-in_err-load c =
+pub returns-in_default : goal.returns-in_default
+returns-in_default c =
     let bytes : Bytes c.args.packet.now = λ at. omega (arith, c.type_inv.packet at) in
-    let a = c.args in
-    handed (λ (r : Result Handle Code). CallAnswers a.service a.h.0 a.table.now a.table.now a.packet.now a.packet.now (packed (code_in r) (handle_of r))) _
-    c.from_residual.ensures c.in_err-load.ensures.0 (call_unformed c.args.table.now c.in_err-load.ensures.1 a.service a.h.0 c.args.packet.now bytes)
+    call_unformed c.args.table.now c.in_default.ensures.1 c.args.service c.args.h.0 c.args.packet.now bytes
 
 pub returns-in-2 : goal.returns-in-2
 returns-in-2 c =
@@ -55,8 +47,8 @@ pub returns-in-53 : goal.returns-in-53
 returns-in-53 c =
     by_service adjust_resource_info _ _ _ _ _ _ c.adjust.result (λ at. search rules) c.in-53.is c.adjust.ensures
 
-pub returns-in_default : goal.returns-in_default
-returns-in_default c =
+pub returns-in_default-service : goal.returns-in_default-service
+returns-in_default-service c =
     let bytes : Bytes c.args.packet.now = λ at. omega (arith, c.type_inv.packet at) in
     let no_service : NoService c.args.service =
     record {
@@ -71,4 +63,4 @@ returns-in_default c =
       no_adjust = omega arith;
     } in
     let a = c.args in
-    unsupported c.args.table.now c.args.packet.now a.service a.h.0 bytes c.in_ok-load.ensures no_service
+    unsupported c.args.table.now c.args.packet.now a.service a.h.0 bytes c.in-Ok.ensures no_service

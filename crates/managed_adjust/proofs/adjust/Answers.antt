@@ -1,6 +1,6 @@
 -- `managed_adjust::adjust` meets its contract: the head is refused, or the resource rules.
 -- Assumes nothing.
-use Rattle.facts.proofs.Words.{refl, arith}
+use Rattle.facts.proofs.Words.{arith}
 use Rattle.facts.proofs.{handed}
 use Rattle.facts.specs.{AdjustResourceInfo}
 use Rattle.managed_adjust.specs.{ServesBy}
@@ -17,7 +17,5 @@ returns-in_err-action-2 c =
     let over = c.in_err-action-2.ensures in
     handed (ServesBy AdjustResourceInfo _ _ _ _ _) _ c.from_residual-in_err-action-2.ensures over.0 (action_over c.requires c.in_ok-action.ensures over.1)
 
-pub returns-in_err-resource : goal.returns-in_err-resource
-returns-in_err-resource c =
-    handed (ServesBy AdjustResourceInfo _ _ _ _ _) _ c.from_residual-in_err-resource.ensures refl
-    (resource_refused c.requires (record { names = c.in_ok-action.ensures; most = grind arith }) c.in_err-resource.ensures)
+pub returns-in-Err : goal.returns-in-Err
+returns-in-Err c = resource_refused c.requires (record { names = c.in_ok-action.ensures; most = grind arith }) c.in-Err.ensures

@@ -12,7 +12,7 @@ pub returns-in_err-l : goal.returns-in_err-l
 returns-in_err-l c =
     let none = missing (NextLevelIs c.args.t.now c.from-from.result) _ _ c.ok_or.ensures.value c.in_err-l.was c.next.ensures in
     handed (ServesBy ShowLevel 0 _ _ _ _) _ c.from_residual.ensures none.0
-    (level_none _ c.requires.0 (rw (c.requires.2.action_is, c.from.ensures) at c.from-from.ensures) none.1)
+    (level_none _ c.requires.0 (rw (c.from.ensures, c.requires.2.action_is, c.from-2.ensures) at c.from-from.ensures) none.1)
 
 pub overflow_cast-p : goal.overflow_cast-p
 overflow_cast-p c =
@@ -23,5 +23,5 @@ overflow_cast-p c =
 pub returns : goal.returns
 returns c =
     let at = given (NextLevelIs c.args.t.now c.from-from.result) _ _ c.ok_or.ensures.value c.in_ok-l.was c.next.ensures in
-    level_shown _ c.requires.0 (rw (c.requires.2.action_is, c.from.ensures) at c.from-from.ensures) c.of_level-holders.result at
+    level_shown _ c.requires.0 (rw (c.from.ensures, c.requires.2.action_is, c.from-2.ensures) at c.from-from.ensures) c.of_level-holders.result at
     c.of_level-holders.ensures c.handle_shown.ensures (rw c.attributes_shown.ensures)

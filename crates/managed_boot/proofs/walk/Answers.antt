@@ -1,6 +1,6 @@
 -- `managed_boot::walk` meets its contract: no record is left, or the next is refused, or the walk comes one record further.
 -- Assumes nothing.
-use Rattle.facts.proofs.Words.{arith}
+use Rattle.facts.proofs.Words.{◌≡◌, arith, length}
 use Rattle.managed_boot.proofs.{walked_none, walked_one, walked_refused, walked_through}
 use Rattle.managed_boot.proofs.walk.Goals as goal
 
@@ -14,4 +14,6 @@ pub loop-place-preserved : goal.loop-place-preserved
 loop-place-preserved c = (omega arith, walked_one c.loop-place.invariant.1 _ (omega arith) c.in_default.ensures)
 
 pub returns : goal.returns
-returns c = walked_through c.loop-place.invariant.1 (omega arith)
+returns c =
+    let all : length c.args.records.now ≡ c.loop-place.place = omega arith in
+    rw all (walked_through c.loop-place.invariant.1 (omega (arith, all)))

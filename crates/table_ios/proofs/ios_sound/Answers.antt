@@ -34,7 +34,7 @@ returns-then-not-zero c =
 
 pub io_place_sound-requires-clause-gaps_serve : goal.io_place_sound-requires-clause-gaps_serve
 io_place_sound-requires-clause-gaps_serve c =
-    (λ s l u m. let fewer = c.fewest_lines.ensures s l u in c.between-gaps.ensures (omega arith), c.range_near-near.ensures.1)
+    (λ s l u m. let fewer = c.fewest_lines.ensures s l u in c.fill.ensures (omega arith), c.range_near-near.ensures.1)
 
 pub loop-s-preserved : goal.loop-s-preserved
 loop-s-preserved c =

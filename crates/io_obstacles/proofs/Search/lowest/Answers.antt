@@ -2,7 +2,7 @@
 -- Assumes nothing.
 use Rattle.facts.proofs.Words.{inl, ℕ, ◌+◌, ◌≤◌, arith}
 use Rattle.io_obstacles.specs.{Stretch, Search, LiesInBars, Opened, Period, LearntIs, Barring, Barred}
-use Rattle.io_obstacles.proofs.{power_most, leap_barred, Gone, gone_on, gone_along, gone_free, gone_past, bars_repeat, bars_more, learnt_barring}
+use Rattle.io_obstacles.proofs.{power_most, leap_barred, Gone, gone_on, gone_along, gone_free, gone_past, rows_repeat, bars_more, learnt_barring}
 use Rattle.io_obstacles.proofs.Search.lowest.Goals as goal
 
 -- a turn that goes along a run of bars that come again soonest: what these bar is barred
@@ -17,7 +17,7 @@ module _ (s : Search) (from base end run : ℕ) (gone : Gone (Barred s) s.wanted
 
     learns : (known learnt : Stretch) (again : ℕ) → Barring (Barred s) s.wanted.step known → Period s.wanted.few s.wanted.step again
         → LearntIs known base run again learnt → Barring (Barred s) s.wanted.step learnt
-    learns known learnt again bars p is = learnt_barring short_barred (bars_repeat _ _ _ _ p) p known learnt base run bars o.barred is
+    learns known learnt again bars p is = learnt_barring short_barred (rows_repeat _ _ _ _ p) p known learnt base run bars o.barred is
 
 pub loop-base-preserved-then-near-ne0 : goal.loop-base-preserved-then-near-ne0
 loop-base-preserved-then-near-ne0 c =

@@ -3,7 +3,7 @@
 -- Assumes nothing.
 use Rattle.facts.proofs.Words.{◌≡◌, ℕ, ◌+◌, ◌^◌, ◌≤◌, arith, pow_mono}
 use Rattle.io_obstacles.specs.{Stretch, Wanted, Bars, LiesInBars, Opened, Period, LearntIs, Barring, grant_places}
-use Rattle.io_obstacles.proofs.{Gone, gone_along, gone_as, bars_repeat, bars_more, learnt_barring, barring_as}
+use Rattle.io_obstacles.proofs.{Gone, gone_start, gone_along, gone_as, rows_repeat, bars_more, learnt_barring, nowhere_barring, barring_as}
 use Rattle.io_obstacles.proofs.Wanted.passed.Invariants.{So}
 use Rattle.io_obstacles.proofs.Wanted.passed.Goals as goal
 
@@ -16,6 +16,18 @@ so_on grants w most base known s =
 so_barring : (grants : Bars grant_places) (w : Wanted) (most base : ℕ) (known : Stretch) → So grants w most base known
     → Barring (LiesInBars grants w.limit) w.step known
 so_barring grants w most base known s = barring_as w.step known (bars_more grants s.limit w.limit s.within) s.bars
+
+-- before any period is looked at
+so_none : (grants : Bars grant_places) (w : Wanted) (known : Stretch) → (known.start ≡ 0) × (known.ones ≡ 0) × (known.width ≡ 0)
+    → So grants w 1 0 known
+so_none grants w known none =
+    record {
+      limit = 0;
+      within = omega arith;
+      short = omega arith;
+      gone = gone_start _ _ _ (record { times = 0; is = omega arith }) (omega arith);
+      bars = nowhere_barring _ w.step known none;
+    }
 
 -- a period was looked at: its limit is one of those that count, and no shorter than those before it; what the search passed in this period, and what it
 -- learnt of it
@@ -33,9 +45,12 @@ so_learnt grants w most base known s limit long end run counts is period o learn
       short = omega arith;
       gone = gone;
       bars =
-          learnt_barring {Bar = LiesInBars grants limit} (λ x b. b) (bars_repeat grants limit w.step long period) period known learnt 0 run
+          learnt_barring {Bar = LiesInBars grants limit} (λ x b. b) (rows_repeat grants limit w.step long period) period known learnt 0 run
           (barring_as _ _ (bars_more _ _ _ longer) s.bars) gone.barred l;
     }
+
+pub loop-most-init : goal.loop-most-init
+loop-most-init c = so_none _ _ _ c.nowhere-known.ensures
 
 pub returns-then-everywhere : goal.returns-then-everywhere
 returns-then-everywhere c =

@@ -8,4 +8,5 @@ use Rattle.io_obstacles.proofs.stretches.Stretch.ahead.Goals as goal
 pub returns : goal.returns
 returns c =
     let s = c.args.self in
-    leaps s.start s.ones s.width c.args.base _ _ s.near.0 s.near.1 (masked (c.args.base + around - s.start) s.ones s.power) (omega arith)
+    let fits = c.requires.0 in
+    leaps s.start s.ones s.width c.args.base _ _ fits.start fits.width (masked (c.args.base + around - s.start) s.ones fits.period) (omega arith)

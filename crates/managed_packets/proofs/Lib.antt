@@ -1,0 +1,3 @@
+-- Laws over the width. Assumes nothing.
+pub mod Widths
+pub use Widths.{asked_at, few_at}
