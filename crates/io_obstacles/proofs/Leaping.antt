@@ -1,5 +1,5 @@
 -- A base that lies in a bar or a stretch is followed by others up to its end: how far a search can leap. Assumes nothing.
-use Rattle.facts.proofs.Words.{◌≡◌, ap, sym, ◌∙◌, ◌⊎◌, inl, inr, ℕ, ◌+◌, ◌-◌, ◌%◌, ◌^◌, ◌≤◌, ◌<◌, max, mod-le, mod-add-mod, mod-eq_of_lt, mod-mod-pow}
+use Rattle.facts.proofs.Words.{◌≡◌, ap, sym, ◌∙◌, ◌⊎◌, inl, inr, ℕ, ◌+◌, ◌-◌, ◌%◌, ◌^◌, ◌≤◌, ◌<◌, max, mod-le, mod-add-mod, mod-mod-pow, subst}
 use Rattle.facts.proofs.Words.{dec_lt, eq-or-lt_of_le, arith, bit_and, and_mask}
 use Rattle.facts.specs.{all_ports, most_lines}
 use Rattle.io_ranges.proofs.{all_ports_mod}
@@ -15,23 +15,7 @@ masked n ones p =
 pub leap_over : (Bar : ℕ → Type 0) (x : ℕ) → (Bar x → ⊥) → Leaps Bar x 0
 leap_over Bar x n = record { none = λ _. n; each = λ e l. absurd (omega arith); most = omega arith }
 
--- what wraps around at all ports is the same modulo a period
-pub wrapped_behind : (start x d ones : ℕ) → start < all_ports → x < all_ports → (d + start) % 2 ^ 16 ≡ x → Power (ones + 1) → d < all_ports
-    → bit_and d ones ≡ (x + around - start) % (ones + 1)
-wrapped_behind start x d ones low below e p small = masked d ones p ∙ rw p.is (below_or_not (dec_lt (d + start) all_ports))
-  where
-    again : (n : ℕ) → (n + all_ports) % 2 ^ p.lines ≡ n % 2 ^ p.lines
-    again = all_ports_mod p.lines p.most
-
-    below_or_not : Dec (d + start < all_ports) → d % 2 ^ p.lines ≡ (x + around - start) % 2 ^ p.lines
-    below_or_not (yes l) =
-        let twice : x + around - start ≡ d + all_ports + all_ports = omega (arith, e, mod-eq_of_lt l) in
-        sym (ap (λ (n : ℕ). n % 2 ^ p.lines) twice ∙ again (d + all_ports) ∙ again d)
-    below_or_not (no l) =
-        let once : x + around - start ≡ d + all_ports = omega (arith, e) in
-        sym (ap (λ (n : ℕ). n % 2 ^ p.lines) once ∙ again d)
-
--- and so is a difference that is worked out
+-- a difference that is worked out, modulo all ports, is the same modulo a period
 wrapped : (start x ones : ℕ) → start < all_ports → Power (ones + 1)
     → bit_and ((x + (65536 - start)) % 65536) ones ≡ (x + around - start) % (ones + 1)
 wrapped start x ones low p =
@@ -40,6 +24,13 @@ wrapped start x ones low p =
     let n : ℕ = x + (65536 - start) in
     masked (n % 65536) ones p ∙ ap (λ (m : ℕ). n % 65536 % m) p.is ∙ ap (λ (m : ℕ). n % 2 ^ m % 2 ^ p.lines) more ∙ mod-mod-pow n (most_lines - p.lines) p.lines
     ∙ sym (all_ports_mod p.lines p.most n) ∙ ap (λ (m : ℕ). m % 2 ^ p.lines) (sym again) ∙ ap (λ (m : ℕ). (x + around - start) % m) (sym p.is)
+
+-- and so is what wraps around at all ports
+pub wrapped_behind : (start x d ones : ℕ) → start < all_ports → x < all_ports → (d + start) % 2 ^ 16 ≡ x → Power (ones + 1) → d < all_ports
+    → bit_and d ones ≡ (x + around - start) % (ones + 1)
+wrapped_behind start x d ones low below e p small =
+    let same : (x + (65536 - start)) % 65536 ≡ d = omega (arith, e) in
+    subst (λ (n : ℕ). bit_and n ones ≡ (x + around - start) % (ones + 1)) same (wrapped start x ones low p)
 
 -- those that follow a base are no further behind the end than they are ahead of it
 pub leaps : (start ones width x behind r : ℕ) → start ≤ around → width ≤ around → behind ≡ (x + around - start) % (ones + 1) → r ≡ width - behind

@@ -114,7 +114,7 @@ module _ {b : List ℕ} (p : List ℕ) (a : Accepted b) {from : ℕ} where
 pub first_or_next : {n : ℕ} {a : Action} → number_of a ≡ n → (a ≡ First) ⊎ (a ≡ Next) → (n ≡ first) ⊎ (n ≡ next)
 first_or_next e = ⊎_elim (λ f. inl (sym e ∙ ap number_of f)) (λ f. inr (sym e ∙ ap number_of f))
 
--- what a contract of those two asks of the action says so, too
+-- and an action that is shown is one of the two
 pub shows_either : {p : List ℕ} {action : ℕ} → Shows p action → (action_of p ≡ first) ⊎ (action_of p ≡ next)
 shows_either {p} s = by_cases (ℕ_discrete (action_of p) first) inl (λ d. inr (omega arith))
 
