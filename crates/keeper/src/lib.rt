@@ -30,7 +30,7 @@ const RELEASE_SOCKET_MASK: u16 = 0x2F;
 
 const ADJUST_RESOURCE_INFO: u16 = 0x35;
 
-// What every entry answers where no well-formed set has the table's bytes.
+// What an entry answers of a table that it can't take: of another length, or, but for cs_fresh, whose bytes no well-formed set has.
 const UNFORMED: Code = Code::GeneralFailure;
 
 // The number of a code, where a call answers nothing more: SUCCESS, or the code of the refusal.

@@ -12,6 +12,9 @@ use layout::MOST_LINES;
 use managed_holders::Holders;
 use seats::NOBODY;
 
+// The action First (5.3), which shows the lowest of what is managed.
+pub const FIRST: u8 = 2;
+
 // The actions (5.3): Remove and Add; First and Next show what is managed.
 #[derive(Clone, Copy, Debug, PartialEq, Eq)]
 pub enum Action {
@@ -31,7 +34,7 @@ impl TryFrom<u8> for Action {
         match action {
             0 => Ok(Action::Remove),
             1 => Ok(Action::Add),
-            2 => Ok(Action::First),
+            FIRST => Ok(Action::First),
             3 => Ok(Action::Next),
             4..=0xFF => Err(Code::BadArgs),
         }
@@ -53,9 +56,6 @@ impl From<Action> for u8 {
         }
     }
 }
-
-// First shows the lowest of what is managed.
-const FIRST: u8 = 2;
 
 // The fields that every packet has.
 const ACTION_AT: usize = 0;
